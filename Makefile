@@ -1,0 +1,9 @@
+export LC_ALL := C
+
+.PHONY: all test demo
+
+all:
+	rt check
+
+test:
+	.ci/run
