@@ -1,0 +1,119 @@
+-- Laws of runs, octets and finite tests.
+-- Assumes nothing.
+use mathlib.Core.Bool.{Bool, true, false, _&&_}
+use mathlib.Core.List.{List, [], _∷_, _++_, append-assoc}
+use mathlib.Core.Logic.{⊎-elim}
+use mathlib.Core.Path.{_≡_, refl, sym, _∙_, ap, subst}
+use Prim.Native.Nat.{ℕ, zero, suc, _+_, _*_, _/_, _%_, _^_, _-_, _≤_, _<_}
+use native.Mathlib.Nat.{
+  not-suc-le-zero,
+  le-of-suc-le-suc,
+  eq-or-lt-of-le,
+  pow-suc,
+  pow-zero,
+  mul-one,
+  mul-assoc,
+  mul-comm,
+  suc-mul,
+  mod-lt,
+  mod-one,
+  mul-le-mul-right,
+  zero-mul,
+}
+use native.Mathlib.Omega.{arith}
+use native.Mathlib.Numerals.{add-one}
+use lib.Arith.{mod-mul}
+use lib.Dec.{T}
+use lib.ListN.{
+  length,
+  getD,
+  take,
+  drop,
+  set,
+  length-append,
+  length-drop,
+  List·getD-append,
+  drop-of-length-le,
+}
+use lib.Seq.{take-at, drop-at, getD-at, take-append-le, drop-append-le, take-all, drop-cons}
+use Rattle.runs.specs.Runs.{tab, joined, octetsOf, readOn, numberOf, over}
+use Rattle.runs.specs.Test.{every}
+
+both-left : (a b : Bool) → T (a && b) → T a
+both-left true b t = tt
+both-left false b t = t
+
+both-right : (a b : Bool) → T (a && b) → T b
+both-right true b t = t
+both-right false b t = absurd t
+
+-- a test that passes at each number below n passes at k
+pub every-at : (test : ℕ → Bool) (n : ℕ) → T (every test n) → (k : ℕ) → k < n → T (test k)
+unfolding every
+every-at test zero t k h = absurd (not-suc-le-zero h)
+every-at test (suc n) t k h =
+    ⊎-elim
+    (λ e. subst (λ (m : ℕ). T (test m)) (sym e) (both-left (test n) (every test n) t))
+    (λ less. every-at test n (both-right (test n) (every test n) t) k less)
+    (eq-or-lt-of-le (le-of-suc-le-suc h))
+
+pub length-tab : (f : ℕ → ℕ) (n : ℕ) → length (tab f n) ≡ n
+unfolding tab
+length-tab f zero = refl
+length-tab f (suc n) = length-append (tab f n) (f n ∷ []) ∙ omega (arith, length-tab f n)
+
+pub getD-tab : (f : ℕ → ℕ) (n : ℕ) {i : ℕ} → i < n → getD (tab f n) i 0 ≡ f i
+unfolding tab
+getD-tab f zero h = absurd (not-suc-le-zero h)
+getD-tab f (suc n) {i} h =
+    ⊎-elim
+    (λ e. rw e (getD-at (tab f n) (f n) [] 0 n (length-tab f n)))
+    (λ less. List·getD-append (tab f n) (f n ∷ []) 0 i (omega (arith, less, length-tab f n)) ∙ getD-tab f n less)
+    (eq-or-lt-of-le (le-of-suc-le-suc h))
+
+pub length-joined : (g : ℕ → List ℕ) (w n : ℕ) → ((k : ℕ) → length (g k) ≡ w) → length (joined g n) ≡ n * w
+unfolding joined
+length-joined g w zero h = sym (zero-mul w)
+length-joined g w (suc n) h = length-append (joined g n) (g n) ∙ omega (arith, length-joined g w n h, h n, suc-mul n w)
+
+-- part k of parts of one length stands at k times that length
+pub part-joined : (g : ℕ → List ℕ) (w n : ℕ) → ((k : ℕ) → length (g k) ≡ w) → {k : ℕ} → k < n → take w (drop (k * w) (joined g n)) ≡ g k
+unfolding joined
+part-joined g w zero h l = absurd (not-suc-le-zero l)
+part-joined g w (suc n) h {k} l =
+    ⊎-elim
+    (λ e. subst (λ (j : ℕ). take w (drop (j * w) (joined g n ++ g n)) ≡ g j) (sym e) newest)
+    (λ less. inside less (part-joined g w n h less))
+    (eq-or-lt-of-le (le-of-suc-le-suc l))
+  where
+    newest : take w (drop (n * w) (joined g n ++ g n)) ≡ g n
+    newest = rw (drop-at (joined g n) (g n) (n * w) (length-joined g w n h)) (take-all w (g n) (omega (arith, h n)))
+
+    here : (less : k < n) → k * w + w ≤ length (joined g n)
+    here less = omega (arith, length-joined g w n h, suc-mul k w, mul-le-mul-right {m = suc k} {n = n} w less)
+
+    inside : (less : k < n) → take w (drop (k * w) (joined g n)) ≡ g k → take w (drop (k * w) (joined g n ++ g n)) ≡ g k
+    inside less below =
+        rw (
+          drop-append-le (k * w) (joined g n) (g n) (omega (arith, here less)),
+          take-append-le w (drop (k * w) (joined g n)) (g n) (omega (arith, here less, length-drop (k * w) (joined g n))),
+        )
+        below
+
+pub length-octets : (w n : ℕ) → length (octetsOf w n) ≡ w
+unfolding octetsOf
+length-octets zero n = refl
+length-octets (suc w) n = ap suc (length-octets w n)
+
+pow-256 : (w : ℕ) → zero < 256 ^ w
+pow-256 zero = rw pow-zero (omega arith)
+pow-256 (suc w) = rw pow-suc (omega (arith, pow-256 w))
+
+-- octets of a number, read after others, give the number's low part behind them
+pub read-octets : (w m n : ℕ) → readOn m (octetsOf w n) ≡ m * 256 ^ w + n % 256 ^ w
+unfolding octetsOf readOn
+read-octets zero m n = rw (pow-zero, mul-one, mod-one) (omega arith)
+read-octets (suc w) m n =
+    read-octets w (m * 256 + n / 256 ^ w % 256) n
+    ∙ rw (pow-suc, mul-comm (256 ^ w) 256, mod-mul n {m = 256} {c = 256 ^ w} (omega arith) (pow-256 w))
+    (omega (arith, mul-assoc m 256 (256 ^ w)))
