@@ -16,6 +16,7 @@ use lib.Dec.{T, eqb, leb, ltb, ltb→lt, leb→le, eqb→eq, eqb·suc-zero}
 use Rattle.runs.specs.Test.{every}
 use Rattle.runs.proofs.Laws.{every-at, both-left, both-right, past, neither}
 use Rattle.formats.specs.declared.Format.{Format}
+use Rattle.formats.specs.Sound.{Sound}
 use Rattle.formats.specs.Formats.{
   lengthOf,
   sampleBits,
@@ -145,21 +146,6 @@ of-base test t octet h =
       | yes less ↦ by-bool (isBase octet) (test octet) h (every-at (λ k. not (isBase k) || test k) 256 t octet less)
       | no above ↦ absurd (false≢true (sym (beyond (le-of-suc-le-suc (lt-of-not-le above))) ∙ h))
     ]
-
--- what all formats share: everything that is proved of cells is proved from it, once for all formats
-pub record Sound (f : Format) : Type 0 where
-  pub bits : f .sample + f .ancillary + f .overhead ≡ 8 * f .width
-  pub cell : f .slots * f .width ≡ 48
-  pub sample-from : 8 ≤ f .sample
-  pub sample-to : f .sample ≤ 40
-  pub ancillary-fours : f .ancillary % 4 ≡ 0
-  pub ancillary-to : f .ancillary ≤ 4
-  pub overhead-fours : f .overhead % 4 ≡ 0
-  pub overhead-to : f .overhead ≤ 4
-  pub width-from : 1 ≤ f .width
-  pub width-to : f .width ≤ 6
-  pub slots-from : 8 ≤ f .slots
-  pub slots-to : f .slots ≤ 48
 
 -- the format of an octet of the eleven
 abbrev pub fieldsOf : ℕ → Format

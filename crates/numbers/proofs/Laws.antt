@@ -3,9 +3,9 @@
 -- Assumes nothing.
 use mathlib.Core.Bool.{Bool, true, false, cond, _||_}
 use mathlib.Core.List.{List, [], _∷_}
-use mathlib.Core.Path.{_≡_, refl, sym, _∙_, ap, subst}
-use Prim.Native.Nat.{ℕ, suc, _+_, _*_, _/_, _%_, _-_, _≤_, _<_}
-use native.Mathlib.Nat.{mod-lt, not-suc-le-zero, le-of-suc-le-suc, div-add-mod', add-mul-mod-self-right, mod-add-mod}
+use mathlib.Core.Path.{_≡_, refl, sym, _∙_, ap, ap₂, subst}
+use Prim.Native.Nat.{ℕ, zero, suc, _+_, _*_, _/_, _%_, _-_, _≤_, _<_}
+use native.Mathlib.Nat.{le-step, le-refl, mod-lt, not-suc-le-zero, le-of-suc-le-suc, div-add-mod', add-mul-mod-self-right, mod-add-mod}
 use native.Mathlib.Omega.{arith}
 use borrow.Author.Tests.{lt-ltb, eq-eqb, ne-eqb, eqb-true}
 use lib.Arith.{digits-div, digits-mod, digits-lt}
@@ -160,3 +160,10 @@ wraps-difference r number last e =
     ∙ sym (mod-add-mod (r + last) 16 (16 - last % 16))
     ∙ ap (λ (n : ℕ). (n + (16 - last % 16)) % 16) (sym low)
     ∙ mod-add-mod number 16 (16 - last % 16)
+
+-- bits that agree at each place make one number
+pub gathered-same : (a b : ℕ → ℕ) (n : ℕ) → ((k : ℕ) → k < n → a k ≡ b k) → gathered a n ≡ gathered b n
+unfolding gathered
+gathered-same a b zero same = refl
+gathered-same a b (suc n) same =
+    ap₂ (λ (high low : ℕ). high * 2 + low) (gathered-same a b n (λ k h. same k (le-step h))) (same n (le-refl (suc n)))

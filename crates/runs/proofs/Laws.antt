@@ -36,7 +36,7 @@ use lib.ListN.{
   List·getD-append,
   drop-of-length-le,
 }
-use lib.Seq.{take-at, drop-at, getD-at, take-append-le, drop-append-le, take-all, drop-cons}
+use lib.Seq.{take-at, drop-at, getD-at, take-append-le, drop-append-le, take-all, drop-cons, ext-getD}
 use Rattle.runs.specs.Runs.{tab, joined, octetsOf, readOn, numberOf, over}
 use Rattle.runs.specs.Test.{every}
 
@@ -80,6 +80,12 @@ getD-tab f (suc n) {i} h =
     (λ e. rw e (getD-at (tab f n) (f n) [] 0 n (length-tab f n)))
     (λ less. List·getD-append (tab f n) (f n ∷ []) 0 i (omega (arith, less, length-tab f n)) ∙ getD-tab f n less)
     (eq-or-lt-of-le (le-of-suc-le-suc h))
+
+-- a run is what is said of each of its entries
+pub tab-is : (f : ℕ → ℕ) (n : ℕ) (xs : List ℕ) → length xs ≡ n → ((i : ℕ) → i < n → f i ≡ getD xs i 0) → tab f n ≡ xs
+tab-is f n xs len each =
+    ext-getD 0 (tab f n) xs (length-tab f n ∙ sym len)
+    (λ i h. let less : i < n = rw (length-tab f n) at h in getD-tab f n less ∙ each i less)
 
 pub length-joined : (g : ℕ → List ℕ) (w n : ℕ) → ((k : ℕ) → length (g k) ≡ w) → length (joined g n) ≡ n * w
 unfolding joined
