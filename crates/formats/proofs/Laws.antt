@@ -13,8 +13,9 @@ use borrow.Author.Tests.{eqb-true, eqb-false, ltb-false, lt-ltb, le-ltb, le-leb,
 use mir.Val.{hasKey}
 use types.Run.{OneOf, hit, miss}
 use lib.Dec.{T, eqb, leb, ltb, ltb→lt, leb→le, eqb→eq, eqb·suc-zero}
+use Rattle.runs.specs.Refusals.{orElse}
 use Rattle.runs.specs.Test.{every}
-use Rattle.runs.proofs.Laws.{every-at, both-left, both-right, past, neither, split}
+use Rattle.runs.proofs.Laws.{every-at, both-left, both-right, past, neither, split, first-refuses, then-later}
 use Rattle.formats.specs.declared.Format.{Format}
 use Rattle.formats.specs.declared.Settled.{Settled}
 use Rattle.formats.specs.Sound.{Sound, Limits}
@@ -336,3 +337,21 @@ settled-limits octet channels order is none = rw is limits
           sample-to = sound .sample-to;
           ancillary-to = sound .ancillary-to;
         }
+
+-- what later checks add to checks 1 to 3, by the settings
+module _ {set : Settled} (octet channels order later : ℕ) (given : set ≡ settingsOf octet channels order) where
+  pub given-refusal : set .refusal ≡ settingsRefusal octet channels order
+  given-refusal = ap (λ (x : Settled). x .refusal) given ∙ refusal-of octet channels order
+
+  pub given-refuses : (set .refusal ≡ 0 → ⊥) → set .refusal ≡ orElse (settingsRefusal octet channels order) later
+  given-refuses some = given-refusal ∙ sym (first-refuses later (λ e. some (given-refusal ∙ e)))
+
+  module _ (none : set .refusal ≡ 0) where
+    pub given-none : settingsRefusal octet channels order ≡ 0
+    given-none = sym given-refusal ∙ none
+
+    pub given-settled : set ≡ settled octet channels order
+    given-settled = given ∙ settled-of octet channels order given-none
+
+    pub given-later : orElse (settingsRefusal octet channels order) later ≡ later
+    given-later = then-later later given-none

@@ -7,7 +7,7 @@ use mathlib.Core.Path.{_≡_, refl, sym, _∙_, ap, ap₂, subst}
 use Prim.Native.Nat.{ℕ, zero, suc, _+_, _*_, _/_, _%_, _-_, _≤_, _<_}
 use native.Mathlib.Nat.{le-step, le-refl, mod-lt, not-suc-le-zero, le-of-suc-le-suc, div-add-mod', add-mul-mod-self-right, mod-add-mod}
 use native.Mathlib.Omega.{arith}
-use borrow.Author.Tests.{lt-ltb, eq-eqb, ne-eqb, eqb-true}
+use borrow.Author.Tests.{lt-ltb, eq-eqb, ne-eqb, eqb-true, ltb-false}
 use lib.Arith.{digits-div, digits-mod, digits-lt}
 use lib.Bits.{bitXor}
 use lib.Count.{ones, onesIn}
@@ -15,7 +15,7 @@ use lib.Dec.{T, eqb, leb, ltb, leb→le, eqb→eq}
 use lib.ListN.{length, getD}
 use Rattle.runs.specs.Division.{coefficients, divided, takenDown}
 use Rattle.runs.specs.Test.{every}
-use Rattle.runs.proofs.Laws.{every-at}
+use Rattle.runs.proofs.Laws.{every-at, split}
 use Rattle.numbers.specs.declared.Found.{Found}
 use Rattle.numbers.specs.declared.Found.the-variants.{Number, Nothing}
 use Rattle.numbers.specs.Numbers.{
@@ -167,3 +167,33 @@ unfolding gathered
 gathered-same a b zero same = refl
 gathered-same a b (suc n) same =
     ap₂ (λ (high low : ℕ). high * 2 + low) (gathered-same a b n (λ k h. same k (le-step h))) (same n (le-refl (suc n)))
+
+place-le : (w : ℕ) (xs : List ℕ) → placeIn w xs ≤ length xs
+unfolding placeIn
+place-le w [] = omega arith
+place-le w (x ∷ xs) = either (eqb x w) (place-le w xs)
+  where
+    either : (b : Bool) → placeIn w xs ≤ length xs → cond b 0 (suc (placeIn w xs)) ≤ suc (length xs)
+    either true h = omega arith
+    either false h = omega arith
+
+-- what is found is the number, and nothing is found where there is none
+pub found-is : (word : ℕ) {n : ℕ} → foundOf word ≡ Number n → n ≡ numberIn word
+unfolding foundOf
+found-is word {n} e =
+    split (ltb (numberIn word) 16)
+    (λ t. let same : Number (numberIn word) ≡ Number n = rw t at e in cc)
+    (λ t. absurd (let other : Nothing ≡ Number n = rw t at e in never other))
+  where
+    never : Nothing ≡ Number n → ⊥
+    never h = let z : _≡_ {A = ℕ} 0 1 = cc in omega arith
+
+pub found-not : (word : ℕ) → foundOf word ≡ Nothing → 16 ≡ numberIn word
+unfolding foundOf tableA1
+found-not word e =
+    split (ltb (numberIn word) 16)
+    (λ t. absurd (let other : Number (numberIn word) ≡ Nothing = rw t at e in never other))
+    (λ t. let above = ltb-false (numberIn word) 16 t in let low = place-le word tableA1 in omega arith)
+  where
+    never : Number (numberIn word) ≡ Nothing → ⊥
+    never h = let z : _≡_ {A = ℕ} 0 1 = cc in omega arith

@@ -3,9 +3,11 @@
 use mathlib.Core.List.{List, _++_}
 use mathlib.Core.Path.{_≡_, refl, sym, _∙_, ap}
 use Prim.Native.Nat.{ℕ, zero, _+_, _≤_, _<_}
+use native.Mathlib.Nat.{zero-add}
 use native.Mathlib.Numerals.{add-one}
 use native.Mathlib.Omega.{arith}
 use lib.ListN.{length, getD, take, drop, set, length-set}
+use Rattle.runs.specs.Runs.{over}
 use lib.Seq.{paste, paste-zero, paste-suc, take-all}
 
 -- the run d is d₀ with the first i entries of vs written from `at` on
@@ -37,3 +39,14 @@ module _ (d₀ : List ℕ) (at : ℕ) (vs : List ℕ) where
       so-far .is
       ∙ ap (paste d₀ at vs) whole
       ∙ ap (λ (l : List ℕ). take at d₀ ++ l ++ drop (at + length vs) d₀) (take-all (length vs) vs (omega arith))
+
+-- the same from the run's start
+module _ (d₀ vs : List ℕ) where
+  pub turned-front : {d : List ℕ} {i v : ℕ} → Filled d d₀ 0 vs i → length vs ≤ length d₀ → i < length vs → v ≡ getD vs i 0
+      → Filled (set d i v) d₀ 0 vs (i + 1)
+  turned-front {d} {i} {v} so-far room less e =
+      rw (zero-add i) at (turned d₀ 0 vs so-far (omega arith) less e)
+
+  pub done-front : {d : List ℕ} {i : ℕ} → Filled d d₀ 0 vs i → length vs ≤ i → d ≡ over vs d₀
+  unfolding over
+  done-front so-far all = done d₀ 0 vs so-far all ∙ rw (zero-add (length vs))

@@ -12,7 +12,7 @@ use native.Mathlib.Nat.{
   eq-or-lt-of-le,
   pow-suc,
   pow-zero,
-  mul-one,
+  mul-one, one-mul, mod-eq-of-lt,
   mul-assoc,
   mul-comm,
   suc-mul,
@@ -24,6 +24,7 @@ use native.Mathlib.Nat.{
 use native.Mathlib.Omega.{arith}
 use native.Mathlib.Numerals.{add-one}
 use lib.Arith.{mod-mul}
+use lib.Pow.{pow-lt}
 use borrow.Author.Tests.{ne-eqb, eqb-true, eqb-false}
 use lib.Dec.{T, eqb}
 use lib.ListN.{
@@ -159,3 +160,13 @@ read-octets (suc w) m n =
     read-octets w (m * 256 + n / 256 ^ w % 256) n
     ∙ rw (pow-suc, mul-comm (256 ^ w) 256, mod-mul n {m = 256} {c = 256 ^ w} (omega arith) (pow-256 w))
     (omega (arith, mul-assoc m 256 (256 ^ w)))
+
+-- octets read one more at the end
+pub read-snoc : (m : ℕ) (xs : List ℕ) (x : ℕ) → readOn m (xs ++ (x ∷ [])) ≡ readOn m xs * 256 + x
+unfolding readOn
+read-snoc m [] x = refl
+read-snoc m (y ∷ ys) x = read-snoc (m * 256 + y) ys x
+
+-- a single bit at a place, as code shifts it there
+pub one-shifted : {k : ℕ} → k < 64 → (1 * 2 ^ k) % 2 ^ 64 ≡ 2 ^ k
+one-shifted {k} h = ap (λ (n : ℕ). n % 2 ^ 64) (one-mul (2 ^ k)) ∙ mod-eq-of-lt (pow-lt {i = k} {j = 64} h)

@@ -4,12 +4,12 @@ use mathlib.Core.Bool.{Bool, true, false, cond, not, _&&_, _||_}
 use mathlib.Core.List.{List, [], _∷_}
 use mathlib.Core.Path.{_≡_, refl, sym, _∙_, ap, ap₂}
 use Prim.Native.Nat.{ℕ, zero, suc, _+_, _*_, _/_, _%_, _^_, _≤_, _<_}
-use native.Mathlib.Nat.{suc-ne-zero, one-mul, mod-eq-of-lt, mul-div-le, le-div-iff-mul-le}
+use native.Mathlib.Nat.{suc-ne-zero, mod-eq-of-lt, mul-div-le, le-div-iff-mul-le}
 use native.Mathlib.Omega.{arith}
 use borrow.Author.Tests.{lt-ltb, le-ltb, eq-eqb, ne-eqb, ltb-true, ltb-false, eqb-true, not-false}
 use lib.Dec.{eqb, ltb}
 use lib.ListN.{length, getD, drop, drop-of-length-le}
-use lib.Pow.{pow-pos, shl-exact}
+use lib.Pow.{pow-pos}
 use lib.Seq.{drop-cons}
 use Rattle.runs.specs.Refusals.{orElse}
 use Rattle.runs.proofs.Laws.{first-refuses, then-later, past, past-both, neither, both-true}
@@ -17,7 +17,15 @@ use Rattle.formats.specs.declared.Format.{Format}
 use Rattle.formats.specs.declared.Settled.{Settled}
 use Rattle.formats.specs.Formats.{formatOf, timesOf, slotsOf, settingsOf, settingsRefusal, settled}
 use Rattle.formats.specs.Sound.{Limits}
-use Rattle.formats.proofs.Laws.{refusal-of, settled-of, Settles, settles-all, settled-limits}
+use Rattle.formats.proofs.Laws.{
+    settled-of,
+    Settles,
+    settles-all,
+    settled-limits,
+    given-refuses,
+    given-none,
+    given-settled,
+    given-later}
 use Rattle.sender.specs.declared.Sender.{Sender}
 use Rattle.numbers.specs.Numbers.{entryOf}
 use Rattle.sender.specs.Packing.{Packable, packed}
@@ -45,25 +53,20 @@ use Rattle.sender.specs.Sender.{
 -- checks 1 to 4, by the settings
 module _ {set : Settled} (octet channels order number : ℕ) (wanted : Bool) (second : ℕ)
     (given : set ≡ settingsOf octet channels order)
-  where
-    refusal-is : set .refusal ≡ settingsRefusal octet channels order
-    refusal-is = ap (λ (x : Settled). x .refusal) given ∙ refusal-of octet channels order
+    where
+  pub by-settings : (set .refusal ≡ 0 → ⊥) → set .refusal ≡ stateRefusal octet channels order number wanted second
+  unfolding stateRefusal
+  by-settings some = given-refuses octet channels order _ given some
 
-    pub by-settings : (set .refusal ≡ 0 → ⊥) → set .refusal ≡ stateRefusal octet channels order number wanted second
-    unfolding stateRefusal
-    by-settings some = refusal-is ∙ sym (first-refuses _ (λ e. some (refusal-is ∙ e)))
-
-    module _ (none : set .refusal ≡ 0) where
-      pub settled-is : set ≡ settled octet channels order
-      settled-is = given ∙ settled-of octet channels order (sym refusal-is ∙ none)
-
-      pub by-numbers : {b : Bool} → b ≡ numbersRefused (set .format) number wanted second
-          → cond b 4 0 ≡ stateRefusal octet channels order number wanted second
-      unfolding stateRefusal
-      by-numbers e =
-          ap (λ (b : Bool). cond b 4 0)
-          (e ∙ ap (λ (x : Settled). numbersRefused (x .format) number wanted second) settled-is)
-          ∙ sym (then-later _ (sym refusal-is ∙ none))
+  pub by-numbers : (none : set .refusal ≡ 0) {b : Bool} → b ≡ numbersRefused (set .format) number wanted second
+      → cond b 4 0 ≡ stateRefusal octet channels order number wanted second
+  unfolding stateRefusal
+  by-numbers none e =
+      ap (λ (b : Bool). cond b 4 0)
+      (e
+      ∙ ap (λ (x : Settled). numbersRefused (x .format) number wanted second)
+      (given-settled octet channels order 0 given none))
+      ∙ sym (given-later octet channels order _ given none)
 
 -- what checks 1 to 4 leave where none refuses
 pub record StatePasses (octet channels order number second : ℕ) : Type 0 where
@@ -97,10 +100,6 @@ module _ (octet channels order number : ℕ) (wanted : Bool) (second : ℕ) wher
       ≡ openedOf octet channels order number wanted second
   unfolding openedOf
   opens e = rw (← e)
-
--- a bound as the code makes it
-pub bound-is : {bits : ℕ} → bits ≤ 40 → (1 * 2 ^ bits) % 2 ^ 64 ≡ 2 ^ bits
-bound-is {bits} h = shl-exact 1 bits 64 (omega arith) (omega arith) ∙ one-mul (2 ^ bits)
 
 -- a run judged from its start: what is passed is below the bound
 module _ (bound : ℕ) (run : List ℕ) {i : ℕ} (h : i < length run) where
@@ -141,14 +140,13 @@ module _ {set : Settled} (st : Sender) (indication : Bool) (samples ancillary : 
 
     module _ (none : set .refusal ≡ 0) where
       is : set ≡ settled (st .format) (st .channels) (st .order)
-      is = settled-is (st .format) (st .channels) (st .order) (st .number) (st .wanted) (st .second) given none
+      is = given-settled (st .format) (st .channels) (st .order) 0 given none
 
       -- what the settings bound
       pub limits : Limits set
-      limits = settled-limits (st .format) (st .channels) (st .order) is (sym refusal-here ∙ none)
-        where
-          refusal-here : set .refusal ≡ settingsRefusal (st .format) (st .channels) (st .order)
-          refusal-here = ap (λ (x : Settled). x .refusal) given ∙ refusal-of (st .format) (st .channels) (st .order)
+      limits =
+          settled-limits (st .format) (st .channels) (st .order) is
+          (given-none (st .format) (st .channels) (st .order) 0 given none)
 
       pub sends-4 : true ≡ numbersRefused (set .format) (st .number) (st .wanted) (st .second) → 4 ≡ refusal
       sends-4 e =

@@ -7,7 +7,7 @@ use borrow.Author.Tests.{not-true, not-false}
 use native.Mathlib.Omega.{arith}
 use denote.Ref.{now}
 use Rattle.sender.specs.Sender.{allBelow, valuesRefused}
-use Rattle.sender.proofs.Laws.{bound-is}
+use Rattle.runs.proofs.Laws.{one-shifted}
 use borrow.Author.Needs.{needs}
 use Rattle.sender.proofs.judge.values_refused.Statement.{statement}
 use Rattle.sender.proofs.judge.values_refused.Tie as tie
@@ -21,7 +21,7 @@ samples-below-requires c κs = search needs
 samples-are : (c : tie.After-samples-below)
     → c .samples-below .result ≡ allBelow (2 ^ c .before .before .before .before .args .format .sample) (now (c .before .before .before .before .args .samples))
 samples-are c =
-    c .samples-below .ensures ∙ ap (λ (b : ℕ). allBelow b (now (c .before .before .before .before .args .samples))) (bound-is (c .before .before .before .before .pre .0))
+    c .samples-below .ensures ∙ ap (λ (b : ℕ). allBelow b (now (c .before .before .before .before .args .samples))) (one-shifted (omega (arith, c .before .before .before .before .pre .0)))
 
 returns : tie.Need-returns
 unfolding valuesRefused
@@ -37,7 +37,7 @@ returns-2 : tie.Need-returns-2
 unfolding valuesRefused
 returns-2 c =
     rw (sym (samples-are (c .before .before .before)) ∙ not-false _ (c .before .before .if1 .left))
-    (ap not (c .octets-below .ensures ∙ ap (λ (b : ℕ). allBelow b (now (c .before .before .before .before .before .before .before .args .ancillary))) (bound-is (omega (arith, c .before .before .before .before .before .before .before .pre .1)))))
+    (ap not (c .octets-below .ensures ∙ ap (λ (b : ℕ). allBelow b (now (c .before .before .before .before .before .before .before .args .ancillary))) (one-shifted (omega (arith, c .before .before .before .before .before .before .before .pre .1)))))
 
 pub values-refused-spec : {M : Type 1} → statement M
 values-refused-spec =
