@@ -68,5 +68,5 @@ module _ (x j c : ℕ) (x< : x < 256) (j< : j < 8) (c< : c < 2) where
         div-add-mod' x (2 * 2 ^ j),
         whole,
         mul-le-mul-right {m = suc (x / (2 * 2 ^ j))} {n = 2 ^ (7 - j)} (2 * 2 ^ j)
-        (div-lt-iff-lt-mul {k = 2 * 2 ^ j} {x = x} {y = 2 ^ (7 - j)} (omega (arith, pow-pos j)) .1 (omega (arith, whole))),
+            (div-lt-iff-lt-mul {k = 2 * 2 ^ j} {x = x} {y = 2 ^ (7 - j)} (omega (arith, pow-pos j)) .1 (omega (arith, whole))),
       )

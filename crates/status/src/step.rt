@@ -1,9 +1,8 @@
 // One step of a channel's status, by value.
 use crate::check::check_character;
-
 ghost use mathlib.Core.Path.{_≡_};
 ghost use Prim.Native.Nat.{_<_, _%_, _^_};
-ghost use Rattle.status.specs.Bits.{withBit};
+ghost use Rattle.status.specs.Bits.{octetWith, withBit};
 ghost use Rattle.status.specs.Step.{stepOf, unfinished, finished, isRefused};
 
 // A block under assembly: how many bits of it have come, and its octets.
@@ -29,21 +28,38 @@ fn unfinished_with(refusal: u8, block: Block) -> Stepped
     ensures { λ r. ⌜ r ≡ unfinished refusal block ⌝ }
 {
     let zeros = [0u8; 24];
-    let handed = Handed { refusal: refusal, answer: 0, octets: zeros };
-    Stepped { block: block, handed: handed }
+    let handed = Handed {
+        refusal: refusal,
+        answer: 0,
+        octets: zeros,
+    };
+    Stepped {
+        block: block,
+        handed: handed,
+    }
 }
 
 fn finished_with(octets: [u8; 24]) -> Stepped
     ensures { λ r. ⌜ r ≡ finished octets ⌝ }
 {
     let zeros = [0u8; 24];
-    let cleared = Block { bits: 0, octets: zeros };
+    let cleared = Block {
+        bits: 0,
+        octets: zeros,
+    };
     let mut answer: u8 = 1;
     if octets[23] == check_character(octets) {
         answer = 2;
     }
-    let handed = Handed { refusal: 0, answer: answer, octets: octets };
-    Stepped { block: cleared, handed: handed }
+    let handed = Handed {
+        refusal: 0,
+        answer: answer,
+        octets: octets,
+    };
+    Stepped {
+        block: cleared,
+        handed: handed,
+    }
 }
 
 fn refused(bits: u8, ancillary: u8, mark: u8) -> bool
@@ -59,6 +75,17 @@ fn worth_of(k: u8) -> u8
     1u8 << (k % 8)
 }
 
+// The octet that bit k of a block is in, with that bit made c.
+fn octet_with(octet: u8, k: u8, c: u8) -> u8
+    requires { ⌜ c < 2 ⌝ }
+    ensures { λ r. ⌜ r ≡ octetWith octet (k % 8) c ⌝ }
+{
+    let worth = worth_of(k);
+    let old = octet / worth % 2 * worth;
+    let new = c * worth;
+    octet - old + new
+}
+
 // The octets with bit k made c, the other bits as they were.
 fn with_bit(octets: [u8; 24], k: u8, c: u8) -> [u8; 24]
     requires { ⌜ (k < 192) × (c < 2) ⌝ }
@@ -66,11 +93,7 @@ fn with_bit(octets: [u8; 24], k: u8, c: u8) -> [u8; 24]
 {
     let mut out = octets;
     let at = (k / 8) as usize;
-    let worth = worth_of(k);
-    let octet = out[at];
-    let old = octet / worth % 2 * worth;
-    let new = c * worth;
-    out[at] = octet - old + new;
+    out[at] = octet_with(out[at], k, c);
     out
 }
 
@@ -86,13 +109,19 @@ pub fn step(block: Block, ancillary: u8, mark: u8) -> Stepped
     }
     let zeros = [0u8; 24];
     if mark == 2 {
-        let dropped = Block { bits: 0, octets: zeros };
+        let dropped = Block {
+            bits: 0,
+            octets: zeros,
+        };
         return unfinished_with(0, dropped);
     }
     let c = ancillary / 4 % 2;
     if ancillary / 8 == 1 {
         let first = with_bit(zeros, 0, c);
-        let begun = Block { bits: 1, octets: first };
+        let begun = Block {
+            bits: 1,
+            octets: first,
+        };
         return unfinished_with(0, begun);
     }
     if bits == 0 {
@@ -101,7 +130,10 @@ pub fn step(block: Block, ancillary: u8, mark: u8) -> Stepped
     let before = block.octets;
     let octets = with_bit(before, bits, c);
     if bits < 191 {
-        let more = Block { bits: bits + 1, octets: octets };
+        let more = Block {
+            bits: bits + 1,
+            octets: octets,
+        };
         return unfinished_with(0, more);
     }
     finished_with(octets)

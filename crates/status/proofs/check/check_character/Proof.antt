@@ -41,7 +41,7 @@ loop-again c =
     let l = c .before .before .before in
     let r = coefficientOf (l .before .args .block) in
     let next : c .taken-down .result ≡ takenDown 8 generator (divided 8 generator 0 (tab r (l .loop .k))) (r (l .loop .k)) =
-        c .taken-down .ensures .0 ∙ stepped (l .loop .inv .2) (c .before .coefficient .ensures .0) in
+    c .taken-down .ensures .0 ∙ stepped (l .loop .inv .2) (c .before .coefficient .ensures .0) in
     (omega arith, c .taken-down .ensures .1, rw add-one (next ∙ sym (divided-tab 8 generator r (l .loop .k))))
 
 turned-requires : tie.Need-turned-requires Inv-loop μ-loop
