@@ -54,3 +54,7 @@ added-last bits octets h = rw (le-ltb bits 191 h)
 pub taken-bits : (bits a m : ℕ) → isRefused bits a m ≡ false → bits ≤ 191
 unfolding isRefused
 taken-bits bits a m e = ltb-false 191 bits (or-right (ltb 15 a) (ltb 191 bits) (or-right (ltb 2 m) (ltb 15 a || ltb 191 bits) e))
+
+pub within-taken : (bits a m : ℕ) → bits ≤ 191 → a ≤ 15 → m ≤ 2 → isRefused bits a m ≡ false
+unfolding isRefused
+within-taken bits a m b≤ a≤ m≤ = rw (le-ltb 2 m m≤, le-ltb 15 a a≤, le-ltb 191 bits b≤)

@@ -35,5 +35,6 @@ pub record Octets (octets : List ℕ) : Type 0 where
 -- a sender's 192 ancillary numbers: their C bits are those of the octets, and B is set on the first alone
 pub record Sends (octets : List ℕ) (ancillary : ℕ → ℕ) : Type 0 where
   pub within : (k : ℕ) → k < 192 → ancillary k ≤ 15
-  pub begins : (k : ℕ) → k < 192 → bOf (ancillary k) ≡ cond (eqb k 0) 1 0
+  pub first : bOf (ancillary 0) ≡ 1
+  pub alone : (k : ℕ) → 0 < k → k < 192 → bOf (ancillary k) ≡ 0
   pub carries : (k : ℕ) → k < 192 → cOf (ancillary k) ≡ bitOf octets k
