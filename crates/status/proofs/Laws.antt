@@ -3,7 +3,7 @@
 use mathlib.Core.Bool.{Bool}
 use mathlib.Core.List.{List, [], _∷_, _++_}
 use mathlib.Core.Path.{_≡_, refl, sym, _∙_, ap, subst}
-use Prim.Native.Nat.{ℕ, zero, suc, _+_, _-_, _*_, _/_, _%_, _^_, _≤_, _<_}
+use Prim.Native.Nat.{ℕ, suc, _+_, _-_, _*_, _/_, _%_, _^_, _≤_, _<_}
 use native.Mathlib.Nat.{mod-le, div-mul-le-self, mul-le-mul-right, div-lt-iff-lt-mul, div-add-mod', mod-lt, pow-suc}
 use native.Mathlib.Omega.{arith}
 use lib.Arith.{mod-mul}

@@ -1,32 +1,24 @@
 -- The theorem for the reader: a sender's 192 C bits, B set on the first, with marks 0 or 1, bring out exactly those 24 octets,
 -- once, at the last step and not before; a mark 2 anywhere among them brings out none.
 -- Assumes nothing.
-use mathlib.Core.Bool.{Bool, true, false, cond}
-use mathlib.Core.List.{List, [], _∷_, _++_}
-use mathlib.Core.Path.{_≡_, refl, sym, _∙_, ap, subst}
-use Prim.Native.Nat.{ℕ, zero, suc, _+_, _-_, _≤_, _<_}
+use mathlib.Core.Bool.{false, cond}
+use mathlib.Core.List.{List, [], _∷_}
+use mathlib.Core.Path.{_≡_, refl, sym, _∙_, ap}
+use Prim.Native.Nat.{ℕ, zero, suc, _+_, _*_, _≤_, _<_}
 use native.Mathlib.Nat.{not-suc-le-zero}
 use native.Mathlib.Numerals.{add-one}
 use native.Mathlib.Omega.{arith}
-use borrow.Author.Tests.{eqb-true, eqb-false}
+use borrow.Author.Tests.{ne-eqb, eqb-true, eqb-false}
 use lib.Dec.{eqb}
 use lib.ListN.{getD}
-use Rattle.status.specs.Bits.{bitOf, withBit, zeros}
+use Rattle.status.specs.Bits.{bitOf, withBit}
 use Rattle.status.specs.Check.{checkCharacter}
 use Rattle.status.specs.Sender.{blockAfter, broughtBy, broughtOut, Octets, Sends}
 use Rattle.status.specs.Step.{stepOf, isRefused, unfinished, finished, addedTo, fitOf, noBlock, bOf, cOf}
 use Rattle.status.specs.declared.step.Block.{Block}
 use Rattle.status.specs.declared.step.Stepped.{Stepped}
 use Rattle.status.proofs.Bits.{upTo, upTo-none, upTo-more, upTo-all, by-test}
-use Rattle.status.proofs.Steps.{
-  step-dropped,
-  step-begun,
-  step-idle,
-  step-added,
-  added-more,
-  added-last,
-  within-taken,
-}
+use Rattle.status.proofs.Steps.{step-dropped, step-begun, step-idle, step-added, added-more, added-last, within-taken}
 
 -- ---- one step that finishes no block
 brought-none : (s : Stepped) (block : Block) → s ≡ unfinished 0 block → broughtBy s ≡ []
@@ -193,3 +185,16 @@ pub brings-none : (block : Block) (octets : List ℕ) (ancillary mark : ℕ → 
     → block .bits ≤ 191 → Sends octets ancillary → ((k : ℕ) → k < 192 → mark k ≤ 2) → (j : ℕ) → j < 192 → mark j ≡ 2
     → broughtOut block ancillary mark 192 ≡ []
 brings-none block octets ancillary mark begun sends marks j h two = all-none block octets ancillary mark begun sends marks j two h
+
+bit-lt : (octets : List ℕ) (k : ℕ) → bitOf octets k < 2
+unfolding bitOf
+bit-lt octets k = omega arith
+
+-- There is such a sender for every block.
+pub sends-any : (octets : List ℕ) → Sends octets (λ k. cond (eqb k 0) 8 0 + bitOf octets k * 4)
+sends-any octets = record {
+  within = λ k h. by-test (eqb k 0) (λ e. rw e (omega (arith, bit-lt octets k))) (λ e. rw e (omega (arith, bit-lt octets k)));
+  first = omega (arith, bit-lt octets 0);
+  alone = λ k p h. rw (ne-eqb k 0 (λ e. omega (arith, e))) (omega (arith, bit-lt octets k));
+  carries = λ k h. by-test (eqb k 0) (λ e. rw e (omega (arith, bit-lt octets k))) (λ e. rw e (omega (arith, bit-lt octets k)));
+}

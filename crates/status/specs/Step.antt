@@ -8,7 +8,6 @@ use lib.ListN.{getD}
 use Rattle.status.specs.Bits.{withBit, zeros}
 use Rattle.status.specs.Check.{checkCharacter}
 use Rattle.status.specs.declared.step.Block.{Block}
-use Rattle.status.specs.declared.step.Handed.{Handed}
 use Rattle.status.specs.declared.step.Stepped.{Stepped}
 
 -- B and C of an ancillary number: "B worth 8 and V worth 1"

@@ -1,7 +1,9 @@
 // The block under assembly, lent to the step (document 01: "The block under assembly is lent to the step, which brings it
 // forward").
-use crate::step::{step, Block, Handed, Stepped};
-
+use crate::step::Block;
+use crate::step::Handed;
+use crate::step::Stepped;
+use crate::step::step;
 ghost use mathlib.Core.Path.{_≡_};
 ghost use Rattle.status.specs.Step.{stepOf};
 

@@ -1,4 +1,3 @@
-use mathlib.Core.Path.{refl}
 use borrow.Author.Tests.{lt-ltb, le-ltb}
 use Rattle.status.specs.Step.{isRefused}
 use Rattle.status.proofs.step.refused.Statement.{statement}
