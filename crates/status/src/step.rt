@@ -42,10 +42,10 @@ fn unfinished_with(refusal: u8, block: Block) -> Stepped
 fn finished_with(octets: [u8; 24]) -> Stepped
     ensures { λ r. ⌜ r ≡ finished octets ⌝ }
 {
-    let zeros = [0u8; 24];
+    let none = [0u8; 24];
     let cleared = Block {
         bits: 0,
-        octets: zeros,
+        octets: none,
     };
     let mut answer: u8 = 1;
     if octets[23] == check_character(octets) {

@@ -89,7 +89,7 @@ returns-5 c =
     let s = c .before .before .before .before .before .before .before .before .before .args in
     c .unfinished-with5 .ensures
     ∙ ap (λ (o : List ℕ). unfinished 0 (record { bits = s .block .bits + 1; octets = o })) (c .before .before .with-bit2 .ensures)
-    ∙ sym (added (c .before .before .before .before) ∙ added-more (s .block .bits) _ (c .before .if5 .taken))
+    ∙ sym (added (c .before .before .before .before) ∙ added-more (s .block .bits) _ (omega (arith, c .before .if5 .taken)))
 
 finished-with-requires : tie.Need-finished-with-requires
 finished-with-requires c κs = search needs
@@ -99,7 +99,7 @@ returns-6 c =
     let s = c .before .before .before .before .before .before .before .before .before .args in
     c .finished-with .ensures
     ∙ ap finished (c .before .before .with-bit2 .ensures)
-    ∙ sym (added (c .before .before .before .before) ∙ added-last (s .block .bits) _ (c .before .if5 .left))
+    ∙ sym (added (c .before .before .before .before) ∙ added-last (s .block .bits) _ (omega (arith, c .before .if5 .left)))
 
 pub step-spec : {M : Type 1} → statement M
 step-spec =
