@@ -17,8 +17,14 @@ pub fn cases() {
     first[0] = 0b11_1101;
     first[1] = 0b10;
     first[4] = 0b10;
-    say(b"Appendix 2, example 1: check character ", check_character(first));
+    say(
+        b"Appendix 2, example 1: check character ",
+        check_character(first),
+    );
     let mut second = [0u8; 24];
     second[0] = 1;
-    say(b"Appendix 2, example 2: check character ", check_character(second));
+    say(
+        b"Appendix 2, example 2: check character ",
+        check_character(second),
+    );
 }
