@@ -1,6 +1,8 @@
-use mathlib.Core.List.{List, append-nil}
+-- `rimesatchel::statuses::after_first` meets its contract.
+-- Assumes nothing.
+use mathlib.Core.List.{append-nil}
 use mathlib.Core.Path.{_≡_, refl, sym, _∙_, ap}
-use Prim.Native.Nat.{ℕ, _+_, _-_, _≤_}
+use Prim.Native.Nat.{ℕ, _-_, _≤_}
 use native.Mathlib.Omega.{arith}
 use borrow.Author.Needs.{needs}
 use lib.ListN.{length, getD, drop, length-drop}

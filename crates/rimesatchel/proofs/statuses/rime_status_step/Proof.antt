@@ -1,3 +1,5 @@
+-- `rimesatchel::statuses::rime_status_step` meets its contract.
+-- Assumes nothing.
 use mathlib.Core.List.{List, _∷_}
 use mathlib.Core.Path.{_≡_, _∙_, ap}
 use Prim.Native.Nat.{ℕ}

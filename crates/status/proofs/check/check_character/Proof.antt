@@ -1,3 +1,5 @@
+-- `status::check::check_character` meets its contract: the loop is the division, a coefficient a turn.
+-- Assumes nothing.
 use mathlib.Core.Path.{_≡_, refl, _∙_, ap, sym}
 use Prim.Native.Nat.{ℕ, _≤_, _<_, _-_}
 use native.Mathlib.Numerals.{add-one}

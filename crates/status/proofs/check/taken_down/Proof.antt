@@ -1,3 +1,5 @@
+-- `status::check::taken_down` meets its contract: the divisor taken off leaves a rest below x^8.
+-- Assumes nothing.
 use native.Mathlib.Omega.{arith}
 use borrow.Author.Needs.{needs}
 use borrow.Author.Tests.{lt-ltb, le-ltb}

@@ -1,3 +1,5 @@
+-- `status::step::finished_with` meets its contract.
+-- Assumes nothing.
 use mathlib.Core.Path.{_≡_, sym, _∙_}
 use borrow.Author.Needs.{needs}
 use borrow.Author.Tests.{eq-eqb, ne-eqb}

@@ -1,3 +1,5 @@
+-- `status::step::octet_with` meets its contract.
+-- Assumes nothing.
 use Prim.Native.Nat.{_%_}
 use native.Mathlib.Omega.{arith}
 use borrow.Author.Needs.{needs}

@@ -1,3 +1,5 @@
+-- `status::step::refused` meets its contract.
+-- Assumes nothing.
 use borrow.Author.Tests.{lt-ltb, le-ltb}
 use Rattle.status.specs.Step.{isRefused}
 use Rattle.status.proofs.step.refused.Statement.{statement}

@@ -1,3 +1,5 @@
+-- `status::step::step` meets its contract: each return is one kind of step.
+-- Assumes nothing.
 use mathlib.Core.Bool.{false}
 use mathlib.Core.List.{List}
 use mathlib.Core.Path.{_≡_, sym, _∙_, ap}

@@ -1,3 +1,5 @@
+-- `status::step::with_bit` meets its contract.
+-- Assumes nothing.
 use mathlib.Core.Path.{ap}
 use Prim.Native.Nat.{ℕ, _/_}
 use borrow.Author.Needs.{needs}

@@ -1,3 +1,5 @@
+-- `status::step::worth_of` meets its contract.
+-- Assumes nothing.
 use Prim.Native.Nat.{_%_}
 use native.Mathlib.Nat.{one-mul}
 use native.Mathlib.Omega.{arith}
