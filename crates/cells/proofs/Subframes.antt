@@ -12,7 +12,7 @@ use lib.Dec.{eqb}
 use lib.ListN.{length, take, drop, getD}
 use lib.Pow.{pow-add, pow-pos, shr-shr}
 use Rattle.runs.specs.Runs.{joined, octetsOf, numberOf}
-use Rattle.runs.proofs.Laws.{length-octets, length-joined, part-joined, read-octets}
+use Rattle.runs.proofs.Laws.{split, length-octets, length-joined, part-joined, read-octets}
 use Rattle.formats.specs.declared.Format.{Format}
 use Rattle.formats.specs.Sound.{Sound}
 use Rattle.guards.specs.Guards.{guardOf}
@@ -33,11 +33,6 @@ pub octets-pow : (w : ℕ) → 2 ^ (8 * w) ≡ 256 ^ w
 octets-pow zero = refl
 octets-pow (suc w) =
     ap (λ (k : ℕ). 2 ^ k) (mul-suc 8 w) ∙ pow-add 2 (8 * w) 8 ∙ ap (λ (n : ℕ). n * 256) (octets-pow w) ∙ sym (pow-suc 256 w)
-
--- a test and what it says
-pub split : (test : Bool) {P : Type 0} → (test ≡ true → P) → (test ≡ false → P) → P
-split true yes-case no-case = yes-case refl
-split false yes-case no-case = no-case refl
 
 module _ {f : Format} (s : Sound f) where
   -- overhead is four bits or none

@@ -3,6 +3,7 @@
 use mathlib.Core.Path.{_≡_}
 use Prim.Native.Nat.{_+_, _*_, _%_, _≤_}
 use Rattle.formats.specs.declared.Format.{Format}
+use Rattle.formats.specs.declared.Settled.{Settled}
 
 -- what all formats share: everything that is proved of cells is proved from it, once for all formats
 pub record Sound (f : Format) : Type 0 where
@@ -18,3 +19,13 @@ pub record Sound (f : Format) : Type 0 where
   pub width-to : f .width ≤ 6
   pub slots-from : 8 ≤ f .slots
   pub slots-to : f .slots ≤ 48
+
+-- what settings bound where nothing refuses them
+pub record Limits (set : Settled) : Type 0 where
+  pub sound : Sound (set .format)
+  pub channels-from : 1 ≤ set .channels
+  pub times-from : 1 ≤ set .times
+  pub used-in : set .channels * set .times ≤ set .format .slots
+  pub used-to : set .channels * set .times ≤ 48
+  pub sample-to : set .format .sample ≤ 40
+  pub ancillary-to : set .format .ancillary ≤ 4

@@ -24,7 +24,8 @@ use native.Mathlib.Nat.{
 use native.Mathlib.Omega.{arith}
 use native.Mathlib.Numerals.{add-one}
 use lib.Arith.{mod-mul}
-use lib.Dec.{T}
+use borrow.Author.Tests.{ne-eqb, eqb-true, eqb-false}
+use lib.Dec.{T, eqb}
 use lib.ListN.{
   length,
   getD,
@@ -38,6 +39,7 @@ use lib.ListN.{
 }
 use lib.Seq.{take-at, drop-at, getD-at, take-append-le, drop-append-le, take-all, drop-cons, ext-getD}
 use Rattle.runs.specs.Runs.{tab, joined, octetsOf, readOn, numberOf, over}
+use Rattle.runs.specs.Refusals.{orElse}
 use Rattle.runs.specs.Test.{every}
 
 pub both-left : (a b : Bool) → T (a && b) → T a
@@ -52,6 +54,30 @@ both-right false b t = absurd t
 pub past : (test : Bool) (n rest : ℕ) → cond test (suc n) rest ≡ 0 → (test ≡ false) × (rest ≡ 0)
 past true n rest e = absurd (suc-ne-zero n e)
 past false n rest e = (refl, e)
+
+-- a test and what it says
+pub split : (test : Bool) {P : Type 0} → (test ≡ true → P) → (test ≡ false → P) → P
+split true here there = here refl
+split false here there = there refl
+
+pub first-refuses : {first : ℕ} (later : ℕ) → (first ≡ 0 → ⊥) → orElse first later ≡ first
+unfolding orElse
+first-refuses later some = rw (ne-eqb _ _ some)
+
+pub then-later : {first : ℕ} (later : ℕ) → first ≡ 0 → orElse first later ≡ later
+unfolding orElse
+then-later later none = rw none
+
+pub past-both : (first later : ℕ) → orElse first later ≡ 0 → (first ≡ 0) × (later ≡ 0)
+unfolding orElse
+past-both first later e =
+    split (eqb first 0)
+    (λ t. let none : first ≡ 0 = eqb-true first 0 t in (none, sym (then-later later none) ∙ e))
+    (λ t. absurd (eqb-false first 0 t (sym (first-refuses later (eqb-false first 0 t)) ∙ e)))
+
+pub both-true : (a b : Bool) → a && b ≡ true → (a ≡ true) × (b ≡ true)
+both-true true b e = (refl, e)
+both-true false b e = absurd (true≢false (sym e))
 
 pub neither : (a b : Bool) → a || b ≡ false → (a ≡ false) × (b ≡ false)
 neither true b e = absurd (true≢false e)
