@@ -139,8 +139,9 @@ module _ {octet : ℕ} (h : octet < 256) where
 pub base-octet : (octet : ℕ) → isBase octet ≡ true → octet < 256
 base-octet octet h =
     elim (decLt octet 256) [
-      yes less ↦ less
-    | no above ↦ absurd (false≢true (sym (beyond (le-of-suc-le-suc (lt-of-not-le above))) ∙ h)) ]
+      | yes less ↦ less
+      | no above ↦ absurd (false≢true (sym (beyond (le-of-suc-le-suc (lt-of-not-le above))) ∙ h))
+    ]
 
 by-bool : (b x : Bool) → b ≡ true → T (not b || x) → T x
 by-bool true x h t = t
@@ -314,19 +315,24 @@ settled-limits octet channels order is none = rw is limits
   where
     passed : Settles octet channels order
     passed = settles-all octet channels order none
+
     sound : Sound (formatOf octet)
     sound = sound-format octet (passed .base)
+
     fits : channels ≤ formatOf octet .slots
     fits = rw (base-format octet (passed .base)) (passed .channels-to)
+
     used-in : channels * (formatOf octet .slots / channels) ≤ formatOf octet .slots
     used-in = mul-div-le (formatOf octet .slots) channels
+
     limits : Limits (settled octet channels order)
     limits =
         record {
-            sound = sound;
-            channels-from = passed .channels-from;
-            times-from = le-div-iff-mul-le (passed .channels-from) .1 (omega (arith, fits));
-            used-in = used-in;
-            used-to = omega (arith, used-in, sound .slots-to);
-            sample-to = sound .sample-to;
-            ancillary-to = sound .ancillary-to }
+          sound = sound;
+          channels-from = passed .channels-from;
+          times-from = le-div-iff-mul-le (passed .channels-from) .1 (omega (arith, fits));
+          used-in = used-in;
+          used-to = omega (arith, used-in, sound .slots-to);
+          sample-to = sound .sample-to;
+          ancillary-to = sound .ancillary-to;
+        }

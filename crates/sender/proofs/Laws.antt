@@ -21,42 +21,43 @@ use Rattle.formats.proofs.Laws.{refusal-of, settled-of, Settles, settles-all, s
 use Rattle.sender.specs.declared.Sender.{Sender}
 use Rattle.sender.specs.Packing.{Packable}
 use Rattle.sender.specs.Sender.{
-    zeroState,
-    openState,
-    openedOf,
-    numbersRefused,
-    stateRefusal,
-    timesNow,
-    usedNow,
-    allBelow,
-    lengthsRefused,
-    valuesRefused,
-    indicationRefused,
-    sendRefusal,
-    secondNow}
+  zeroState,
+  openState,
+  openedOf,
+  numbersRefused,
+  stateRefusal,
+  timesNow,
+  usedNow,
+  allBelow,
+  lengthsRefused,
+  valuesRefused,
+  indicationRefused,
+  sendRefusal,
+  secondNow,
+}
 
 -- checks 1 to 4, by the settings
 module _ {set : Settled} (octet channels order number : ℕ) (wanted : Bool) (second : ℕ)
     (given : set ≡ settingsOf octet channels order)
-    where
-  refusal-is : set .refusal ≡ settingsRefusal octet channels order
-  refusal-is = ap (λ (x : Settled). x .refusal) given ∙ refusal-of octet channels order
+  where
+    refusal-is : set .refusal ≡ settingsRefusal octet channels order
+    refusal-is = ap (λ (x : Settled). x .refusal) given ∙ refusal-of octet channels order
 
-  pub by-settings : (set .refusal ≡ 0 → ⊥) → set .refusal ≡ stateRefusal octet channels order number wanted second
-  unfolding stateRefusal
-  by-settings some = refusal-is ∙ sym (first-refuses _ (λ e. some (refusal-is ∙ e)))
-
-  module _ (none : set .refusal ≡ 0) where
-    pub settled-is : set ≡ settled octet channels order
-    settled-is = given ∙ settled-of octet channels order (sym refusal-is ∙ none)
-
-    pub by-numbers : {b : Bool} → b ≡ numbersRefused (set .format) number wanted second
-        → cond b 4 0 ≡ stateRefusal octet channels order number wanted second
+    pub by-settings : (set .refusal ≡ 0 → ⊥) → set .refusal ≡ stateRefusal octet channels order number wanted second
     unfolding stateRefusal
-    by-numbers e =
-        ap (λ (b : Bool). cond b 4 0)
-        (e ∙ ap (λ (x : Settled). numbersRefused (x .format) number wanted second) settled-is)
-        ∙ sym (then-later _ (sym refusal-is ∙ none))
+    by-settings some = refusal-is ∙ sym (first-refuses _ (λ e. some (refusal-is ∙ e)))
+
+    module _ (none : set .refusal ≡ 0) where
+      pub settled-is : set ≡ settled octet channels order
+      settled-is = given ∙ settled-of octet channels order (sym refusal-is ∙ none)
+
+      pub by-numbers : {b : Bool} → b ≡ numbersRefused (set .format) number wanted second
+          → cond b 4 0 ≡ stateRefusal octet channels order number wanted second
+      unfolding stateRefusal
+      by-numbers e =
+          ap (λ (b : Bool). cond b 4 0)
+          (e ∙ ap (λ (x : Settled). numbersRefused (x .format) number wanted second) settled-is)
+          ∙ sym (then-later _ (sym refusal-is ∙ none))
 
 -- what checks 1 to 4 leave where none refuses
 pub record StatePasses (octet channels order number second : ℕ) : Type 0 where
@@ -73,9 +74,10 @@ state-passes octet channels order number wanted second e =
     let first = neither (ltb 15 number) _ (fourth .0) in
     let next = neither (ltb 15 second) _ (first .1) in
     record {
-        settles = settles-all octet channels order (both .0);
-        number-to = ltb-false 15 number (first .0);
-        second-to = ltb-false 15 second (next .0) }
+      settles = settles-all octet channels order (both .0);
+      number-to = ltb-false 15 number (first .0);
+      second-to = ltb-false 15 second (next .0);
+    }
 
 -- an opening, refused and taken
 module _ (octet channels order number : ℕ) (wanted : Bool) (second : ℕ) where
@@ -117,117 +119,119 @@ below-each bound (x ∷ xs) some e (suc i) = below-each bound xs some (both-true
 -- checks 5 to 7 in their turn, by the settings
 module _ {set : Settled} (st : Sender) (indication : Bool) (samples ancillary : List ℕ) (room : ℕ)
     (given : set ≡ settingsOf (st .format) (st .channels) (st .order))
-    where
-  abbrev refusal : ℕ
-  refusal = sendRefusal st indication samples ancillary room
+  where
+    abbrev refusal : ℕ
+    refusal = sendRefusal st indication samples ancillary room
 
-  pub sends-first : {n : ℕ} → (n ≡ 0 → ⊥)
-      → n ≡ stateRefusal (st .format) (st .channels) (st .order) (st .number) (st .wanted) (st .second) → n ≡ refusal
-  unfolding sendRefusal
-  sends-first some e = e ∙ sym (first-refuses _ (λ z. some (e ∙ z)))
+    pub sends-first : {n : ℕ} → (n ≡ 0 → ⊥)
+        → n ≡ stateRefusal (st .format) (st .channels) (st .order) (st .number) (st .wanted) (st .second) → n ≡ refusal
+    unfolding sendRefusal
+    sends-first some e = e ∙ sym (first-refuses _ (λ z. some (e ∙ z)))
 
-  pub sends-settings : (set .refusal ≡ 0 → ⊥) → set .refusal ≡ refusal
-  sends-settings some =
-      sends-first some
-      (by-settings (st .format) (st .channels) (st .order) (st .number) (st .wanted) (st .second) given some)
+    pub sends-settings : (set .refusal ≡ 0 → ⊥) → set .refusal ≡ refusal
+    sends-settings some =
+        sends-first some
+        (by-settings (st .format) (st .channels) (st .order) (st .number) (st .wanted) (st .second) given some)
 
-  module _ (none : set .refusal ≡ 0) where
-    is : set ≡ settled (st .format) (st .channels) (st .order)
-    is = settled-is (st .format) (st .channels) (st .order) (st .number) (st .wanted) (st .second) given none
+    module _ (none : set .refusal ≡ 0) where
+      is : set ≡ settled (st .format) (st .channels) (st .order)
+      is = settled-is (st .format) (st .channels) (st .order) (st .number) (st .wanted) (st .second) given none
 
-    -- what the settings bound
-    pub limits : Limits set
-    limits = settled-limits (st .format) (st .channels) (st .order) is (sym refusal-here ∙ none)
-      where
-        refusal-here : set .refusal ≡ settingsRefusal (st .format) (st .channels) (st .order)
-        refusal-here = ap (λ (x : Settled). x .refusal) given ∙ refusal-of (st .format) (st .channels) (st .order)
+      -- what the settings bound
+      pub limits : Limits set
+      limits = settled-limits (st .format) (st .channels) (st .order) is (sym refusal-here ∙ none)
+        where
+          refusal-here : set .refusal ≡ settingsRefusal (st .format) (st .channels) (st .order)
+          refusal-here = ap (λ (x : Settled). x .refusal) given ∙ refusal-of (st .format) (st .channels) (st .order)
 
-    pub sends-4 : true ≡ numbersRefused (set .format) (st .number) (st .wanted) (st .second) → 4 ≡ refusal
-    sends-4 e =
-        sends-first (suc-ne-zero 3)
-        (by-numbers (st .format) (st .channels) (st .order) (st .number) (st .wanted) (st .second) given none e)
+      pub sends-4 : true ≡ numbersRefused (set .format) (st .number) (st .wanted) (st .second) → 4 ≡ refusal
+      sends-4 e =
+          sends-first (suc-ne-zero 3)
+          (by-numbers (st .format) (st .channels) (st .order) (st .number) (st .wanted) (st .second) given none e)
 
-    module _ (fourth : false ≡ numbersRefused (set .format) (st .number) (st .wanted) (st .second)) where
-      later : refusal
-          ≡ cond (lengthsRefused (set .channels * set .times) samples ancillary room) 5
-          (cond (valuesRefused (set .format) samples ancillary) 6 (cond (indicationRefused (st .number) indication) 7 0))
-      unfolding sendRefusal
-      later =
-          then-later _
-          (sym (by-numbers (st .format) (st .channels) (st .order) (st .number) (st .wanted) (st .second) given none fourth))
-          ∙ ap
-          (λ (x : Settled).
+      module _ (fourth : false ≡ numbersRefused (set .format) (st .number) (st .wanted) (st .second)) where
+        later : refusal
+            ≡ cond (lengthsRefused (set .channels * set .times) samples ancillary room) 5
+            (cond (valuesRefused (set .format) samples ancillary) 6 (cond (indicationRefused (st .number) indication) 7 0))
+        unfolding sendRefusal
+        later =
+            then-later _
+            (sym (by-numbers (st .format) (st .channels) (st .order) (st .number) (st .wanted) (st .second) given none fourth))
+            ∙ ap
+            (λ (x : Settled).
             cond (lengthsRefused (x .channels * x .times) samples ancillary room) 5
             (cond (valuesRefused (x .format) samples ancillary) 6 (cond (indicationRefused (st .number) indication) 7 0)))
-          (sym is)
+            (sym is)
 
-      pub sends-5 : true ≡ lengthsRefused (set .channels * set .times) samples ancillary room → 5 ≡ refusal
-      sends-5 e = sym (later ∙ rw (← e))
+        pub sends-5 : true ≡ lengthsRefused (set .channels * set .times) samples ancillary room → 5 ≡ refusal
+        sends-5 e = sym (later ∙ rw (← e))
 
-      module _ (fit : false ≡ lengthsRefused (set .channels * set .times) samples ancillary room) where
-        pub sends-6 : true ≡ valuesRefused (set .format) samples ancillary → 6 ≡ refusal
-        sends-6 e = sym (later ∙ rw (← fit, ← e))
+        module _ (fit : false ≡ lengthsRefused (set .channels * set .times) samples ancillary room) where
+          pub sends-6 : true ≡ valuesRefused (set .format) samples ancillary → 6 ≡ refusal
+          sends-6 e = sym (later ∙ rw (← fit, ← e))
 
-        module _ (small : false ≡ valuesRefused (set .format) samples ancillary) where
-          pub sends-7 : true ≡ indicationRefused (st .number) indication → 7 ≡ refusal
-          sends-7 e = sym (later ∙ rw (← fit, ← small, ← e))
+          module _ (small : false ≡ valuesRefused (set .format) samples ancillary) where
+            pub sends-7 : true ≡ indicationRefused (st .number) indication → 7 ≡ refusal
+            sends-7 e = sym (later ∙ rw (← fit, ← small, ← e))
 
-          pub sends-0 : false ≡ indicationRefused (st .number) indication → 0 ≡ refusal
-          sends-0 e = sym (later ∙ rw (← fit, ← small, ← e))
+            pub sends-0 : false ≡ indicationRefused (st .number) indication → 0 ≡ refusal
+            sends-0 e = sym (later ∙ rw (← fit, ← small, ← e))
 
 -- everything that packing asks, where nothing is refused
 module _ (st : Sender) (indication : Bool) (samples ancillary : List ℕ) (room : ℕ)
     (none : sendRefusal st indication samples ancillary room ≡ 0)
-    where
-  abbrev f : Format
-  f = formatOf (st .format)
+  where
+    abbrev f : Format
+    f = formatOf (st .format)
 
-  abbrev from-7 : ℕ
-  from-7 = cond (indicationRefused (st .number) indication) 7 0
+    abbrev from-7 : ℕ
+    from-7 = cond (indicationRefused (st .number) indication) 7 0
 
-  abbrev from-6 : ℕ
-  from-6 = cond (valuesRefused (formatOf (st .format)) samples ancillary) 6 from-7
+    abbrev from-6 : ℕ
+    from-6 = cond (valuesRefused (formatOf (st .format)) samples ancillary) 6 from-7
 
-  abbrev from-5 : ℕ
-  from-5 = cond (lengthsRefused (usedNow st) samples ancillary room) 5 from-6
+    abbrev from-5 : ℕ
+    from-5 = cond (lengthsRefused (usedNow st) samples ancillary room) 5 from-6
 
-  state-none : (stateRefusal (st .format) (st .channels) (st .order) (st .number) (st .wanted) (st .second) ≡ 0) × (from-5 ≡ 0)
-  unfolding sendRefusal
-  state-none = past-both _ _ none
+    state-none : (stateRefusal (st .format) (st .channels) (st .order) (st .number) (st .wanted) (st .second) ≡ 0) × (from-5 ≡ 0)
+    unfolding sendRefusal
+    state-none = past-both _ _ none
 
-  pub passes : StatePasses (st .format) (st .channels) (st .order) (st .number) (st .second)
-  passes = state-passes (st .format) (st .channels) (st .order) (st .number) (st .wanted) (st .second) (state-none .0)
+    pub passes : StatePasses (st .format) (st .channels) (st .order) (st .number) (st .second)
+    passes = state-passes (st .format) (st .channels) (st .order) (st .number) (st .wanted) (st .second) (state-none .0)
 
-  pub settings-none : settingsRefusal (st .format) (st .channels) (st .order) ≡ 0
-  unfolding stateRefusal
-  settings-none = past-both (settingsRefusal (st .format) (st .channels) (st .order)) _ (state-none .0) .0
+    pub settings-none : settingsRefusal (st .format) (st .channels) (st .order) ≡ 0
+    unfolding stateRefusal
+    settings-none = past-both (settingsRefusal (st .format) (st .channels) (st .order)) _ (state-none .0) .0
 
-  fifth : (lengthsRefused (usedNow st) samples ancillary room ≡ false) × (from-6 ≡ 0)
-  fifth = past (lengthsRefused (usedNow st) samples ancillary room) 4 from-6 (state-none .1)
+    fifth : (lengthsRefused (usedNow st) samples ancillary room ≡ false) × (from-6 ≡ 0)
+    fifth = past (lengthsRefused (usedNow st) samples ancillary room) 4 from-6 (state-none .1)
 
-  sixth : (valuesRefused (formatOf (st .format)) samples ancillary ≡ false) × (from-7 ≡ 0)
-  sixth = past (valuesRefused (formatOf (st .format)) samples ancillary) 5 from-7 (fifth .1)
+    sixth : (valuesRefused (formatOf (st .format)) samples ancillary ≡ false) × (from-7 ≡ 0)
+    sixth = past (valuesRefused (formatOf (st .format)) samples ancillary) 5 from-7 (fifth .1)
 
-  lengths : (room ≡ 48) × (length samples ≡ usedNow st) × (length ancillary ≡ usedNow st)
-  unfolding lengthsRefused
-  lengths =
-      let first = neither (not (eqb room 48)) _ (fifth .0) in
-      let next = neither (not (eqb (length samples) (usedNow st))) _ (first .1) in
-      (eqb-true room 48 (not-false _ (first .0)),
-      eqb-true (length samples) (usedNow st) (not-false _ (next .0)),
-      eqb-true (length ancillary) (usedNow st) (not-false _ (next .1)))
+    lengths : (room ≡ 48) × (length samples ≡ usedNow st) × (length ancillary ≡ usedNow st)
+    unfolding lengthsRefused
+    lengths =
+        let first = neither (not (eqb room 48)) _ (fifth .0) in
+        let next = neither (not (eqb (length samples) (usedNow st))) _ (first .1) in (
+          eqb-true room 48 (not-false _ (first .0)),
+          eqb-true (length samples) (usedNow st) (not-false _ (next .0)),
+          eqb-true (length ancillary) (usedNow st) (not-false _ (next .1)),
+        )
 
-  pub room-is : room ≡ 48
-  room-is = lengths .0
+    pub room-is : room ≡ 48
+    room-is = lengths .0
 
-  pub packable : Packable (settled (st .format) (st .channels) (st .order)) samples ancillary
-  unfolding valuesRefused
-  packable =
-      let bounds = settled-limits (st .format) (st .channels) (st .order) refl settings-none in
-      let values = neither (not (allBelow (2 ^ f .sample) samples)) _ (sixth .0) in
-      record {
+    pub packable : Packable (settled (st .format) (st .channels) (st .order)) samples ancillary
+    unfolding valuesRefused
+    packable =
+        let bounds = settled-limits (st .format) (st .channels) (st .order) refl settings-none in
+        let values = neither (not (allBelow (2 ^ f .sample) samples)) _ (sixth .0) in
+        record {
           limits = bounds;
           samples-length = lengths .1;
           ancillary-length = lengths .2;
           small = below-each (2 ^ f .sample) samples (pow-pos (f .sample)) (not-false _ (values .0));
-          few = below-each (2 ^ f .ancillary) ancillary (pow-pos (f .ancillary)) (not-false _ (values .1)) }
+          few = below-each (2 ^ f .ancillary) ancillary (pow-pos (f .ancillary)) (not-false _ (values .1));
+        }

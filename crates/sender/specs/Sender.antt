@@ -33,13 +33,14 @@ zeroState =
 abbrev pub openState : ℕ → ℕ → ℕ → ℕ → Bool → ℕ → Sender
 openState octet channels order number wanted second =
     record {
-        format = octet;
-        channels = channels;
-        order = order;
-        number = number;
-        wanted = wanted;
-        second = second;
-        sent = false }
+      format = octet;
+      channels = channels;
+      order = order;
+      number = number;
+      wanted = wanted;
+      second = second;
+      sent = false;
+    }
 
 unfoldable pub openedOf : ℕ → ℕ → ℕ → ℕ → Bool → ℕ → Sent
 openedOf octet channels order number wanted second =
@@ -87,13 +88,14 @@ secondNow st indication = cond (st .wanted && (indication && st .sent)) ((st .se
 unfoldable pub after : Sender → Bool → Sender
 after st indication =
     record {
-        format = st .format;
-        channels = st .channels;
-        order = st .order;
-        number = (st .number + 1) % 16;
-        wanted = st .wanted;
-        second = secondNow st indication;
-        sent = true }
+      format = st .format;
+      channels = st .channels;
+      order = st .order;
+      number = (st .number + 1) % 16;
+      wanted = st .wanted;
+      second = secondNow st indication;
+      sent = true;
+    }
 
 -- the cell that a sender in this state writes
 unfoldable pub cellNow : Sender → Bool → List ℕ → List ℕ → List ℕ

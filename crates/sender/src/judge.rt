@@ -3,18 +3,18 @@ ghost use mathlib.Core.Path.{_≡_};
 ghost use Prim.Native.Nat.{_≤_};
 ghost use Rattle.formats.specs.Formats.{settingsOf};
 ghost use Rattle.sender.specs.Sender.{
-    numbersRefused,
-    stateRefusal,
-    allBelow,
-    lengthsRefused,
-    valuesRefused,
-    indicationRefused,
-    sendRefusal,
-    secondNow,
+  numbersRefused,
+  stateRefusal,
+  allBelow,
+  lengthsRefused,
+  valuesRefused,
+  indicationRefused,
+  sendRefusal,
+  secondNow,
 };
-
 use crate::Sender;
-use formats::{Format, Settled};
+use formats::Format;
+use formats::Settled;
 
 // Check 4, of numbers as they stand.
 pub(crate) fn numbers(format: Format, number: u32, wanted: bool, second: u32) -> bool
@@ -36,7 +36,14 @@ pub(crate) fn numbers(format: Format, number: u32, wanted: bool, second: u32) ->
 }
 
 // Checks 1 to 4.
-pub(crate) fn state_refusal(octet: u32, channels: u32, order: u32, number: u32, wanted: bool, second: u32) -> u8
+pub(crate) fn state_refusal(
+    octet: u32,
+    channels: u32,
+    order: u32,
+    number: u32,
+    wanted: bool,
+    second: u32,
+) -> u8
     ensures { λ r. ⌜ r ≡ stateRefusal octet channels order number wanted second ⌝ }
 {
     let set = formats::settings(octet, channels, order);
@@ -135,7 +142,12 @@ pub(crate) fn send_refusal(
         return refusal;
     }
     let format = set.format;
-    if numbers(format, state.number as u32, state.wanted, state.second as u32) {
+    if numbers(
+        format,
+        state.number as u32,
+        state.wanted,
+        state.second as u32,
+    ) {
         return 4;
     }
     if lengths_refused(set.channels * set.times, samples, ancillary, room) {

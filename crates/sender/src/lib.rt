@@ -25,7 +25,14 @@ pub struct Sent {
 
 // A sender that has sent nothing yet, its first cell to have the number `number` and to carry `second`. Refused: 1 to 4, and the
 // state is then all zeros.
-pub fn opened(format: u32, channels: u32, order: u32, number: u32, wanted: bool, second: u32) -> Sent
+pub fn opened(
+    format: u32,
+    channels: u32,
+    order: u32,
+    number: u32,
+    wanted: bool,
+    second: u32,
+) -> Sent
     ensures { λ r. ⌜ r ≡ openedOf format channels order number wanted second ⌝ }
 {
     let refusal = judge::state_refusal(format, channels, order, number, wanted, second);
@@ -59,16 +66,33 @@ pub fn opened(format: u32, channels: u32, order: u32, number: u32, wanted: bool,
 
 // Writes the next cell: C×T samples and ancillary numbers, time after time, go into the 48 octets of `cell`. Refused: 1 to 7, and
 // then the state comes back as it went in and the cell is not written.
-pub fn send(state: Sender, indication: bool, samples: &[u64], ancillary: &[u8], cell: &mut [u8]) -> Sent
+pub fn send(
+    state: Sender,
+    indication: bool,
+    samples: &[u64],
+    ancillary: &[u8],
+    cell: &mut [u8],
+) -> Sent
     ensures { λ r. ⌜ Sends state indication (now (samples .entry)) (now (ancillary .entry)) (now (cell .entry)) r (now (cell .exit)) ⌝ }
 {
-    let set = formats::settings(state.format as u32, state.channels as u32, state.order as u32);
+    let set = formats::settings(
+        state.format as u32,
+        state.channels as u32,
+        state.order as u32,
+    );
     let refusal = judge::send_refusal(set, state, indication, samples, ancillary, cell.len());
     if refusal != 0 {
         return Sent { refusal, state };
     }
     let second = judge::second_now(state, indication);
-    pack::pack(set, numbers::entry_of(state.number), second, samples, ancillary, cell);
+    pack::pack(
+        set,
+        numbers::entry_of(state.number),
+        second,
+        samples,
+        ancillary,
+        cell,
+    );
     Sent {
         refusal: 0,
         state: Sender {

@@ -8,8 +8,8 @@ ghost use Rattle.formats.specs.Sound.{Sound};
 ghost use Rattle.cells.specs.Cells.{subframeOf};
 ghost use Rattle.cells.specs.Placement.{entryOfSlot};
 ghost use Rattle.sender.specs.Packing.{Packable, packed, slotSubframe};
-
-use formats::{Format, Settled};
+use formats::Format;
+use formats::Settled;
 
 // One subframe as a number.
 fn subframe(format: Format, sample: u64, ancillary: u64, bit: u64) -> u64
@@ -36,7 +36,14 @@ fn entry_of_slot(by_channel: bool, channels: usize, times: usize, slot: usize) -
 }
 
 // The subframe of one slot.
-fn slot_subframe(set: Settled, word: u8, second: u8, samples: &[u64], ancillary: &[u8], slot: usize) -> u64
+fn slot_subframe(
+    set: Settled,
+    word: u8,
+    second: u8,
+    samples: &[u64],
+    ancillary: &[u8],
+    slot: usize,
+) -> u64
     requires { ⌜ Packable set (now samples) (now ancillary) ⌝ }
     ensures { λ r. ⌜ r ≡ slotSubframe set word second (now (samples .entry)) (now (ancillary .entry)) slot ⌝ }
 {
@@ -61,7 +68,14 @@ fn put(cell: &mut [u8], at: usize, width: usize, number: u64)
     }
 }
 
-pub(crate) fn pack(set: Settled, word: u8, second: u8, samples: &[u64], ancillary: &[u8], cell: &mut [u8])
+pub(crate) fn pack(
+    set: Settled,
+    word: u8,
+    second: u8,
+    samples: &[u64],
+    ancillary: &[u8],
+    cell: &mut [u8],
+)
     requires { ⌜ Packable set (now samples) (now ancillary) × (length (now cell) ≡ 48) ⌝ }
     ensures { λ r. ⌜ now (cell .exit) ≡ packed set word second (now (samples .entry)) (now (ancillary .entry)) ⌝ }
 {

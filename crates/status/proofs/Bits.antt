@@ -1,8 +1,7 @@
 -- The octets of a block of which k bits have come, and that putting in bit k brings them on.
 -- Assumes nothing.
-use mathlib.Core.Bool.{Bool, true, false}
 use mathlib.Core.List.{List}
-use mathlib.Core.Path.{_≡_, refl, sym, _∙_, ap, subst}
+use mathlib.Core.Path.{_≡_, sym, _∙_, ap, subst}
 use Prim.Native.Nat.{ℕ, suc, _+_, _-_, _*_, _/_, _%_, _^_, _<_}
 use native.Mathlib.Nat.{mod-lt, mod-one, mod-eq-of-lt, div-eq-of-lt, zero-mul, mul-comm, pow-suc}
 use native.Mathlib.Omega.{arith}
@@ -12,14 +11,9 @@ use lib.Dec.{eqb}
 use lib.ListN.{length, getD, set, length-set, length-replicate, getD-replicate}
 use lib.Pow.{pow-pos}
 use lib.Seq.{ext-getD, getD-set-same, getD-set-other}
-use Rattle.runs.proofs.Laws.{length-tab, getD-tab}
+use Rattle.runs.proofs.Laws.{length-tab, getD-tab, split}
 use Rattle.runs.specs.Runs.{tab}
 use Rattle.status.specs.Bits.{bitOf, octetWith, withBit, zeros}
-
--- by what a test says
-pub by-test : {P : Type 0} (t : Bool) → (t ≡ true → P) → (t ≡ false → P) → P
-by-test true yes′ no′ = yes′ refl
-by-test false yes′ no′ = no′ refl
 
 -- the low j bits and bit j are the low j + 1 bits
 octet-more : (x j : ℕ) → octetWith (x % 2 ^ j) j (x / 2 ^ j % 2) ≡ x % 2 ^ suc j
@@ -64,7 +58,7 @@ module _ (xs : List ℕ) where
   upTo-more k h =
       ext-getD 0 (set (upTo xs k) (k / 8) new) (upTo xs (suc k)) (length-set (upTo xs k) (k / 8) new ∙ length-upTo k ∙ sym (length-upTo (suc k))) (λ i l.
       let i< : i < 24 = omega (arith, length-upTo k, length-set (upTo xs k) (k / 8) new, l) in
-      by-test (eqb i (k / 8)) (λ e. same i i< (eqb-true i (k / 8) e)) (λ e. other i i< (eqb-false i (k / 8) e)))
+      split (eqb i (k / 8)) (λ e. same i i< (eqb-true i (k / 8) e)) (λ e. other i i< (eqb-false i (k / 8) e)))
     where
       new : ℕ
       new = octetWith (getD (upTo xs k) (k / 8) 0) (k % 8) (getD xs (k / 8) 0 / 2 ^ (k % 8) % 2)

@@ -11,13 +11,14 @@ use native.Mathlib.Omega.{arith}
 use borrow.Author.Tests.{ne-eqb, eqb-true, eqb-false}
 use lib.Dec.{eqb}
 use lib.ListN.{getD}
+use Rattle.runs.proofs.Laws.{split}
 use Rattle.status.specs.Bits.{bitOf, withBit}
 use Rattle.status.specs.Check.{checkCharacter}
 use Rattle.status.specs.Sender.{blockAfter, broughtBy, broughtOut, Octets, Sends}
 use Rattle.status.specs.Step.{stepOf, isRefused, unfinished, finished, addedTo, fitOf, noBlock, bOf, cOf}
 use Rattle.status.specs.declared.step.Block.{Block}
 use Rattle.status.specs.declared.step.Stepped.{Stepped}
-use Rattle.status.proofs.Bits.{upTo, upTo-none, upTo-more, upTo-all, by-test}
+use Rattle.status.proofs.Bits.{upTo, upTo-none, upTo-more, upTo-all}
 use Rattle.status.proofs.Steps.{step-dropped, step-begun, step-idle, step-added, added-more, added-last, within-taken}
 
 -- ---- one step that finishes no block
@@ -27,7 +28,7 @@ brought-none s block e = rw e
 
 fit-said : (octets : List ℕ) → eqb (fitOf octets) 0 ≡ false
 unfolding fitOf
-fit-said octets = by-test (eqb (getD octets 23 0) (checkCharacter octets)) (λ e. rw e) (λ e. rw e)
+fit-said octets = split (eqb (getD octets 23 0) (checkCharacter octets)) (λ e. rw e) (λ e. rw e)
 
 brought-one : (octets : List ℕ) → broughtBy (finished octets) ≡ (fitOf octets, octets) ∷ []
 unfolding broughtBy
@@ -54,21 +55,21 @@ module _ (block : Block) (a m : ℕ) (a≤ : a ≤ 15) (m≤ : m ≤ 2) (bits≤
 
   beginning : bOf a ≡ 1 → Goes block a m 1
   beginning b =
-      by-test (eqb m 2)
+      split (eqb m 2)
       (λ e. weaker (dropping (eqb-true m 2 e)) (omega arith))
       (λ e. record { left = _; goes = step-begun block a m taken (eqb-false m 2 e) b; few = omega arith })
 
   waiting : bOf a ≡ 0 → block .bits ≡ 0 → Goes block a m 0
   waiting b none =
-      by-test (eqb m 2)
+      split (eqb m 2)
       (λ e. dropping (eqb-true m 2 e))
       (λ e. record { left = block; goes = step-idle block a m taken (eqb-false m 2 e) (omega arith) none; few = omega arith })
 
   adding : (n : ℕ) → bOf a ≡ 0 → block .bits ≤ n → n < 191 → Goes block a m (suc n)
   adding n b few n< =
-      by-test (eqb (block .bits) 0)
+      split (eqb (block .bits) 0)
       (λ e. weaker (waiting b (eqb-true (block .bits) 0 e)) (omega arith))
-      (λ e. by-test (eqb m 2)
+      (λ e. split (eqb m 2)
       (λ d. weaker (dropping (eqb-true m 2 d)) (omega arith))
       (λ d. record {
         left = _;
@@ -106,7 +107,7 @@ module _ (block : Block) (octets : List ℕ) (a m : ℕ → ℕ) (begun : block 
       let b = blockAfter block a m n in
       let within = sends .within n (omega arith) in
       emptied b (a n) (m n)
-      (by-test (eqb n j)
+      (split (eqb n j)
       (λ e. dropping b (a n) (m n) within (marks n (omega arith)) (bits-at n (omega arith)) (ap m (eqb-true n j e) ∙ two))
       (λ e.
       let later : j < n = omega (arith, eqb-false n j e) in
@@ -117,7 +118,7 @@ module _ (block : Block) (octets : List ℕ) (a m : ℕ → ℕ) (begun : block 
   last-none j two l =
       let b = blockAfter block a m 191 in
       let within = sends .within 191 (omega arith) in
-      by-test (eqb j 191)
+      split (eqb j 191)
       (λ e. dropping b (a 191) (m 191) within (marks 191 (omega arith)) (bits-at 191 (omega arith)) (ap m (sym (eqb-true j 191 e)) ∙ two))
       (λ e.
       let sooner : j < 191 = omega (arith, eqb-false j 191 e) in
@@ -193,8 +194,8 @@ bit-lt octets k = omega arith
 -- There is such a sender for every block.
 pub sends-any : (octets : List ℕ) → Sends octets (λ k. cond (eqb k 0) 8 0 + bitOf octets k * 4)
 sends-any octets = record {
-  within = λ k h. by-test (eqb k 0) (λ e. rw e (omega (arith, bit-lt octets k))) (λ e. rw e (omega (arith, bit-lt octets k)));
+  within = λ k h. split (eqb k 0) (λ e. rw e (omega (arith, bit-lt octets k))) (λ e. rw e (omega (arith, bit-lt octets k)));
   first = omega (arith, bit-lt octets 0);
   alone = λ k p h. rw (ne-eqb k 0 (λ e. omega (arith, e))) (omega (arith, bit-lt octets k));
-  carries = λ k h. by-test (eqb k 0) (λ e. rw e (omega (arith, bit-lt octets k))) (λ e. rw e (omega (arith, bit-lt octets k)));
+  carries = λ k h. split (eqb k 0) (λ e. rw e (omega (arith, bit-lt octets k))) (λ e. rw e (omega (arith, bit-lt octets k)));
 }

@@ -12,8 +12,8 @@ use lib.Dec.{eqb, ltb}
 use lib.ListN.{length, getD, set}
 use lib.Pow.{pow-add, pow-pos, shr-shr}
 use lib.Seq.{getD-set-same, getD-set-other}
+use Rattle.runs.proofs.Laws.{split}
 use Rattle.status.specs.Bits.{bitOf, octetWith, withBit}
-use Rattle.status.proofs.Bits.{by-test}
 
 -- ---- a bit j of a number, by a place k
 -- what stands above a higher place doesn't matter
@@ -65,20 +65,20 @@ module _ (x k c : ℕ) where
 
   bit-other : c < 2 → (j : ℕ) → (j ≡ k → ⊥) → octetWith x k c / 2 ^ j % 2 ≡ x / 2 ^ j % 2
   bit-other h j other =
-      by-test (ltb j k) (λ t. bit-below j (ltb-true j k t)) (λ t. bit-above h j (omega (arith, ltb-false j k t)))
+      split (ltb j k) (λ t. bit-below j (ltb-true j k t)) (λ t. bit-above h j (omega (arith, ltb-false j k t)))
 
 -- Bit k is the one put in, and each other bit is as it was.
 pub bit-put : (octets : List ℕ) (k c i : ℕ) → length octets ≡ 24 → k < 192 → c < 2 → bitOf (withBit octets k c) i ≡ cond (eqb i k) c (bitOf octets i)
 unfolding bitOf withBit
 bit-put octets k c i long k< c< =
-    by-test (eqb (i / 8) (k / 8))
+    split (eqb (i / 8) (k / 8))
     (λ t.
     let same : i / 8 ≡ k / 8 = eqb-true (i / 8) (k / 8) t in
     let x = getD octets (k / 8) 0 in
     let here : getD (set octets (k / 8) (octetWith x (k % 8) c)) (i / 8) 0 ≡ octetWith x (k % 8) c =
     ap (λ (n : ℕ). getD (set octets (k / 8) (octetWith x (k % 8) c)) n 0) same ∙ getD-set-same octets (k / 8) _ 0 (omega arith) in
     ap (λ (y : ℕ). y / 2 ^ (i % 8) % 2) here
-    ∙ by-test (eqb i k)
+    ∙ split (eqb i k)
     (λ e. rw e (ap (λ (n : ℕ). octetWith x (k % 8) c / 2 ^ (n % 8) % 2) (eqb-true i k e) ∙ bit-same x (k % 8) c c<))
     (λ e.
     let apart : i % 8 ≡ k % 8 → ⊥ = λ f. eqb-false i k e (omega arith) in

@@ -1,22 +1,15 @@
 -- Each kind of step, by what was given to it.
 -- Assumes nothing.
-use mathlib.Core.Bool.{Bool, true, false, _||_}
+use mathlib.Core.Bool.{true, false, _||_}
 use mathlib.Core.List.{List}
 use mathlib.Core.Path.{_≡_}
 use Prim.Native.Nat.{ℕ, _+_, _≤_, _<_}
-use native.Mathlib.Omega.{arith}
 use borrow.Author.Tests.{ltb-false, eq-eqb, ne-eqb, lt-ltb, le-ltb}
 use lib.Dec.{ltb}
+use Rattle.runs.proofs.Laws.{neither}
 use Rattle.status.specs.Bits.{withBit, zeros}
 use Rattle.status.specs.Step.{stepOf, isRefused, unfinished, noBlock, finished, addedTo, bOf, cOf}
 use Rattle.status.specs.declared.step.Block.{Block}
-
-or-right : (s t : Bool) → s || t ≡ false → t ≡ false
-or-right true t e = absurd (true≢false e)
-  where
-    true≢false : true ≡ false → ⊥
-    true≢false f = let z : _≡_ {A = ℕ} 0 1 = cc in omega arith
-or-right false t e = e
 
 module _ (block : Block) (a m : ℕ) where
   pub step-refused : isRefused (block .bits) a m ≡ true → stepOf block a m ≡ unfinished 14 block
@@ -53,7 +46,7 @@ added-last bits octets h = rw (le-ltb bits 191 h)
 -- what isn't refused is within bounds
 pub taken-bits : (bits a m : ℕ) → isRefused bits a m ≡ false → bits ≤ 191
 unfolding isRefused
-taken-bits bits a m e = ltb-false 191 bits (or-right (ltb 15 a) (ltb 191 bits) (or-right (ltb 2 m) (ltb 15 a || ltb 191 bits) e))
+taken-bits bits a m e = ltb-false 191 bits (neither (ltb 15 a) (ltb 191 bits) (neither (ltb 2 m) (ltb 15 a || ltb 191 bits) e .1) .1)
 
 pub within-taken : (bits a m : ℕ) → bits ≤ 191 → a ≤ 15 → m ≤ 2 → isRefused bits a m ≡ false
 unfolding isRefused

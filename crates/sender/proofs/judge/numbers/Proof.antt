@@ -16,20 +16,22 @@ returns-2 c = rw (le-ltb _ _ (c .before .if1 .left), lt-ltb _ _ (c .if2 .taken))
 returns-3 : tie.Need-returns-3
 unfolding numbersRefused
 returns-3 c =
-    rw
-    (le-ltb _ _ (c .before .before .before .before .if1 .left),
-    le-ltb _ _ (c .before .before .before .if2 .left),
-    c .before .before .if3 .taken,
-    eq-eqb _ _ (c .if4 .taken))
+    rw (
+      le-ltb _ _ (c .before .before .before .before .if1 .left),
+      le-ltb _ _ (c .before .before .before .if2 .left),
+      c .before .before .if3 .taken,
+      eq-eqb _ _ (c .if4 .taken),
+    )
 
 returns-4 : tie.Need-returns-4
 unfolding numbersRefused
 returns-4 c =
-    rw
-    (le-ltb _ _ (c .before .before .before .before .before .if1 .left),
-    le-ltb _ _ (c .before .before .before .before .if2 .left),
-    c .before .before .before .if3 .taken,
-    ne-eqb _ _ (c .before .if4 .left))
+    rw (
+      le-ltb _ _ (c .before .before .before .before .before .if1 .left),
+      le-ltb _ _ (c .before .before .before .before .if2 .left),
+      c .before .before .before .if3 .taken,
+      ne-eqb _ _ (c .before .if4 .left),
+    )
 
 returns-5 : tie.Need-returns-5
 unfolding numbersRefused

@@ -37,11 +37,12 @@ loop-less : tie.Need-loop-less Inv-loop μ-loop
 loop-less c = omega arith
 
 loop-again : tie.Need-loop-again Inv-loop μ-loop
-loop-again c =
-    (omega arith,
-    c .before .before .before .before .loop .inv .1
-    ∙ below-on (c .before .before .before .before .before .before .args .bound) (now (c .before .before .before .before .before .before .args .run)) (c .before .before .before .loop-test .taken) (rw (c .before .wide .ensures) at (c .if1 .left))
-    ∙ ap (λ (n : ℕ). allBelow (c .before .before .before .before .before .before .args .bound) (drop n (now (c .before .before .before .before .before .before .args .run)))) (sym (add-one (c .before .before .before .before .loop .i))))
+loop-again c = (
+  omega arith,
+  c .before .before .before .before .loop .inv .1
+      ∙ below-on (c .before .before .before .before .before .before .args .bound) (now (c .before .before .before .before .before .before .args .run)) (c .before .before .before .loop-test .taken) (rw (c .before .wide .ensures) at (c .if1 .left))
+      ∙ ap (λ (n : ℕ). allBelow (c .before .before .before .before .before .before .args .bound) (drop n (now (c .before .before .before .before .before .before .args .run)))) (sym (add-one (c .before .before .before .before .loop .i))),
+)
 
 returns-2 : tie.Need-returns-2 Inv-loop μ-loop
 returns-2 c = below-end (c .before .before .before .args .bound) (now (c .before .before .before .args .run)) (c .before .loop .i) (c .loop-test .left) ∙ sym (c .before .loop .inv .1)

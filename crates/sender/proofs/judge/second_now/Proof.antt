@@ -19,10 +19,11 @@ returns-2 c =
 returns-3 : tie.Need-returns-3
 unfolding secondNow
 returns-3 c =
-    rw
-    (not-false (c .before .before .before .before .before .args .state .wanted) (c .before .before .before .if1 .left),
-    not-false (c .before .before .before .before .before .args .indication) (c .before .before .if2 .left),
-    not-true (c .before .before .before .before .before .args .state .sent) (c .if3 .taken))
+    rw (
+      not-false (c .before .before .before .before .before .args .state .wanted) (c .before .before .before .if1 .left),
+      not-false (c .before .before .before .before .before .args .indication) (c .before .before .if2 .left),
+      not-true (c .before .before .before .before .before .args .state .sent) (c .if3 .taken),
+    )
 
 wrapping-add-u8-requires : tie.Need-wrapping-add-u8-requires
 wrapping-add-u8-requires c κs = search needs
@@ -30,10 +31,11 @@ wrapping-add-u8-requires c κs = search needs
 returns-4 : tie.Need-returns-4
 unfolding secondNow
 returns-4 c =
-    rw
-    (not-false (c .before .before .before .before .before .before .args .state .wanted) (c .before .before .before .before .if1 .left),
-    not-false (c .before .before .before .before .before .before .args .indication) (c .before .before .before .if2 .left),
-    not-false (c .before .before .before .before .before .before .args .state .sent) (c .before .if3 .left))
+    rw (
+      not-false (c .before .before .before .before .before .before .args .state .wanted) (c .before .before .before .before .if1 .left),
+      not-false (c .before .before .before .before .before .before .args .indication) (c .before .before .before .if2 .left),
+      not-false (c .before .before .before .before .before .before .args .state .sent) (c .before .if3 .left),
+    )
     (omega (arith, c .wrapping-add-u8 .ensures))
 
 pub second-now-spec : {M : Type 1} → statement M
