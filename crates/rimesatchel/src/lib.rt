@@ -1,0 +1,1 @@
+mod statuses; // statuses.rt: a step of channel status, and the check character
