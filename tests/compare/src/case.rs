@@ -17,6 +17,12 @@ pub enum Kind {
     Linelist,
 }
 
+impl Kind {
+    pub fn name(self) -> &'static str {
+        KINDS.iter().find(|row| row.0 == self).map_or("", |row| row.1)
+    }
+}
+
 /// Kind, name, and the fields in and out: n a number, r a run of numbers or a state, o octets.
 const KINDS: [(Kind, &str, &str, &str); 9] = [
     (Kind::SenderOpen, "sender_open", "nnnnnn", "nr"),
@@ -171,7 +177,6 @@ pub fn fields(values: &[Value]) -> String {
 
 impl fmt::Display for Case {
     fn fmt(&self, out: &mut fmt::Formatter) -> fmt::Result {
-        let name = KINDS.iter().find(|row| row.0 == self.kind).map_or("", |row| row.1);
-        write!(out, "{name} {}", fields(&self.inputs))
+        write!(out, "{} {}", self.kind.name(), fields(&self.inputs))
     }
 }
