@@ -94,7 +94,9 @@ fn expected(fates: &[Fate], sent: &[Vec<Entry>]) -> Vec<Entry> {
     let first = fates.iter().position(|&fate| fate == Fate::Whole).unwrap_or(0);
     let end = fates.iter().rposition(|&fate| fate == Fate::Whole).map_or(0, |last| last + 1);
     let places = fates[first..end].iter().zip(&sent[first..end]);
-    places.flat_map(|(&fate, entries)| if fate == Fate::Whole { entries.clone() } else { vec![MISSING; entries.len()] }).collect()
+    places
+        .flat_map(|(&fate, entries)| if fate == Fate::Whole { entries.clone() } else { vec![MISSING; entries.len()] })
+        .collect()
 }
 
 struct Ends {
@@ -147,7 +149,8 @@ fn play(mut ends: Ends, fates: &[Fate]) -> Result<usize, String> {
     let mut sent = vec![];
     let mut handed = vec![];
     for &fate in fates {
-        let entries: Vec<Entry> = (0..call.entries()).map(|_| [call.sample(&mut random), random.below(16), 0]).collect();
+        let entries: Vec<Entry> =
+            (0..call.entries()).map(|_| [call.sample(&mut random), random.below(16), 0]).collect();
         let mut cell = ends.send(&entries).ok_or("a cell was refused by the sender")?;
         sent.push(entries);
         match fate {
@@ -167,9 +170,9 @@ fn play(mut ends: Ends, fates: &[Fate]) -> Result<usize, String> {
 
 /// A format's readings with a few C and both orders: true where all come out right.
 fn play_format(who: &str, answer: Answerer, (format, slots): (u64, usize), fates: &[Fate]) -> bool {
-    let calls = [1, 2, 3, 5, slots - 1, slots].into_iter().flat_map(|channels| {
-        [0, 1].map(|order| Call { format, slots, channels, order })
-    });
+    let calls = [1, 2, 3, 5, slots - 1, slots]
+        .into_iter()
+        .flat_map(|channels| [0, 1].map(|order| Call { format, slots, channels, order }));
     let (mut readings, mut entries) = (0, 0);
     for call in calls {
         let Some(ends) = Ends::open(answer, call) else {

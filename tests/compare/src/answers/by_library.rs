@@ -96,8 +96,7 @@ fn receive(case: &Case) -> Option<Answer> {
     let mut report = [LEFT_OVER; 4];
     let refusal = face::receive(&mut state, case.octets(1), case.yes(2), runs, &mut report);
     let (ancillary, marks) = (wide(&ancillary.back()), wide(&marks.back()));
-    let mut answer =
-        values![u64::from(refusal), &wide(&state)[..], &samples.back()[..], &ancillary[..], &marks[..]];
+    let mut answer = values![u64::from(refusal), &wide(&state)[..], &samples.back()[..], &ancillary[..], &marks[..]];
     answer.extend(report.map(|number| Value::Number(number.into())));
     Some(answer)
 }

@@ -19,7 +19,9 @@ pub fn by_plain(case: &Case) -> Answer {
 }
 
 fn sender_of(state: &[u64]) -> Sender {
-    let [format, channels, order, number, wanted, second, sent] = *state else { panic!("a sender's state has 7 fields") };
+    let [format, channels, order, number, wanted, second, sent] = *state else {
+        panic!("a sender's state has 7 fields")
+    };
     Sender { format, channels, order, number, wanted: wanted != 0, second, sent: sent != 0 }
 }
 
@@ -69,18 +71,19 @@ fn send(case: &Case) -> Answer {
 fn receive(case: &Case) -> Answer {
     let (state, indication) = (case.run(0), case.yes(2));
     let mut runs = [3, 4, 5].map(|field| case.run(field).to_vec());
-    let (refusal, after, report) = match receiver_of(state).receive(case.octets(1), [0, 1, 2].map(|run| runs[run].len())) {
-        Ok((after, received)) => {
-            for (at, entry) in received.entries.iter().enumerate() {
-                runs[0][at] = entry.sample;
-                runs[1][at] = entry.ancillary;
-                runs[2][at] = entry.mark;
+    let (refusal, after, report) =
+        match receiver_of(state).receive(case.octets(1), [0, 1, 2].map(|run| runs[run].len())) {
+            Ok((after, received)) => {
+                for (at, entry) in received.entries.iter().enumerate() {
+                    runs[0][at] = entry.sample;
+                    runs[1][at] = entry.ancillary;
+                    runs[2][at] = entry.mark;
+                }
+                let report = [received.missing, received.number, received.second, u64::from(indication)];
+                (0, receiver_state(&after).to_vec(), report)
             }
-            let report = [received.missing, received.number, received.second, u64::from(indication)];
-            (0, receiver_state(&after).to_vec(), report)
-        }
-        Err(refusal) => (u64::from(refusal), state.to_vec(), [0; 4]),
-    };
+            Err(refusal) => (u64::from(refusal), state.to_vec(), [0; 4]),
+        };
     let mut answer = values![refusal, &after[..], &runs[0][..], &runs[1][..], &runs[2][..]];
     answer.extend(report.map(Value::from));
     answer

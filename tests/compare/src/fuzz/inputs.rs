@@ -82,7 +82,8 @@ pub fn samples(shape: &Shape, count: usize, chances: u64, random: &mut Random) -
     let bits = shape.format.sample_bits;
     let mut run: Vec<u64> = (0..count).map(|_| sample(bits, random)).collect();
     if count > 0 && random.one_in(chances) {
-        let too_large = [1 << bits, u64::MAX, 1 << 63, (1 << bits) | random.below(1 << bits), random.number() | 1 << 41];
+        let too_large =
+            [1 << bits, u64::MAX, 1 << 63, (1 << bits) | random.below(1 << bits), random.number() | 1 << 41];
         run[random.place(count)] = random.pick(&too_large);
     }
     run
