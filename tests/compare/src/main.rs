@@ -22,17 +22,24 @@ compare replay SEED SCENARIO [LINELIST]
                                  play one scenario of a fuzz run again
 compare story                    play demand 3: a sender, a line that drops and spoils, a receiver";
 
+/// The program, if it stands there: while the crates grow it may not be built yet.
+fn built(program: &str) -> Option<&Path> {
+    let path = Path::new(program);
+    if !path.exists() {
+        println!("{program} does not exist: no listing is compared with it");
+    }
+    Some(path).filter(|path| path.exists())
+}
+
 fn run(words: &[&str]) -> Result<bool, Box<dyn Error>> {
     match words {
         ["vectors", folder] => vectors::run(Path::new(folder), None),
-        ["vectors", folder, program] => vectors::run(Path::new(folder), Some(Path::new(program))),
+        ["vectors", folder, program] => vectors::run(Path::new(folder), built(program)),
         ["fuzz", count] => Ok(fuzz::run(count.parse()?, DEFAULT_SEED, None)),
         ["fuzz", count, seed] => Ok(fuzz::run(count.parse()?, seed.parse()?, None)),
-        ["fuzz", count, seed, program] => Ok(fuzz::run(count.parse()?, seed.parse()?, Some(Path::new(program)))),
+        ["fuzz", count, seed, program] => Ok(fuzz::run(count.parse()?, seed.parse()?, built(program))),
         ["replay", seed, scenario] => Ok(fuzz::replay(seed.parse()?, scenario.parse()?, None)),
-        ["replay", seed, scenario, program] => {
-            Ok(fuzz::replay(seed.parse()?, scenario.parse()?, Some(Path::new(program))))
-        }
+        ["replay", seed, scenario, program] => Ok(fuzz::replay(seed.parse()?, scenario.parse()?, built(program))),
         ["story"] => Ok(story::run()),
         _ => Err(USAGE.into()),
     }

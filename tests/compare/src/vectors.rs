@@ -70,10 +70,6 @@ fn run_file(file: &Path, program: Option<&Path>) -> Fallible<bool> {
 
 /// True where no line of any file differs.
 pub fn run(folder: &Path, program: Option<&Path>) -> Fallible<bool> {
-    let program = program.filter(|path| path.exists());
-    if program.is_none() {
-        println!("no program linelist: its lines are run by the plain implementation alone");
-    }
     let mut files: Vec<PathBuf> = fs::read_dir(folder)?.map(|entry| Ok(entry?.path())).collect::<Fallible<_>>()?;
     files.retain(|file| file.extension().is_some_and(|extension| extension == "txt"));
     files.sort();
