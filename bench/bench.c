@@ -196,7 +196,8 @@ static void measure(const struct row *row) {
 
 static int count_calls(const struct row *rows, size_t count, char **words) {
     static struct bench bench;
-    const struct who *who = strcmp(words[1], "proved") == 0 ? &proved : &plain;
+    const struct who *who = strcmp(words[1], proved.name) == 0 ? &proved : &plain;
+    if (strcmp(words[1], who->name) != 0) return 2;
     for (size_t at = 0; at < count; at++) {
         char name[64];
         name_of(&rows[at], name, sizeof name);

@@ -1,7 +1,7 @@
 #!/usr/bin/env bash
 # The benchmark's table: bench's times, and instructions per cell beside them. Instructions are counted by callgrind on N
 # calls and on 2N calls; the difference is N calls and nothing of the start. A word after the program picks rows by name.
-set -eu
+set -eu -o pipefail
 export LC_ALL=C
 bench=$1
 rows=${2:-.}

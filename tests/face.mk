@@ -18,7 +18,7 @@ LINELIST := target/bin/linelist
 EXAMPLES := target/examples
 GATE_CALLS := 400000
 GATE_SEED := 1
-# memcheck makes the comparison some fifty times slower.
+# Fewer than N: memcheck is slow.
 MEMCHECK_CALLS := 20000
 MEMCHECK := valgrind --quiet --error-exitcode=9
 
@@ -30,7 +30,7 @@ BENCH_FLAGS := -O3 -std=gnu11 $(WARNINGS) -falign-functions=64 -falign-loops=32
 
 # Proves again only what changed, so that nothing is measured or compared that isn't in the crates.
 face-archive:
-	test "$(RIME_LIB)" != "$(CURDIR)/target/staticlib" || rt staticlib rimesatchel
+	@test "$(RIME_LIB)" != "$(CURDIR)/target/staticlib" || rt staticlib rimesatchel
 
 face-compare:
 	RIMESATCHEL_LIB=$(RIME_LIB) cargo build --quiet --offline --locked --release --no-default-features \

@@ -79,8 +79,8 @@ fn play(scenario: u64, seed: u64, referee: &mut Referee) -> Played {
         43..=46 => line::reading(&mut random, referee),
         47..=55 => log::walk(&mut random, referee),
         56..=60 => status::one_step(&mut random, referee),
-        61 if scenario % 8 == 0 => status::sequence(&mut random, referee),
-        62 if scenario % 8 == 0 => log::list(&mut random, referee),
+        61 if scenario.is_multiple_of(8) => status::sequence(&mut random, referee),
+        62 if scenario.is_multiple_of(8) => log::list(&mut random, referee),
         _ => status::check(&mut random, referee),
     }
 }

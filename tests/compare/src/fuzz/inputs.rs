@@ -26,10 +26,8 @@ fn slots_of(format: u64) -> u64 {
 /// The layout of a state that may be anything; where there is none, that of an arbitrary format.
 pub fn shape_of(state: &[u64], random: &mut Random) -> Shape {
     let [format, channels, order] = setup(random);
-    Shape::new(state[0], state[1], state[2]).unwrap_or_else(|_| match Shape::new(format, channels, order) {
-        Ok(shape) => shape,
-        Err(refusal) => panic!("a set-up that must be taken is refused {refusal}"),
-    })
+    let shape = Shape::new(state[0], state[1], state[2]).or_else(|_| Shape::new(format, channels, order));
+    shape.unwrap_or_else(|refusal| panic!("a set-up that must be taken is refused {refusal}"))
 }
 
 /// A number near `right`, at the edge of a width, or wide with the right low octet.

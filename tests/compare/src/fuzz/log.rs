@@ -34,7 +34,8 @@ fn log(random: &mut Random) -> Vec<u8> {
     let (mut log, [format, channels, order]) = header(random);
     let Ok(shape) = Shape::new(format, channels, order) else { return log };
     let mut number = random.below(16);
-    for _ in 0..random.below(12) {
+    let records = if random.one_in(50) { 200 } else { random.below(12) };
+    for _ in 0..records {
         log.push(if random.one_in(40) { random.below(256) as u8 } else { random.below(2) as u8 });
         let mut octets = cell(&shape, number, random);
         alter(&mut octets, &shape, random);

@@ -49,7 +49,7 @@ impl Sender {
         let most_ancillary = if shape.format.ancillary { 15 } else { 0 };
         refuse_if(samples.iter().any(|&sample| sample >> shape.format.sample_bits != 0), 6)?;
         refuse_if(ancillary.iter().any(|&four| four > most_ancillary), 6)?;
-        refuse_if(indication && self.number % 8 != 0, 7)?;
+        refuse_if(indication && !self.number.is_multiple_of(8), 7)?;
         let second = self.next_second(indication);
         let cell = shape.pack(self.number, second, samples, ancillary);
         Ok((Sender { number: (self.number + 1) % 16, second, sent: true, ..*self }, cell))
