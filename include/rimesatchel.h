@@ -150,13 +150,13 @@ uint8_t rime_receiver_open(uint32_t format, uint32_t channels, uint32_t order, u
  * Takes one cell. With d the difference modulo 16 of its number and the last one, d - 1 cells are missing (none at
  * the first cell, nor ever without overhead). Writes from the start of the three runs C * T entries of sample 0,
  * ancillary 0 and mark 2 for each missing cell, then the cell's own C * T entries with mark 0, or 1 where the three
- * protection bits disagree. Entries past these stay. 15 * C * T entries are always room enough.
- * Leaves in `state` the cell's number and started as 1; in `report` the missing count, the number, the second number
- * (0 where there is none; the number too without overhead), and `indication` as it came.
- * Refused, with `state` and the runs untouched and `report` zeros: 1, 2 and 3 of what stands in `state`; 4, a last
- * number above 15, or not 0 in a state not started or without overhead; 5, `cell` isn't 48 octets or the three runs
- * aren't equally long; 8, with overhead, the eight number bits are in no entry of Table A.1; 9, d is 0; 10, the runs
- * are shorter than d * C * T (C * T at the first cell). After 10 the same cell may be given again with more room.
+ * protection bits disagree. Entries past these stay. 15 * C * T entries are always room enough. Leaves in `state` the
+ * cell's number and started as 1; in `report` the missing count, the number, the second number (each 0 where the
+ * format has none), and `indication` as it came.
+ * Refused, with `state` and the runs untouched: 1, 2 and 3 of what stands in `state`; 4, a last number above 15, or not
+ * 0 in a state not started or without overhead; 5, `cell` isn't 48 octets or the runs aren't equally long; 8, with
+ * overhead, the eight number bits are in no entry of Table A.1; 9, d is 0; 10, the runs are shorter than d * C * T
+ * (C * T at the first cell): the same cell may be given again with more room.
  */
 uint8_t rime_receive(uint8_t state[RIME_RECEIVER_STATE], const uint8_t *cell, size_t cell_len, bool indication,
                      uint64_t *samples, size_t samples_len, uint8_t *ancillary, size_t ancillary_len,

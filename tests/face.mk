@@ -34,7 +34,7 @@ face-archive:
 
 face-compare:
 	RIMESATCHEL_LIB=$(RIME_LIB) cargo build --quiet --offline --locked --release --no-default-features \
-	    --features $(RIME_PARTS) --manifest-path tests/compare/Cargo.toml --target-dir target/compare
+	    --features "$(RIME_PARTS)" --manifest-path tests/compare/Cargo.toml --target-dir target/compare
 
 $(EXAMPLES)/handover-c: examples/c/handover.c include/rimesatchel.h $(ARCHIVE)
 	mkdir -p $(EXAMPLES)
