@@ -2,9 +2,9 @@
 -- Assumes nothing.
 use mathlib.Core.Bool.{Bool, true}
 use mathlib.Core.List.{List, [], _∷_, _++_, append-nil}
-use mathlib.Core.Path.{_≡_, refl, sym, _∙_, ap, ap₂}
+use mathlib.Core.Path.{_≡_, refl, sym, _∙_, ap, ap₂, subst}
 use Prim.Native.Nat.{ℕ, zero, suc, _+_, _*_, _/_, _%_, _-_, _^_, _≤_, _<_}
-use native.Mathlib.Nat.{mul-one, zero-mul, zero-mod, zero-div, suc-mul, pow-le-pow-right, not-suc-le-zero, le-of-suc-le-suc}
+use native.Mathlib.Nat.{mul-comm, mul-div-cancel, mul-le-mul-right, mul-one, zero-mul, zero-mod, zero-div, suc-mul, pow-le-pow-right, not-suc-le-zero, le-of-suc-le-suc}
 use native.Mathlib.Numerals.{add-one}
 use native.Mathlib.Omega.{arith}
 use borrow.Author.Tests.{ne-eqb, lt-ltb, le-ltb}
@@ -25,8 +25,8 @@ use Rattle.guards.proofs.Laws.{nine-lt, nine-top, seven-guard}
 use Rattle.cells.specs.Cells.{overheadOf, subframeOf, slotOctets, cellOf}
 use Rattle.cells.specs.Placement.{entryOfSlot, nextEntry, carried}
 use Rattle.cells.proofs.Placement.{entry-lt, entry-next}
-use Rattle.cells.proofs.Subframes.{subframe-lt, octets-pow, slot-room}
-use Rattle.sender.specs.Packing.{packed, Fillable, Turnable, byChannel, slotWith, written, idleNumber, Continues}
+use Rattle.cells.proofs.Subframes.{subframe-lt, octets-pow, slot-room, four}
+use Rattle.sender.specs.Packing.{packed, shape, Packable, Fillable, Turnable, byChannel, slotWith, written, idleNumber, Continues}
 
 module _ {f : Format} (s : Sound f) {sample ancillary bit : ℕ}
     (hs : sample < 2 ^ f .sample) (ha : ancillary < 2 ^ f .ancillary) (hb : bit < 2)
@@ -231,4 +231,97 @@ module _ (width overhead sequence : ℕ) (cell₀ : List ℕ) (from : ℕ) where
             (put
             ∙ ap (λ (part : List ℕ). take (slot * width) cell ++ part ++ drop (slot * width + width) cell)
             (ap (octetsOf width) number-is ∙ sym (idle slot past)));
+      }
+
+-- a format told by the numbers that a call names
+pub record Named (f : Format) (sample ancillary overhead width : ℕ) : Type 0 where
+  pub sample-is : sample ≡ f .sample
+  pub ancillary-is : ancillary ≡ f .ancillary
+  pub overhead-is : overhead ≡ f .overhead
+  pub width-is : width ≡ f .width
+
+module _ {f : Format} (s : Sound f) where
+  pub named-octet : f .overhead ≡ 0 → f .width ≡ 1 → Named f 8 0 0 1
+  named-octet none one =
+      record {
+        sample-is = omega (arith, s .bits, s .sample-from);
+        ancillary-is = omega (arith, s .bits, s .sample-from);
+        overhead-is = sym none;
+        width-is = sym one;
+      }
+
+  pub named-plain : {width : ℕ} → f .overhead ≡ 0 → f .width ≡ width → Named f (f .sample) (f .ancillary) 0 width
+  named-plain none e = record { sample-is = refl; ancillary-is = refl; overhead-is = sym none; width-is = sym e }
+
+  pub named-guarded : {sample width : ℕ} → (f .overhead ≡ 0 → ⊥) → f .sample ≡ sample → 8 * width ≡ sample + 8
+      → Named f sample 4 4 width
+  named-guarded some e whole =
+      let overheads : f .overhead ≡ 4 = four s some in
+      let ancillaries : f .ancillary ≡ 4 = omega (arith, s .bits, s .ancillary-fours, s .ancillary-to) in
+      record {
+        sample-is = sym e;
+        ancillary-is = sym ancillaries;
+        overhead-is = sym overheads;
+        width-is = omega (arith, s .bits);
+      }
+
+  module _ {sample ancillary overhead width : ℕ} (named : Named f sample ancillary overhead width) where
+    pub shape-is : shape sample ancillary overhead ≡ f
+    shape-is =
+        let bits : sample + ancillary + overhead ≡ 8 * f .width
+        = ap₂ (λ (x y : ℕ). x + y) (ap₂ (λ (x y : ℕ). x + y) (named .sample-is) (named .ancillary-is)) (named .overhead-is)
+        ∙ s .bits in
+        let octets : (sample + ancillary + overhead) / 8 ≡ f .width = omega arith in
+        let slots : 48 / ((sample + ancillary + overhead) / 8) ≡ f .slots
+        = ap₂ (λ (n d : ℕ). n / d) (sym (s .cell)) octets ∙ mul-div-cancel (f .slots) (s .width-from) in
+        λ i.
+        record {
+          sample = named .sample-is i;
+          ancillary = named .ancillary-is i;
+          overhead = named .overhead-is i;
+          width = octets i;
+          slots = slots i;
+        }
+
+    pub written-as : (entry : ℕ → ℕ) (sequence : ℕ) (samples ancillaries cell₀ : List ℕ) {cell : List ℕ}
+        → cell ≡ written (shape sample ancillary overhead) entry sequence samples ancillaries cell₀
+        → cell ≡ written f entry sequence samples ancillaries cell₀
+    written-as entry sequence samples ancillaries cell₀ e =
+        e ∙ ap (λ (g : Format). written g entry sequence samples ancillaries cell₀) shape-is
+
+-- a run that can be packed fills the slots of its format, in whatever numbers a call names it
+module _ {set : Settled} {samples ancillary : List ℕ} (p : Packable set samples ancillary) where
+  pub fillable : {l a o width : ℕ} {table cell : List ℕ} → Named (set .format) l a o width → table ≡ sevenGuards
+      → length cell ≡ 48
+      → Fillable (shape l a o) width table samples ancillary cell
+  fillable {l} {a} {o} {width} {table} {cell} named guards whole =
+      subst (λ (f : Format). Fillable f width table samples ancillary cell) (sym (shape-is (p .limits .sound) named))
+      (record {
+        sound = p .limits .sound;
+        width-is = named .width-is;
+        guards = guards;
+        as-many = p .ancillary-length ∙ sym (p .samples-length);
+        fit = omega (arith, p .samples-length, p .limits .used-in);
+        small = p .small;
+        few = p .few;
+        whole = whole;
+      })
+
+  pub turnable : Turnable (set .channels) samples
+  turnable =
+      let times : length samples / set .channels ≡ set .times
+      = ap (λ (n : ℕ). n / set .channels) (p .samples-length ∙ mul-comm (set .channels) (set .times))
+      ∙ mul-div-cancel (set .times) (p .limits .channels-from) in
+      record {
+        channels-to =
+            omega (
+              arith,
+              p .limits .used-to,
+              mul-one (set .channels),
+              mul-comm (set .channels) (set .times),
+              mul-comm (set .channels) 1,
+              mul-le-mul-right {m = 1} {n = set .times} (set .channels) (p .limits .times-from),
+            );
+        times-from = rw times (p .limits .times-from);
+        rows = ap (λ (n : ℕ). set .channels * n) times ∙ sym (p .samples-length);
       }

@@ -62,7 +62,7 @@ put-requires c κs = (
 
 next-entry-requires : tie.Need-next-entry-requires Inv-loop μ-loop
 next-entry-requires c κs = (
-  here (c .before .before .before .before .before .before .before .before ),
+  here (c .before .before .before .before .before .before .before .before),
   omega (arith, c .before .before .before .before .before .before .before .before .before .before .before .before .before .pre .1 .fit, c .before .before .before .before .before .before .before .before .before .before .before .before .before .pre .1 .sound .slots-to),
   c .before .before .before .before .before .before .before .before .before .before .before .before .before .pre .0 .channels-to,
 )
