@@ -61,6 +61,9 @@ inOrder slot = slot
 abbrev pub byChannel : ℕ → List ℕ → ℕ → ℕ
 byChannel channels samples slot = entryOfSlot true channels (length samples / channels) slot
 
+abbrev pub placed : Settled → List ℕ → ℕ → ℕ
+placed set samples slot = entryOfSlot (set .«by_channel») (set .channels) (length samples / set .channels) slot
+
 -- slot k, its sequencing bit that of a number in which it is worth 2^k
 unfoldable pub slotWith : Format → (ℕ → ℕ) → ℕ → List ℕ → List ℕ → ℕ → List ℕ
 slotWith f entry sequence samples ancillary k =

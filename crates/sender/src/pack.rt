@@ -18,6 +18,7 @@ ghost use Rattle.sender.specs.Packing.{
   Packable,
   inOrder,
   byChannel,
+  placed,
   idleNumber,
   written,
   Continues,
@@ -360,6 +361,18 @@ fn pack_by_channel(set: Settled, sequence: u64, samples: &[u64], ancillary: &[u8
     }
 }
 
+// The used slots in either order.
+fn pack_used(set: Settled, sequence: u64, samples: &[u64], ancillary: &[u8], cell: &mut [u8])
+    requires { ⌜ Packable set (now samples) (now ancillary) × (length (now cell) ≡ 48) ⌝ }
+    ensures { λ r. ⌜ now (cell .exit) ≡ written (set .format) (placed set (now (samples .entry))) sequence (now (samples .entry)) (now (ancillary .entry)) (now (cell .entry)) ⌝ }
+{
+    if set.by_channel {
+        pack_by_channel(set, sequence, samples, ancillary, cell);
+        return;
+    }
+    pack_in_order(set, sequence, samples, ancillary, cell);
+}
+
 // The subframe of an unused slot, whose sample and ancillary are 0.
 fn idle_subframe(overhead: u64, bit: u64) -> u64
     requires { ⌜ bit < 2 ⌝ }
@@ -400,10 +413,6 @@ pub(crate) fn pack(
     ensures { λ r. ⌜ now (cell .exit) ≡ packed set word second (now (samples .entry)) (now (ancillary .entry)) ⌝ }
 {
     let sequence = numbers::sequence_of(word, second);
-    if set.by_channel {
-        pack_by_channel(set, sequence, samples, ancillary, cell);
-    } else {
-        pack_in_order(set, sequence, samples, ancillary, cell);
-    }
+    pack_used(set, sequence, samples, ancillary, cell);
     fill_idle(set, samples.len(), sequence, cell);
 }

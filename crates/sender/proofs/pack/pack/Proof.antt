@@ -1,3 +1,7 @@
+-- `sender::pack::pack` meets its contract.
+-- Assumes nothing.
+use denote.Ref.{now}
+use Rattle.sender.proofs.Packing.{packs}
 use borrow.Author.Needs.{needs}
 use Rattle.sender.proofs.pack.pack.Statement.{statement}
 use Rattle.sender.proofs.pack.pack.Tie as tie
@@ -5,28 +9,20 @@ use Rattle.sender.proofs.pack.pack.Tie as tie
 sequence-of-requires : tie.Need-sequence-of-requires
 sequence-of-requires c κs = search needs
 
-pack-by-channel-requires : tie.Need-pack-by-channel-requires
-pack-by-channel-requires c κs = search needs
-
-pack-in-order-requires : tie.Need-pack-in-order-requires
-pack-in-order-requires c κs = search needs
+pack-used-requires : tie.Need-pack-used-requires
+pack-used-requires c κs = search needs
 
 fill-idle-requires : tie.Need-fill-idle-requires
-fill-idle-requires c κs = ?
+fill-idle-requires c κs = search needs
 
 same-length : tie.Need-same-length
-same-length c = ?
+same-length c = search needs
 
 returns : tie.Need-returns
-returns c = ?
+returns c =
+    packs (c .before .before .before .before .before .before .before .before .before .before .before .before .args .word) (c .before .before .before .before .before .before .before .before .before .before .before .before .args .second) (c .before .before .before .before .before .before .before .before .sequence-of .result) (now (c .before .before .before .before .before .before .before .before .before .before .before .before .args .cell)) (c .before .before .before .before .before .before .before .before .before .before .before .before .pre .0) (c .before .before .before .before .before .before .before .before .before .before .before .before .fits .word .fits) (c .before .before .before .before .before .before .before .before .before .before .before .before .pre .1) (c .before .before .before .before .before .before .before .before .before .before .before .before .pre .2) (c .before .before .before .before .before .before .before .before .sequence-of .ensures) (c .before .before .before .before .before .before .pack-used .ensures) (c .before .before .fill-idle .ensures)
 
 pub pack-spec : {M : Type 1} → statement M
 pack-spec =
     tie.close
-    (tie.spec
-    sequence-of-requires
-    pack-by-channel-requires
-    pack-in-order-requires
-    fill-idle-requires
-    same-length
-    returns)
+    (tie.spec sequence-of-requires pack-used-requires fill-idle-requires same-length returns)
