@@ -5,14 +5,16 @@ use mathlib.Core.List.{List, [], _∷_}
 use mathlib.Core.Path.{_≡_, refl, sym, _∙_, ap, ap₂}
 use Prim.Native.Nat.{ℕ, zero, suc, _+_, _*_, _/_, _%_, _^_, _≤_, _<_}
 use native.Mathlib.Nat.{suc-ne-zero, mod-lt, mod-eq-of-lt, mul-div-le, le-div-iff-mul-le}
+use native.Mathlib.Numerals.{add-one}
 use native.Mathlib.Omega.{arith}
-use borrow.Author.Tests.{lt-ltb, le-ltb, eq-eqb, ne-eqb, ltb-true, ltb-false, eqb-true, not-false}
-use lib.Dec.{eqb, ltb}
+use borrow.Author.Tests.{lt-ltb, le-ltb, lt-leb, le-leb, eq-eqb, ne-eqb, ltb-true, ltb-false, eqb-true, not-false}
+use lib.Bits.{bitOr, or-lt, or-add-and, and-le-l, and-le-r}
+use lib.Dec.{eqb, leb, ltb}
 use lib.ListN.{length, getD, drop, drop-of-length-le}
 use lib.Pow.{pow-pos}
 use lib.Seq.{drop-cons}
 use Rattle.runs.specs.Refusals.{orElse}
-use Rattle.runs.proofs.Laws.{first-refuses, then-later, past, past-both, neither, both-true}
+use Rattle.runs.proofs.Laws.{split, first-refuses, then-later, past, past-both, neither, both-true, one-shifted}
 use Rattle.formats.specs.declared.Format.{Format}
 use Rattle.formats.specs.declared.Settled.{Settled}
 use Rattle.formats.specs.Formats.{formatOf, timesOf, slotsOf, settingsOf, settingsRefusal, settled}
@@ -29,7 +31,7 @@ use Rattle.formats.proofs.Laws.{
 }
 use Rattle.sender.specs.declared.Sender.{Sender}
 use Rattle.numbers.specs.Numbers.{entryOf}
-use Rattle.sender.specs.Packing.{Packable, packed}
+use Rattle.sender.specs.Packing.{Packable, packed, Unites}
 use Rattle.sender.specs.Sender.{
   zeroState,
   openState,
@@ -102,19 +104,78 @@ module _ (octet channels order number : ℕ) (wanted : Bool) (second : ℕ) wher
   unfolding openedOf
   opens e = rw (← e)
 
--- a run judged from its start: what is passed is below the bound
-module _ (bound : ℕ) (run : List ℕ) {i : ℕ} (h : i < length run) where
-  pub below-on : getD run i 0 < bound → allBelow bound (drop i run) ≡ allBelow bound (drop (suc i) run)
-  unfolding allBelow
-  below-on less = ap (allBelow bound) (drop-cons run i 0 h) ∙ rw (lt-ltb _ _ less)
+-- numbers are below a power of two just where the bits that any of them has are
+or-below : (a b k : ℕ) → ltb (bitOr a b) (2 ^ k) ≡ ltb a (2 ^ k) && ltb b (2 ^ k)
+or-below a b k =
+    let left : a ≤ bitOr a b = omega (arith, or-add-and a b, and-le-r a b) in
+    let right : b ≤ bitOr a b = omega (arith, or-add-and a b, and-le-l a b) in
+    split (ltb a (2 ^ k))
+    (λ ta.
+    split (ltb b (2 ^ k))
+    (λ tb. rw (ta, tb) (lt-ltb _ _ (or-lt k a b (ltb-true a (2 ^ k) ta) (ltb-true b (2 ^ k) tb))))
+    (λ tb. rw (ta, tb) (le-ltb (bitOr a b) (2 ^ k) (let far = ltb-false b (2 ^ k) tb in omega arith))))
+    (λ ta. rw ta (le-ltb (bitOr a b) (2 ^ k) (let far = ltb-false a (2 ^ k) ta in omega arith)))
 
-  pub below-stops : bound ≤ getD run i 0 → allBelow bound (drop i run) ≡ false
-  unfolding allBelow
-  below-stops above = ap (allBelow bound) (drop-cons run i 0 h) ∙ rw (le-ltb _ _ above)
+-- a run judged from its start: the bits so far, and what is still to come
+pub record United (run : List ℕ) (all i : ℕ) : Type 0 where
+  pub within : i ≤ length run
+  pub is : (k : ℕ) → allBelow (2 ^ k) run ≡ ltb all (2 ^ k) && allBelow (2 ^ k) (drop i run)
 
-pub below-end : (bound : ℕ) (run : List ℕ) (i : ℕ) → length run ≤ i → true ≡ allBelow bound (drop i run)
+pub united-begun : (run : List ℕ) → United run 0 0
+united-begun run =
+    record { within = omega arith; is = λ k. rw (lt-ltb 0 (2 ^ k) (pow-pos k)) }
+
+pub united-on : {run : List ℕ} {all i : ℕ} → United run all i → i < length run → United run (bitOr all (getD run i 0)) (i + 1)
 unfolding allBelow
-below-end bound run i h = sym (ap (allBelow bound) (drop-of-length-le run h))
+united-on {run} {all} {i} so-far less =
+    record {
+      within = omega arith;
+      is = λ k.
+          so-far .is k
+          ∙ ap (λ (l : List ℕ). ltb all (2 ^ k) && allBelow (2 ^ k) l) (drop-cons run i 0 less)
+          ∙ sym (and-assoc (ltb all (2 ^ k)) (ltb (getD run i 0) (2 ^ k)) _)
+          ∙ ap₂ (λ (b : Bool) (n : ℕ). b && allBelow (2 ^ k) (drop n run)) (sym (or-below all (getD run i 0) k)) (sym (add-one i));
+    }
+  where
+    and-assoc : (a b c : Bool) → (a && b) && c ≡ a && (b && c)
+    and-assoc true b c = refl
+    and-assoc false b c = refl
+
+pub united-done : {run : List ℕ} {all i : ℕ} → United run all i → length run ≤ i → Unites run all
+unfolding allBelow
+united-done {run} {all} {i} so-far end =
+    record {
+      below = λ k.
+          so-far .is k
+          ∙ ap (λ (l : List ℕ). ltb all (2 ^ k) && allBelow (2 ^ k) l) (drop-of-length-le run end)
+          ∙ and-true (ltb all (2 ^ k));
+    }
+  where
+    and-true : (a : Bool) → a && true ≡ a
+    and-true true = refl
+    and-true false = refl
+
+-- check 6 by those bits
+module _ (f : Format) (samples ancillary : List ℕ) {all : ℕ} (united : Unites samples all) (to : f .sample ≤ 40) where
+  shifted : (1 * 2 ^ f .sample) % 2 ^ 64 ≡ 2 ^ f .sample
+  shifted = one-shifted (omega arith)
+
+  pub samples-refused : (1 * 2 ^ f .sample) % 2 ^ 64 ≤ all → true ≡ valuesRefused f samples ancillary
+  unfolding valuesRefused
+  samples-refused far = rw (united .below (f .sample), le-ltb all (2 ^ f .sample) (rw shifted at far))
+
+  pub ancillary-refused : {few four : ℕ} → all < (1 * 2 ^ f .sample) % 2 ^ 64 → f .ancillary ≤ 4 → Unites ancillary few → four ≡ few
+      → leb ((1 * 2 ^ f .ancillary) % 2 ^ 64) four ≡ valuesRefused f samples ancillary
+  unfolding valuesRefused
+  ancillary-refused {few} {four} near to-4 united-4 e =
+      rw (united .below (f .sample), lt-ltb all (2 ^ f .sample) (rw shifted at near), united-4 .below (f .ancillary))
+      (ap₂ leb (one-shifted (let h : f .ancillary < 64 = omega arith in h)) e ∙ not-below (2 ^ f .ancillary) few)
+    where
+      not-below : (bound n : ℕ) → leb bound n ≡ not (ltb n bound)
+      not-below bound n =
+          split (ltb n bound)
+          (λ t. rw t (lt-leb bound n (ltb-true n bound t)))
+          (λ t. rw t (le-leb bound n (ltb-false n bound t)))
 
 pub below-each : (bound : ℕ) (run : List ℕ) → zero < bound → allBelow bound run ≡ true → (i : ℕ) → getD run i 0 < bound
 unfolding allBelow

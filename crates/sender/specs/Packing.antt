@@ -4,7 +4,7 @@ use mathlib.Core.Bool.{true, cond}
 use mathlib.Core.List.{List, _++_}
 use mathlib.Core.Path.{_≡_}
 use Prim.Native.Nat.{ℕ, _+_, _*_, _/_, _%_, _^_, _≤_, _<_}
-use lib.Dec.{eqb}
+use lib.Dec.{eqb, ltb}
 use lib.ListN.{length, getD, drop}
 use Rattle.runs.specs.Runs.{joined, octetsOf}
 use Rattle.formats.specs.declared.Format.{Format}
@@ -13,6 +13,7 @@ use Rattle.formats.specs.Sound.{Sound, Limits}
 use Rattle.guards.specs.Guards.{sevenGuards}
 use Rattle.cells.specs.Cells.{cellOf, subframeOf}
 use Rattle.cells.specs.Placement.{entryOfSlot}
+use Rattle.sender.specs.Sender.{allBelow}
 
 pub record Packable (set : Settled) (samples ancillary : List ℕ) : Type 0 where
   pub limits : Limits set
@@ -84,3 +85,7 @@ pub record Continues (width overhead sequence : ℕ) (cell₀ : List ℕ) (from 
   pub goes-on : (g : ℕ → List ℕ) (base : List ℕ) → ((j : ℕ) → length (g j) ≡ width)
       → ((j : ℕ) → from ≤ j → g j ≡ octetsOf width (idleNumber overhead (sequence / 2 ^ j % 2)))
       → cell₀ ≡ joined g from ++ drop (from * width) base → cell ≡ joined g k ++ drop (k * width) base
+
+-- the bits that any number of a run has: below a power of two just where all the numbers are
+pub record Unites (run : List ℕ) (all : ℕ) : Type 0 where
+  pub below : (k : ℕ) → allBelow (2 ^ k) run ≡ ltb all (2 ^ k)

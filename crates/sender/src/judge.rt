@@ -5,13 +5,13 @@ ghost use Rattle.formats.specs.Formats.{settingsOf};
 ghost use Rattle.sender.specs.Sender.{
   numbersRefused,
   stateRefusal,
-  allBelow,
   lengthsRefused,
   valuesRefused,
   indicationRefused,
   sendRefusal,
   secondNow,
 };
+ghost use Rattle.sender.specs.Packing.{Unites};
 use crate::Sender;
 use formats::Format;
 use formats::Settled;
@@ -58,31 +58,29 @@ pub(crate) fn state_refusal(
     0
 }
 
-// Whether every number of a run is below `bound`.
-pub(crate) fn samples_below(run: &[u64], bound: u64) -> bool
-    ensures { λ r. ⌜ r ≡ allBelow bound (now (run .entry)) ⌝ }
+// The bits that any number of a run has: they are below a power of two just where all the numbers are.
+fn samples_united(run: &[u64]) -> u64
+    ensures { λ r. ⌜ Unites (now (run .entry)) r ⌝ }
 {
+    let mut all = 0;
     let mut i = 0;
     while i < run.len() {
-        if bound <= run[i] {
-            return false;
-        }
+        all = all | run[i];
         i += 1;
     }
-    true
+    all
 }
 
-pub(crate) fn octets_below(run: &[u8], bound: u64) -> bool
-    ensures { λ r. ⌜ r ≡ allBelow bound (now (run .entry)) ⌝ }
+fn octets_united(run: &[u8]) -> u8
+    ensures { λ r. ⌜ Unites (now (run .entry)) r ⌝ }
 {
+    let mut all = 0;
     let mut i = 0;
     while i < run.len() {
-        if bound <= wide(run[i]) {
-            return false;
-        }
+        all = all | run[i];
         i += 1;
     }
-    true
+    all
 }
 
 pub(crate) fn wide(octet: u8) -> u64
@@ -109,10 +107,10 @@ fn values_refused(format: Format, samples: &[u64], ancillary: &[u8]) -> bool
     requires { ⌜ (format .sample ≤ 40) × (format .ancillary ≤ 4) ⌝ }
     ensures { λ r. ⌜ r ≡ valuesRefused format (now (samples .entry)) (now (ancillary .entry)) ⌝ }
 {
-    if !samples_below(samples, 1 << format.sample) {
+    if 1 << format.sample <= samples_united(samples) {
         return true;
     }
-    !octets_below(ancillary, 1 << format.ancillary)
+    1 << format.ancillary <= wide(octets_united(ancillary))
 }
 
 // Check 7.
