@@ -142,7 +142,8 @@ fn fill_by_channel(
     }
 }
 
-// The used slots in order 0, a loop for each width without overhead and for each sample length with it.
+// The used slots in order 0, a loop for each width without overhead and for each sample length with it. The table is made on each
+// side, so that it is left out where no loop reads it.
 fn pack_in_order(set: Settled, sequence: u64, samples: &[u64], ancillary: &[u8], cell: &mut [u8])
     requires { ⌜ Packable set (now samples) (now ancillary) × (length (now cell) ≡ 48) ⌝ }
     ensures { λ r. ⌜ now (cell .exit) ≡ written (set .format) (inOrder) sequence (now (samples .entry)) (now (ancillary .entry)) (now (cell .entry)) ⌝ }
@@ -151,8 +152,8 @@ fn pack_in_order(set: Settled, sequence: u64, samples: &[u64], ancillary: &[u8],
     let length = set.format.sample;
     let four = set.format.ancillary;
     let overhead = set.format.overhead;
-    let table = guards::sevens();
     if overhead == 0 {
+        let table = guards::sevens();
         match width {
             1 => fill_in_order(&table, 8, 0, 0, 1, sequence, samples, ancillary, cell),
             2 => fill_in_order(
@@ -202,6 +203,7 @@ fn pack_in_order(set: Settled, sequence: u64, samples: &[u64], ancillary: &[u8],
         }
         return;
     }
+    let table = guards::sevens();
     match length {
         8 => fill_in_order(&table, 8, 4, 4, 2, sequence, samples, ancillary, cell),
         16 => fill_in_order(&table, 16, 4, 4, 3, sequence, samples, ancillary, cell),
@@ -231,8 +233,8 @@ fn pack_by_channel(set: Settled, sequence: u64, samples: &[u64], ancillary: &[u8
     let four = set.format.ancillary;
     let overhead = set.format.overhead;
     let channels = set.channels;
-    let table = guards::sevens();
     if overhead == 0 {
+        let table = guards::sevens();
         match width {
             1 => fill_by_channel(
                 &table,
@@ -297,6 +299,7 @@ fn pack_by_channel(set: Settled, sequence: u64, samples: &[u64], ancillary: &[u8
         }
         return;
     }
+    let table = guards::sevens();
     match length {
         8 => fill_by_channel(
             &table,
