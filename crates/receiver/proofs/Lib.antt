@@ -1,2 +1,4 @@
 pub mod Laws
+pub mod Marking
+pub mod Reading
 pub mod Unpacking
