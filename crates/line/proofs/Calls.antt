@@ -1,4 +1,4 @@
--- The demands, each statement in the minutes' words and each proof a citation.
+-- Single calls of the two boxes: what is refused leaves everything, and what was sent comes back.
 -- Assumes nothing.
 use mathlib.Core.Path.{_≡_, sym, _∙_, ap, ap₂}
 use mathlib.Core.Bool.{Bool}
@@ -28,13 +28,11 @@ use Rattle.line.proofs.Cells.{
   unused-there,
 }
 
--- Demand 1: "It refuses exactly where document 01's table says so, under that number; the state then comes back as it went in and
--- nothing lent changes."
-pub demand-1-send : (c : SendCall) → Sends c
+pub sends-or-nothing : (c : SendCall) → Sends c
     → (c .answer .refusal ≡ S.sendRefusal (c .state) (c .indication) (c .samples) (c .ancillary) (length (c .cell)))
     × ((c .answer .refusal ≡ 0 → ⊥) → SentNothing c)
 unfolding S.sentOf S.cellAfter
-demand-1-send c meets = (
+sends-or-nothing c meets = (
   sent-refusal c meets,
   λ some.
       let refused = ne-eqb _ 0 (λ e. some (sent-refusal c meets ∙ e)) in
@@ -44,12 +42,12 @@ demand-1-send c meets = (
       },
 )
 
-pub demand-1-receive : (c : ReceiveCall) → Receives c
+pub receives-or-nothing : (c : ReceiveCall) → Receives c
     → (c .answer .refusal
     ≡ R.receiveRefusal (c .state) (c .cell) (length (c .samples)) (length (c .ancillary)) (length (c .marks)))
     × ((c .answer .refusal ≡ 0 → ⊥) → ReceivedNothing c)
 unfolding R.receivedOf R.given over
-demand-1-receive c meets = (
+receives-or-nothing c meets = (
   received-refusal c meets,
   λ some.
       let refused = ne-eqb _ 0 (λ e. some (received-refusal c meets ∙ e)) in
@@ -61,12 +59,10 @@ demand-1-receive c meets = (
       },
 )
 
--- Demand 2: "A packed cell that a receiver in the sender's settings takes unaltered gives back every sample and ancillary bit;
--- slots with no channel are zero."
-pub demand-2 : (s : SendCall) (r : ReceiveCall) → Sends s → s .answer .refusal ≡ 0 → InSettings (s .state) (r .state)
+pub gives-back : (s : SendCall) (r : ReceiveCall) → Sends s → s .answer .refusal ≡ 0 → InSettings (s .state) (r .state)
     → r .cell ≡ s .written → Receives r → r .answer .refusal ≡ 0 → GivesBack s r
 unfolding R.receivedOf R.given S.cellAfter
-demand-2 s r sends sent same unaltered receives received =
+gives-back s r sends sent same unaltered receives received =
     let none = sym (sent-refusal s sends) ∙ sent in
     let taken = sym (received-refusal r receives) ∙ received in
     let written : s .written ≡ S.cellNow (s .state) (s .indication) (s .samples) (s .ancillary) = sends .cell-after ∙ rw none in
