@@ -1,4 +1,5 @@
 pub mod Calls
 pub mod Cases
 pub mod Cells
+pub mod Rows
 pub mod Steps
