@@ -1,5 +1,7 @@
 pub mod Calls
 pub mod Cases
 pub mod Cells
+pub mod Demands
+pub mod Places
 pub mod Rows
 pub mod Steps

@@ -19,40 +19,42 @@ use Rattle.receiver.specs.declared.Receiver.{Receiver}
 use Rattle.receiver.specs.Receiver as R
 use Rattle.line.specs.Demands.{ReceiveCall, Receives, InSettings}
 use Rattle.line.specs.Line.{
-    Fate,
-    dropped,
-    spoiled,
-    unaltered,
-    Trip,
-    cellOn,
-    InARow,
-    FairFate,
-    Fair,
-    isLost,
-    Arrival,
-    arrivalOf,
-    arrivals,
-    Row,
-    got,
-    Roomy,
-    WithRoom,
-    Column,
-    runAfter,
-    said,
-    handed}
+  Fate,
+  dropped,
+  spoiled,
+  unaltered,
+  Trip,
+  cellOn,
+  InARow,
+  FairFate,
+  Fair,
+  isLost,
+  Arrival,
+  arrivalOf,
+  arrivals,
+  Row,
+  got,
+  Roomy,
+  WithRoom,
+  Column,
+  runAfter,
+  said,
+  handed,
+}
 use Rattle.line.proofs.Calls.{receives-or-nothing}
 use Rattle.line.proofs.Steps.{
-    lostValue,
-    ownOf,
-    difference-after,
-    number-after,
-    state-passes,
-    spoiled-refused,
-    unaltered-taken,
-    settings-after,
-    started-after,
-    last-after,
-    handed-out}
+  lostValue,
+  ownOf,
+  difference-after,
+  number-after,
+  state-passes,
+  spoiled-refused,
+  unaltered-taken,
+  settings-after,
+  started-after,
+  last-after,
+  handed-out,
+}
 
 -- how many cells were lost since the last unaltered one, if there was one
 pub data Since : Type 0 where
@@ -68,14 +70,14 @@ oneMore never = never
 oneMore (after k) = after (suc k)
 
 -- what is due from here on: the places of lost cells are due only with the next unaltered cell
-pub due : Column → ℕ → Since → List Trip → List ℕ
+unfoldable pub due : Column → ℕ → Since → List Trip → List ℕ
 due column used since [] = []
 due column used since (t ∷ ts) =
     cond (isLost (t .fate)) (due column used (oneMore since) ts)
     (replicate (lostSince since * used) (lostValue column) ++ ownOf column used t ++ due column used (after 0) ts)
 
 -- at most `row` lost cells stand before each unaltered one that is not the first
-pub Between : ℕ → Since → List Trip → Type 0
+unfoldable pub Between : ℕ → Since → List Trip → Type 0
 Between row since [] = Unit {0}
 Between row since (t ∷ ts) =
     (isLost (t .fate) ≡ true → Between row (oneMore since) ts)
@@ -121,80 +123,82 @@ module _ (column : Column) (t : Trip) (ts : List Trip) (st : Sender) (with-overh
     (sent : S.sendRefusal st (t .indication) (t .samples) (t .ancillary) 48 ≡ 0)
     (fair : FairFate 3 (formatOf (st .format)) (cellOn st t) (t .fate))
     (follows : (rc : Receiver) (since : Since) (calls : List ReceiveCall)
-      → InSettings (S.after st (t .indication)) rc → Stands (S.after st (t .indication)) rc since → Between 14 since ts
-      → Row Receives rc calls → map got calls ≡ arrivals (S.after st (t .indication)) ts → WithRoom calls
-      → handed column (S.usedNow st) calls ≡ due column (S.usedNow st) since ts)
-    where
-  abbrev then-due : Since → List ℕ
-  then-due since =
-      cond (isLost (t .fate)) (due column (S.usedNow st) (oneMore since) ts)
-      (replicate (lostSince since * S.usedNow st) (lostValue column) ++ ownOf column (S.usedNow st) t
-      ++ due column (S.usedNow st) (after 0) ts)
+    → InSettings (S.after st (t .indication)) rc → Stands (S.after st (t .indication)) rc since → Between 14 since ts
+    → Row Receives rc calls → map got calls ≡ arrivals (S.after st (t .indication)) ts → WithRoom calls
+    → handed column (S.usedNow st) calls ≡ due column (S.usedNow st) since ts)
+  where
+    abbrev then-due : Since → List ℕ
+    then-due since =
+        cond (isLost (t .fate)) (due column (S.usedNow st) (oneMore since) ts)
+        (replicate (lostSince since * S.usedNow st) (lostValue column) ++ ownOf column (S.usedNow st) t
+        ++ due column (S.usedNow st) (after 0) ts)
 
-  abbrev came-so : Fate → List ReceiveCall → Type 0
-  came-so fate calls =
-      map got calls ≡ arrivalOf (cellOn st t) (t .indication) fate ++ arrivals (S.after st (t .indication)) ts
+    abbrev came-so : Fate → List ReceiveCall → Type 0
+    came-so fate calls =
+        map got calls ≡ arrivalOf (cellOn st t) (t .indication) fate ++ arrivals (S.after st (t .indication)) ts
 
-  lost-due : isLost (t .fate) ≡ true → (since : Since) {l : List ℕ} → l ≡ due column (S.usedNow st) (oneMore since) ts → l ≡ then-due since
-  lost-due lost since e = e ∙ rw lost
+    lost-due : isLost (t .fate) ≡ true → (since : Since) {l : List ℕ} → l ≡ due column (S.usedNow st) (oneMore since) ts → l ≡ then-due since
+    lost-due lost since e = e ∙ rw lost
 
-  module _ (rc : Receiver) (same : InSettings st rc) (since : Since) (stands : Stands st rc since)
-      (between : (isLost (t .fate) ≡ true → Between 14 (oneMore since) ts)
-      × (isLost (t .fate) ≡ false → (lostSince since ≤ 14) × Between 14 (after 0) ts))
+    module _ (rc : Receiver) (same : InSettings st rc) (since : Since) (stands : Stands st rc since)
+        (between : (isLost (t .fate) ≡ true → Between 14 (oneMore since) ts)
+        × (isLost (t .fate) ≡ false → (lostSince since ≤ 14) × Between 14 (after 0) ts))
       where
-    trip-dropped : t .fate ≡ dropped → (calls : List ReceiveCall) → Row Receives rc calls → came-so dropped calls → WithRoom calls
-        → handed column (S.usedNow st) calls ≡ then-due since
-    trip-dropped e calls meets came room =
-        lost-due (ap isLost e) since
-        (follows rc (oneMore since) calls (settings-on (t .indication) same) (stands-on st rc (t .indication) since stands)
-        (between .0 (ap isLost e)) meets came room)
+        trip-dropped : t .fate ≡ dropped → (calls : List ReceiveCall) → Row Receives rc calls → came-so dropped calls → WithRoom calls
+            → handed column (S.usedNow st) calls ≡ then-due since
+        trip-dropped e calls meets came room =
+            lost-due (ap isLost e) since
+            (follows rc (oneMore since) calls (settings-on (t .indication) same) (stands-on st rc (t .indication) since stands)
+            (between .0 (ap isLost e)) meets came room)
 
-    trip-spoiled : {octets : List ℕ} {indication : Bool} → t .fate ≡ spoiled octets indication → (calls : List ReceiveCall)
-        → Row Receives rc calls → came-so (spoiled octets indication) calls → WithRoom calls
-        → handed column (S.usedNow st) calls ≡ then-due since
-    unfolding Row WithRoom handed
-    trip-spoiled e [] meets came room = absurd (nil≢cons came)
-    trip-spoiled {octets} {indication} e (c ∷ cs) meets came room =
-        let here = subst (λ (x : Receiver). InSettings st x) (sym (meets .0)) same in
-        let bits = subst (FairFate 3 (formatOf (st .format)) (cellOn st t)) e fair in
-        let refused = spoiled-refused st t with-overhead sent c (meets .1) here (ap (λ x. x .cell) (head-eq-of-cons-eq came)) (bits .0) (bits .1) in
-        let stays : rc ≡ c .answer .state = sym (receives-or-nothing c (meets .1) .1 refused .state-as-given ∙ meets .0) in
-        lost-due (ap isLost e) since
-        (rw (ne-eqb (c .answer .refusal) 0 refused)
-        (follows (c .answer .state) (oneMore since) cs
-        (subst (λ (x : Receiver). InSettings (S.after st (t .indication)) x) stays (settings-on (t .indication) same))
-        (subst (λ (x : Receiver). Stands (S.after st (t .indication)) x (oneMore since)) stays (stands-on st rc (t .indication) since stands))
-        (between .0 (ap isLost e)) (meets .2) (tail-eq-of-cons-eq came) (room .1)))
+        trip-spoiled : {octets : List ℕ} {indication : Bool} → t .fate ≡ spoiled octets indication → (calls : List ReceiveCall)
+            → Row Receives rc calls → came-so (spoiled octets indication) calls → WithRoom calls
+            → handed column (S.usedNow st) calls ≡ then-due since
+        unfolding Row WithRoom handed
+        trip-spoiled e [] meets came room = absurd (nil≢cons came)
+        trip-spoiled {octets} {indication} e (c ∷ cs) meets came room =
+            let here = subst (λ (x : Receiver). InSettings st x) (sym (meets .0)) same in
+            let bits = subst (FairFate 3 (formatOf (st .format)) (cellOn st t)) e fair in
+            let refused = spoiled-refused st t with-overhead sent c (meets .1) here (ap (λ x. x .cell) (head-eq-of-cons-eq came)) (bits .0) (bits .1) in
+            let stays : rc ≡ c .answer .state = sym (receives-or-nothing c (meets .1) .1 refused .state-as-given ∙ meets .0) in
+            lost-due (ap isLost e) since
+            (rw (ne-eqb (c .answer .refusal) 0 refused)
+            (follows (c .answer .state) (oneMore since) cs
+            (subst (λ (x : Receiver). InSettings (S.after st (t .indication)) x) stays (settings-on (t .indication) same))
+            (subst (λ (x : Receiver). Stands (S.after st (t .indication)) x (oneMore since)) stays (stands-on st rc (t .indication) since stands))
+            (between .0 (ap isLost e)) (meets .2) (tail-eq-of-cons-eq came) (room .1)))
 
-    trip-unaltered : t .fate ≡ unaltered → (calls : List ReceiveCall) → Row Receives rc calls → came-so unaltered calls → WithRoom calls
-        → handed column (S.usedNow st) calls ≡ then-due since
-    unfolding Row WithRoom handed S.after
-    trip-unaltered e [] meets came room = absurd (nil≢cons came)
-    trip-unaltered e (c ∷ cs) meets came room =
-        let few = between .1 (ap isLost e) in
-        let f = formatOf (st .format) in
-        let here = subst (λ (x : Receiver). InSettings st x) (sym (meets .0)) same in
-        let there = subst (λ (x : Receiver). Stands st x since) (sym (meets .0)) stands in
-        let arrived = ap (λ x. x .cell) (head-eq-of-cons-eq came) in
-        let passes = last-passes f st (c .state) since there with-overhead in
-        let gap = gap-is f st (c .state) since there with-overhead (few .0) in
-        let number : c .answer .state .last ≡ st .number = last-after st t with-overhead sent c (meets .1) here arrived (room .0) passes gap in
-        let next : Stands (S.after st (t .indication)) (c .answer .state) (after 0)
-            = (started-after st t with-overhead sent c (meets .1) here arrived (room .0) passes gap,
-            rw number (state-passes st t with-overhead sent .number-to),
-            rw number (ap (λ (n : ℕ). n % 16) (let whole : st .number + 1 ≡ st .number + 1 + 0 = omega arith in whole))) in
-        ap₂ (λ (x y : List ℕ). x ++ y)
-        (handed-out st t with-overhead sent c (meets .1) here arrived (room .0) passes gap column)
-        (follows (c .answer .state) (after 0) cs
-        (settings-after st t with-overhead sent c (meets .1) here arrived (room .0) passes gap)
-        next (few .1) (meets .2) (tail-eq-of-cons-eq came) (room .1))
-        ∙ rw (ap isLost e)
+        trip-unaltered : t .fate ≡ unaltered → (calls : List ReceiveCall) → Row Receives rc calls → came-so unaltered calls → WithRoom calls
+            → handed column (S.usedNow st) calls ≡ then-due since
+        unfolding Row WithRoom handed S.after
+        trip-unaltered e [] meets came room = absurd (nil≢cons came)
+        trip-unaltered e (c ∷ cs) meets came room =
+            let few = between .1 (ap isLost e) in
+            let f = formatOf (st .format) in
+            let here = subst (λ (x : Receiver). InSettings st x) (sym (meets .0)) same in
+            let there = subst (λ (x : Receiver). Stands st x since) (sym (meets .0)) stands in
+            let arrived = ap (λ x. x .cell) (head-eq-of-cons-eq came) in
+            let passes = last-passes f st (c .state) since there with-overhead in
+            let gap = gap-is f st (c .state) since there with-overhead (few .0) in
+            let number : c .answer .state .last ≡ st .number = last-after st t with-overhead sent c (meets .1) here arrived (room .0) passes gap in
+            let next : Stands (S.after st (t .indication)) (c .answer .state) (after 0)
+            = (
+              started-after st t with-overhead sent c (meets .1) here arrived (room .0) passes gap,
+              rw number (state-passes st t with-overhead sent .number-to),
+              rw number (ap (λ (n : ℕ). n % 16) (let whole : st .number + 1 ≡ st .number + 1 + 0 = omega arith in whole)),
+            ) in
+            ap₂ (λ (x y : List ℕ). x ++ y)
+            (handed-out st t with-overhead sent c (meets .1) here arrived (room .0) passes gap column)
+            (follows (c .answer .state) (after 0) cs
+            (settings-after st t with-overhead sent c (meets .1) here arrived (room .0) passes gap)
+            next (few .1) (meets .2) (tail-eq-of-cons-eq came) (room .1))
+            ∙ rw (ap isLost e)
 
-    pub trip-any : (fate : Fate) → t .fate ≡ fate → (calls : List ReceiveCall) → Row Receives rc calls → came-so fate calls → WithRoom calls
-        → handed column (S.usedNow st) calls ≡ then-due since
-    trip-any dropped e calls = trip-dropped e calls
-    trip-any (spoiled octets indication) e calls = trip-spoiled e calls
-    trip-any unaltered e calls = trip-unaltered e calls
+        pub trip-any : (fate : Fate) → t .fate ≡ fate → (calls : List ReceiveCall) → Row Receives rc calls → came-so fate calls → WithRoom calls
+            → handed column (S.usedNow st) calls ≡ then-due since
+        trip-any dropped e calls = trip-dropped e calls
+        trip-any (spoiled octets indication) e calls = trip-spoiled e calls
+        trip-any unaltered e calls = trip-unaltered e calls
 
 -- what the receiver hands out over the calls is what is due
 pub hands-out : (column : Column) (ts : List Trip) (st : Sender) (rc : Receiver) (since : Since) (calls : List ReceiveCall)
@@ -208,6 +212,6 @@ hands-out column [] st rc since (c ∷ cs) with-overhead same stands row fair be
 hands-out column (t ∷ ts) st rc since calls with-overhead same stands row fair between meets came room =
     trip-any column t ts st with-overhead (row .0) (fair .0)
     (λ rc₁ since₁ calls₁ same₁ stands₁ between₁ meets₁ came₁ room₁.
-      hands-out column ts (S.after st (t .indication)) rc₁ since₁ calls₁ with-overhead same₁ stands₁ (row .1) (fair .1) between₁ meets₁
-      came₁ room₁)
+    hands-out column ts (S.after st (t .indication)) rc₁ since₁ calls₁ with-overhead same₁ stands₁ (row .1) (fair .1) between₁ meets₁
+    came₁ room₁)
     rc same since stands between (t .fate) refl calls meets came room
