@@ -77,7 +77,7 @@ demand-3-inside st trips calls column with-overhead row fair few meets came room
 -- first eight sequencing bits and perhaps anything else), at most fourteen in a row, a fresh receiver in the sender's settings with
 -- room: from the first unaltered cell to the last each sample and its ancillary bits stand in their sent place, exact and marked
 -- sound; each place of a dropped or spoiled cell holds zero and is marked missing; nothing else is handed out."
-pub demand-3 : Demand3 3 14 Receives
+pub demand-3 : Demanded Receives
 unfolding Demand3
 demand-3 st trips calls column with-overhead row fair few meets came room =
     demand-3-inside st trips calls column with-overhead row fair (le-trans (longest-inside trips) few) meets came room

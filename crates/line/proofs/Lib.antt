@@ -4,4 +4,5 @@ pub mod Cells
 pub mod Demands
 pub mod Places
 pub mod Rows
+pub mod Sharp
 pub mod Steps

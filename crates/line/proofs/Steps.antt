@@ -4,7 +4,7 @@ use mathlib.Core.Bool.{Bool, true, false, cond, not, _||_}
 use mathlib.Core.List.{List, [], _∷_, _++_}
 use mathlib.Core.Path.{_≡_, refl, sym, _∙_, ap, ap₂, subst}
 use Prim.Native.Nat.{ℕ, zero, suc, _+_, _*_, _%_, _-_, _≤_, _<_}
-use native.Mathlib.Nat.{mod-add-mod, mod-eq-of-lt, add-mod-right, suc-mul, suc-ne-zero}
+use native.Mathlib.Nat.{mod-add-mod, mod-eq-of-lt, add-mod-right, suc-mul, suc-ne-zero, lt-of-not-le}
 use native.Mathlib.Numerals.{add-one}
 use native.Mathlib.Omega.{arith}
 use borrow.Author.Tests.{ne-eqb, le-ltb, lt-ltb, eq-eqb, eqb-true, eqb-false, ltb-true}
@@ -118,6 +118,31 @@ module _ (st : Sender) (t : Trip) (with-overhead : formatOf (st .format) .overhe
           = subst (λ (n : ℕ). n ≤ 15) (λ i. R.numberNow (formatOf (same .format i)) (arrived i)) (passed .number-to) in
           let found : numberIn (eightIn f came) ≤ 15 = rw (ne-eqb (f .overhead) 0 with-overhead) at number in
           off-table came some few (omega (arith, found))
+
+      -- one of 48 octets is refused 8
+      pub spoiled-gets-8 : {came : List ℕ} → c .cell ≡ came → length came ≡ 48 → 1 ≤ alteredIn f (cellOn st t) came
+          → alteredIn f (cellOn st t) came ≤ 3 → Roomy c → R.lastRefused f (c .state .started) (c .state .last) ≡ false
+          → c .answer .refusal ≡ 8
+      unfolding R.receiveRefusal R.lengthsRefused R.stateRefusal R.numberNow
+      spoiled-gets-8 {came} arrived whole some few roomy last-passes =
+          let state-none : R.stateRefusal (c .state) ≡ 0
+          = (λ i.
+          orElse (settingsRefusal (same .format i) (same .channels i) (same .order i))
+          (cond (R.lastRefused (formatOf (same .format i)) (c .state .started) (c .state .last)) 4 0))
+          ∙ then-later _ (SL.settings-none st (t .indication) (t .samples) (t .ancillary) 48 sent)
+          ∙ rw last-passes in
+          let number : R.numberNow (formatOf (c .state .format)) (c .cell) ≡ numberIn (eightIn f came)
+          = (λ i. R.numberNow (formatOf (same .format i)) (arrived i)) ∙ rw (ne-eqb (f .overhead) 0 with-overhead) in
+          let off : 15 < R.numberNow (formatOf (c .state .format)) (c .cell)
+          = rw number (lt-of-not-le (λ h. off-table came some few (omega (arith, h)))) in
+          received-refusal c meets
+          ∙ then-later _ state-none
+          ∙ rw (
+            eq-eqb _ _ (ap length arrived ∙ whole),
+            eq-eqb _ _ (roomy .ancillary-equal),
+            eq-eqb _ _ (roomy .marks-equal),
+            lt-ltb _ _ off,
+          )
 
       -- an unaltered one is taken where the state passes and the gap is some
       module _ (arrived : c .cell ≡ cellOn st t) (roomy : Roomy c)

@@ -153,3 +153,7 @@ Demand3 most row Box =
     → map got calls ≡ arrivals st trips
     → WithRoom calls
     → handed column (S.usedNow st) calls ≡ shown column (S.usedNow st) (toLast (fromFirst trips))
+
+-- "one, two or three of the first eight sequencing bits"; "at most fourteen in a row"
+abbrev pub Demanded : (ReceiveCall → Type 0) → Type 0
+Demanded Box = Demand3 3 14 Box
