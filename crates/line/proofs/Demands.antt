@@ -34,6 +34,7 @@ use Rattle.line.specs.Line.{
   toLast,
   fromFirst,
   Demand3,
+  Demanded,
 }
 use Rattle.line.proofs.Calls.{sends-or-nothing, receives-or-nothing, gives-back}
 use Rattle.line.proofs.Places.{due-places, between, longest-inside}
