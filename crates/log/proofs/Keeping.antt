@@ -1,0 +1,107 @@
+-- Laws of writing into a lent log, over plain values.
+-- Assumes nothing.
+use mathlib.Core.Bool.{false}
+use mathlib.Core.List.{List, [], _∷_, _++_}
+use mathlib.Core.Path.{_≡_, refl, sym, _∙_, ap}
+use Prim.Native.Nat.{ℕ, suc, _+_, _/_, _%_, _≤_, _<_}
+use native.Mathlib.Omega.{arith}
+use native.Mathlib.Numerals.{add-one}
+use borrow.Author.Tests.{lt-ltb, le-ltb, eq-eqb, ne-eqb}
+use lib.Dec.{eqb, ltb}
+use lib.ListN.{length, getD, set, length-set}
+use lib.Seq.{sets, sets-eq, paste, paste-suc, take-all}
+use Rattle.log.specs.declared.Kept.{Kept}
+use Rattle.log.specs.Numbers.{groupsOf}
+use Rattle.log.specs.Written.{writtenAt, kept, notKept, Keeps, numberRefusal, recordRefusal}
+use Rattle.log.proofs.Laws.{groups-1, groups-2, groups-3}
+
+-- a refusal leaves the log as it was
+pub keeps-not : {refusal place : ℕ} {octets log : List ℕ} {answer : Kept} (k : ℕ) → refusal ≡ suc k → answer ≡ notKept (suc k)
+    → Keeps refusal place octets log answer log
+keeps-not k e a =
+    let refused : eqb (suc k) 0 ≡ false = ne-eqb (suc k) 0 (λ z. omega arith) in
+    record { answered = a ∙ rw (e, refused); left = rw (e, refused) }
+
+pub keeps : {refusal place : ℕ} {octets log after : List ℕ} {answer : Kept} → refusal ≡ 0 → answer ≡ kept (place + length octets)
+    → after ≡ writtenAt place octets log → Keeps refusal place octets log answer after
+keeps e a l = record { answered = a ∙ rw e; left = l ∙ rw e }
+
+pub stored : (octets log : List ℕ) (place : ℕ) → place + length octets ≤ length log → sets log place octets ≡ writtenAt place octets log
+unfolding writtenAt
+stored octets log place h = sets-eq octets log place h
+
+-- octets behind one that was stored before them
+pub stored-behind : (octet : ℕ) (octets log : List ℕ) (place : ℕ) → place + 1 + length octets ≤ length log
+    → writtenAt (place + 1) octets (set log place octet) ≡ writtenAt place (octet ∷ octets) log
+stored-behind octet octets log place h =
+    sym (stored octets (set log place octet) (place + 1) (rw length-set h))
+    ∙ rw (add-one place) (stored (octet ∷ octets) log place (omega arith))
+
+module _ (log : List ℕ) (place n : ℕ) where
+  pub number-large : 2097151 < n → numberRefusal log place n ≡ 11
+  unfolding numberRefusal
+  number-large h = rw (lt-ltb 2097151 n h)
+
+  pub number-no-room : n ≤ 2097151 → length log < place + length (groupsOf 3 n) → numberRefusal log place n ≡ 11
+  unfolding numberRefusal
+  number-no-room small h = rw (le-ltb 2097151 n small, lt-ltb (length log) (place + length (groupsOf 3 n)) h)
+
+  pub number-room : n ≤ 2097151 → place + length (groupsOf 3 n) ≤ length log → numberRefusal log place n ≡ 0
+  unfolding numberRefusal
+  number-room small h = rw (le-ltb 2097151 n small, le-ltb (length log) (place + length (groupsOf 3 n)) h)
+
+  -- stores of a number's octets, one after the other, are its shortest form written
+  groups-stored : (octets : List ℕ) {after : List ℕ} {answer : Kept} → n ≤ 2097151 → groupsOf 3 n ≡ octets → place + length octets ≤ length log
+      → answer ≡ kept (place + length octets) → after ≡ sets log place octets
+      → Keeps (numberRefusal log place n) place (groupsOf 3 n) log answer after
+  groups-stored octets small e h a l =
+      keeps (number-room small (rw e h)) (a ∙ rw e) (l ∙ stored octets log place h ∙ rw e)
+
+  pub stored-1 : {answer : Kept} → n < 128 → place + 1 ≤ length log → answer ≡ kept (place + 1)
+      → Keeps (numberRefusal log place n) place (groupsOf 3 n) log answer (set log place n)
+  stored-1 small h a = groups-stored (n ∷ []) (omega arith) (groups-1 2 n small) h a refl
+
+  pub stored-2 : {answer : Kept} → 128 ≤ n → n < 16384 → place + 2 ≤ length log → answer ≡ kept (place + 2)
+      → Keeps (numberRefusal log place n) place (groupsOf 3 n) log answer (set (set log place (128 + n % 128)) (place + 1) (n / 128))
+  stored-2 large small h a =
+      groups-stored ((128 + n % 128) ∷ n / 128 ∷ []) (omega arith) (groups-2 n large small) h a (rw (add-one place))
+
+  pub stored-3 : {answer : Kept} → 16384 ≤ n → n ≤ 2097151 → place + 3 ≤ length log → answer ≡ kept (place + 3)
+      → Keeps (numberRefusal log place n) place (groupsOf 3 n) log answer
+      (set (set (set log place (128 + n % 128)) (place + 1) (128 + n / 128 % 128)) (place + 2) (n / 128 / 128))
+  stored-3 large small h a =
+      let two : place + 2 ≡ suc (suc place) = omega arith in
+      groups-stored ((128 + n % 128) ∷ (128 + n / 128 % 128) ∷ n / 128 / 128 ∷ []) small (groups-3 n large small) h a
+      (rw (add-one place, two))
+
+module _ (log : List ℕ) (place : ℕ) (cell : List ℕ) where
+  pub record-no-cell : (length cell ≡ 48 → ⊥) → recordRefusal log place cell ≡ 5
+  unfolding recordRefusal
+  record-no-cell other = rw (ne-eqb (length cell) 48 other)
+
+  pub record-no-room : length cell ≡ 48 → length log < place + 49 → recordRefusal log place cell ≡ 12
+  unfolding recordRefusal
+  record-no-room e h = rw (eq-eqb (length cell) 48 e, lt-ltb (length log) (place + 49) h)
+
+  record-room : length cell ≡ 48 → place + 49 ≤ length log → recordRefusal log place cell ≡ 0
+  unfolding recordRefusal
+  record-room e h = rw (eq-eqb (length cell) 48 e, le-ltb (length log) (place + 49) h)
+
+  -- an octet stored, and a cell behind it, are a record written
+  pub record-stored : (octet : ℕ) {first : ℕ} {after : List ℕ} {answer : Kept} → octet ≡ first → length cell ≡ 48 → place + 49 ≤ length log
+      → answer ≡ kept (place + 49) → after ≡ writtenAt (place + 1) cell (set log place octet)
+      → Keeps (recordRefusal log place cell) place (first ∷ cell) log answer after
+  record-stored octet {first} same e h a l =
+      let n : place + length (first ∷ cell) ≡ place + 49 = omega arith in
+      keeps (record-room e h) (a ∙ rw n) (l ∙ stored-behind octet cell log place (omega arith) ∙ rw same)
+
+-- a turn of the loop that copies
+pub copied : {log : List ℕ} (before : List ℕ) (place : ℕ) (octets : List ℕ) (i : ℕ) → log ≡ paste before place octets i
+    → place + i < length before → i < length octets → set log (place + i) (getD octets i 0) ≡ paste before place octets (i + 1)
+copied before place octets i e h l = rw (e, add-one i) (paste-suc before place octets i 0 h l)
+
+pub copied-all : {log : List ℕ} (before : List ℕ) (place : ℕ) (octets : List ℕ) (i : ℕ) → log ≡ paste before place octets i
+    → i ≤ length octets → length octets ≤ i → log ≡ writtenAt place octets before
+unfolding writtenAt
+copied-all before place octets i e h l =
+    let n : i ≡ length octets = omega arith in e ∙ rw (take-all i octets l, n)

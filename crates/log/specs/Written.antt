@@ -1,0 +1,37 @@
+-- What writing into a lent log answers and leaves. "Nothing lent is written" where it is refused.
+-- Assumes nothing.
+use mathlib.Core.Bool.{Bool, cond}
+use mathlib.Core.List.{List, _∷_, _++_}
+use mathlib.Core.Path.{_≡_}
+use Prim.Native.Nat.{ℕ, _+_}
+use lib.Dec.{eqb, ltb}
+use lib.ListN.{length, take, drop}
+use Rattle.log.specs.declared.Kept.{Kept}
+use Rattle.log.specs.Numbers.{groupsOf}
+
+-- a lent run after octets were written at a place
+unfoldable pub writtenAt : ℕ → List ℕ → List ℕ → List ℕ
+writtenAt place octets run = take place run ++ octets ++ drop (place + length octets) run
+
+abbrev pub kept : ℕ → Kept
+kept next = record { refusal = 0; next = next }
+
+abbrev pub notKept : ℕ → Kept
+notKept refusal = record { refusal = refusal; next = 0 }
+
+-- octets written at a place of a lent log: the answer, and what the log holds afterwards
+pub record Keeps (refusal place : ℕ) (octets log : List ℕ) (answer : Kept) (after : List ℕ) : Type 0 where
+  pub answered : answer ≡ cond (eqb refusal 0) (kept (place + length octets)) (notKept refusal)
+  pub left : after ≡ cond (eqb refusal 0) (writtenAt place octets log) log
+
+-- 11: "over three groups or cut"
+unfoldable pub numberRefusal : List ℕ → ℕ → ℕ → ℕ
+numberRefusal log place n = cond (ltb 2097151 n) 11 (cond (ltb (length log) (place + length (groupsOf 3 n))) 11 0)
+
+-- "the indication, 0 or 1, and 48 octets"
+abbrev pub recordOctets : Bool → List ℕ → List ℕ
+recordOctets indication cell = cond indication 1 0 ∷ cell
+
+-- 5: "a cell not of 48 octets"; 12: "a record cut before its 48 octets end"
+unfoldable pub recordRefusal : List ℕ → ℕ → List ℕ → ℕ
+recordRefusal log place cell = cond (eqb (length cell) 48) (cond (ltb (length log) (place + 49)) 12 0) 5
