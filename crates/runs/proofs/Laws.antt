@@ -1,11 +1,12 @@
 -- Laws of runs, octets and finite tests.
 -- Assumes nothing.
-use mathlib.Core.Bool.{Bool, true, false, _&&_}
+use mathlib.Core.Bool.{Bool, true, false, true≢false, cond, _&&_, _||_}
 use mathlib.Core.List.{List, [], _∷_, _++_, append-assoc}
 use mathlib.Core.Logic.{⊎-elim}
 use mathlib.Core.Path.{_≡_, refl, sym, _∙_, ap, subst}
 use Prim.Native.Nat.{ℕ, zero, suc, _+_, _*_, _/_, _%_, _^_, _-_, _≤_, _<_}
 use native.Mathlib.Nat.{
+  suc-ne-zero,
   not-suc-le-zero,
   le-of-suc-le-suc,
   eq-or-lt-of-le,
@@ -39,13 +40,22 @@ use lib.Seq.{take-at, drop-at, getD-at, take-append-le, drop-append-le, take-all
 use Rattle.runs.specs.Runs.{tab, joined, octetsOf, readOn, numberOf, over}
 use Rattle.runs.specs.Test.{every}
 
-both-left : (a b : Bool) → T (a && b) → T a
+pub both-left : (a b : Bool) → T (a && b) → T a
 both-left true b t = tt
 both-left false b t = t
 
-both-right : (a b : Bool) → T (a && b) → T b
+pub both-right : (a b : Bool) → T (a && b) → T b
 both-right true b t = t
 both-right false b t = absurd t
+
+-- what a list of refusals in order tells where none is given: the first is not, and the rest gives none
+pub past : (test : Bool) (n rest : ℕ) → cond test (suc n) rest ≡ 0 → (test ≡ false) × (rest ≡ 0)
+past true n rest e = absurd (suc-ne-zero n e)
+past false n rest e = (refl, e)
+
+pub neither : (a b : Bool) → a || b ≡ false → (a ≡ false) × (b ≡ false)
+neither true b e = absurd (true≢false e)
+neither false b e = (refl, e)
 
 -- a test that passes at each number below n passes at k
 pub every-at : (test : ℕ → Bool) (n : ℕ) → T (every test n) → (k : ℕ) → k < n → T (test k)
