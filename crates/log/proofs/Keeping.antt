@@ -1,26 +1,26 @@
 -- Laws of writing into a lent log, over plain values.
 -- Assumes nothing.
-use mathlib.Core.Bool.{false}
 use mathlib.Core.List.{List, [], _∷_, _++_}
 use mathlib.Core.Path.{_≡_, refl, sym, _∙_, ap}
 use Prim.Native.Nat.{ℕ, suc, _+_, _/_, _%_, _≤_, _<_}
 use native.Mathlib.Omega.{arith}
 use native.Mathlib.Numerals.{add-one}
 use borrow.Author.Tests.{lt-ltb, le-ltb, eq-eqb, ne-eqb}
-use lib.Dec.{eqb, ltb}
 use lib.ListN.{length, getD, set, length-set}
 use lib.Seq.{sets, sets-eq, paste, paste-suc, take-all}
-use Rattle.log.specs.declared.Kept.{Kept}
+use Rattle.log.specs.declared.keep.Kept.{Kept}
 use Rattle.log.specs.Numbers.{groupsOf}
 use Rattle.log.specs.Written.{writtenAt, kept, notKept, Keeps, numberRefusal, recordRefusal}
 use Rattle.log.proofs.Laws.{groups-1, groups-2, groups-3}
 
 -- a refusal leaves the log as it was
+pub keeps-no : {refusal place met : ℕ} {octets log : List ℕ} {answer : Kept} → refusal ≡ met → (met ≡ 0 → ⊥) → answer ≡ notKept met
+    → Keeps refusal place octets log answer log
+keeps-no {met = met} e some a = record { answered = a ∙ rw (e, ne-eqb met 0 some); left = rw (e, ne-eqb met 0 some) }
+
 pub keeps-not : {refusal place : ℕ} {octets log : List ℕ} {answer : Kept} (k : ℕ) → refusal ≡ suc k → answer ≡ notKept (suc k)
     → Keeps refusal place octets log answer log
-keeps-not k e a =
-    let refused : eqb (suc k) 0 ≡ false = ne-eqb (suc k) 0 (λ z. omega arith) in
-    record { answered = a ∙ rw (e, refused); left = rw (e, refused) }
+keeps-not k e a = keeps-no e (λ z. omega arith) a
 
 pub keeps : {refusal place : ℕ} {octets log after : List ℕ} {answer : Kept} → refusal ≡ 0 → answer ≡ kept (place + length octets)
     → after ≡ writtenAt place octets log → Keeps refusal place octets log answer after

@@ -1,3 +1,4 @@
+pub mod Headers
 pub mod Keeping
 pub mod Laws
 pub mod Places

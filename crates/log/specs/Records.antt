@@ -5,7 +5,40 @@ use mathlib.Core.List.{List}
 use Prim.Native.Nat.{ℕ, _+_, _*_}
 use lib.Dec.{eqb, leb, ltb}
 use lib.ListN.{length, getD, take, drop}
+use Rattle.formats.specs.Formats.{settingsRefusal}
+use Rattle.log.specs.declared.Header.{Header}
+use Rattle.log.specs.declared.Number.{Number}
 use Rattle.log.specs.declared.Record.{Record}
+use Rattle.log.specs.Numbers.{numberAt}
+
+abbrev pub noHeader : ℕ → Header
+noHeader refusal = record { refusal = refusal; place = 0; format = 0; channels = 0; order = 0 }
+
+-- the refusal of the first of two that refuses, 0 where none does
+abbrev pub orElse : ℕ → ℕ → ℕ
+orElse first second = cond (eqb first 0) second first
+
+-- "First three numbers: subframe octet, C, order", and "11 as met, then 1 to 3"
+unfoldable pub headerRefusal : Number → Number → Number → ℕ
+headerRefusal format channels order =
+    orElse (format .refusal)
+    (orElse (channels .refusal) (orElse (order .refusal) (settingsRefusal (format .value) (channels .value) (order .value))))
+
+unfoldable pub headerOfNumbers : Number → Number → Number → Header
+headerOfNumbers format channels order =
+    cond (eqb (headerRefusal format channels order) 0)
+    (record { refusal = 0; place = order .next; format = format .value; channels = channels .value; order = order .value })
+    (noHeader (headerRefusal format channels order))
+
+-- each number stands where the one before it ends
+abbrev pub secondNumber : List ℕ → Number
+secondNumber log = numberAt log (numberAt log 0 .next)
+
+abbrev pub thirdNumber : List ℕ → Number
+thirdNumber log = numberAt log (secondNumber log .next)
+
+unfoldable pub headerOf : List ℕ → Header
+headerOf log = headerOfNumbers (numberAt log 0) (secondNumber log) (thirdNumber log)
 
 -- "A place at the log's end or past it answers the end"
 abbrev pub endAt : ℕ → Record

@@ -6,8 +6,10 @@ use mathlib.Core.Path.{_≡_}
 use Prim.Native.Nat.{ℕ, _+_}
 use lib.Dec.{eqb, ltb}
 use lib.ListN.{length, take, drop}
-use Rattle.log.specs.declared.Kept.{Kept}
+use Rattle.log.specs.declared.keep.Kept.{Kept}
+use Rattle.formats.specs.Formats.{settingsRefusal}
 use Rattle.log.specs.Numbers.{groupsOf}
+use Rattle.log.specs.Records.{orElse}
 
 -- a lent run after octets were written at a place
 unfoldable pub writtenAt : ℕ → List ℕ → List ℕ → List ℕ
@@ -27,6 +29,15 @@ pub record Keeps (refusal place : ℕ) (octets log : List ℕ) (answer : Kept) (
 -- 11: "over three groups or cut"
 unfoldable pub numberRefusal : List ℕ → ℕ → ℕ → ℕ
 numberRefusal log place n = cond (ltb 2097151 n) 11 (cond (ltb (length log) (place + length (groupsOf 3 n))) 11 0)
+
+-- "First three numbers: subframe octet, C, order"
+abbrev pub headerOctets : ℕ → ℕ → ℕ → List ℕ
+headerOctets format channels order = groupsOf 3 format ++ groupsOf 3 channels ++ groupsOf 3 order
+
+-- 1 to 3, then 11 where the header is "cut"
+unfoldable pub headerRefused : List ℕ → ℕ → ℕ → ℕ → ℕ
+headerRefused log format channels order =
+    orElse (settingsRefusal format channels order) (cond (ltb (length log) (length (headerOctets format channels order))) 11 0)
 
 -- "the indication, 0 or 1, and 48 octets"
 abbrev pub recordOctets : Bool → List ℕ → List ℕ

@@ -1,25 +1,26 @@
-// The log, document 01: its numbers, its records, and the reader over a lent log. A place is a count of octets from the log's start.
-ghost use mathlib.Core.Bool.{cond};
+// The log, document 01: its numbers, its header and its records, read from a lent log. A place is a count of octets from the
+// log's start.
 ghost use mathlib.Core.Path.{_≡_};
-ghost use Prim.Native.Nat.{_+_, _<_, _≤_};
-ghost use lib.ListN.{length};
-ghost use Rattle.log.specs.Numbers.{numberAt, numberIn, behind, noNumber, groupsOf};
-ghost use Rattle.log.specs.Records.{recordAt, noRecord, cellAt, from};
-ghost use Rattle.log.specs.Written.{
-  Keeps,
-  kept,
-  notKept,
-  writtenAt,
-  numberRefusal,
-  recordRefusal,
-  recordOctets,
-};
+ghost use Prim.Native.Nat.{_<_};
+ghost use Rattle.log.specs.Numbers.{numberAt, numberIn, behind, noNumber};
+ghost use Rattle.log.specs.Records.{headerOf, noHeader, recordAt, noRecord, cellAt, from};
+
+pub mod keep; // keep.rt: writing a log
 
 // A log number: the refusal (0: none), its value and the place after it, both zero where it is refused.
 pub struct Number {
     pub refusal: u8,
     pub value: u32,
     pub next: usize,
+}
+
+// A log's header: the refusal (0: none), the place after it, and its three numbers, all zero where it is refused.
+pub struct Header {
+    pub refusal: u8,
+    pub place: usize,
+    pub format: u32,
+    pub channels: u32,
+    pub order: u32,
 }
 
 // What stands at a place: the refusal (0: none); what it is (1: a cell, 0: the end or a refusal); its indication; where its 48
@@ -29,12 +30,6 @@ pub struct Record {
     pub what: u8,
     pub indication: bool,
     pub start: usize,
-    pub next: usize,
-}
-
-// What writing into a lent log answers: the refusal (0: none), and the place after what was written, zero where it is refused.
-pub struct Kept {
-    pub refusal: u8,
     pub next: usize,
 }
 
@@ -125,6 +120,47 @@ pub fn read_number(log: &[u8], place: usize) -> Number
     behind(group, last_groups(log, next))
 }
 
+fn no_header(refusal: u8) -> Header
+    ensures { λ r. ⌜ r ≡ noHeader refusal ⌝ }
+{
+    Header {
+        refusal,
+        place: 0,
+        format: 0,
+        channels: 0,
+        order: 0,
+    }
+}
+
+// A log's header: 11 as met in its three numbers, then 1 to 3.
+pub fn read_header(log: &[u8]) -> Header
+    ensures { λ r. ⌜ r ≡ headerOf (now (log .entry)) ⌝ }
+{
+    let format = read_number(log, 0);
+    if format.refusal != 0 {
+        return no_header(format.refusal);
+    }
+    let channels = read_number(log, format.next);
+    if channels.refusal != 0 {
+        return no_header(channels.refusal);
+    }
+    let order = read_number(log, channels.next);
+    if order.refusal != 0 {
+        return no_header(order.refusal);
+    }
+    let settled = formats::settings(format.value, channels.value, order.value);
+    if settled.refusal != 0 {
+        return no_header(settled.refusal);
+    }
+    Header {
+        refusal: 0,
+        place: order.next,
+        format: format.value,
+        channels: channels.value,
+        order: order.value,
+    }
+}
+
 fn no_record(refusal: u8) -> Record
     ensures { λ r. ⌜ r ≡ noRecord refusal ⌝ }
 {
@@ -181,96 +217,4 @@ pub fn read_cell<'a>(log: &'a [u8], place: usize) -> &'a [u8]
         return &log[start..end];
     }
     &log[start..start]
-}
-
-fn kept_to(next: usize) -> Kept
-    ensures { λ r. ⌜ r ≡ kept next ⌝ }
-{
-    Kept { refusal: 0, next }
-}
-
-fn not_kept(refusal: u8) -> Kept
-    ensures { λ r. ⌜ r ≡ notKept refusal ⌝ }
-{
-    Kept { refusal, next: 0 }
-}
-
-// How many groups the shortest form of a number has.
-fn group_count(value: u32) -> usize
-    requires { ⌜ value ≤ 2097151 ⌝ }
-    ensures { λ r. ⌜ (r ≡ length (groupsOf 3 value)) × (r ≤ 3) ⌝ }
-{
-    if value < 128 {
-        return 1;
-    }
-    if value < 16384 {
-        return 2;
-    }
-    3
-}
-
-// Writes a number's shortest form at a place of a lent log: 11 where it has more than three groups, or the log's end would cut it.
-pub fn write_number(log: &mut [u8], place: usize, value: u32) -> Kept
-    ensures { λ r. ⌜ Keeps (numberRefusal (now (log .entry)) place value) place (groupsOf 3 value) (now (log .entry)) r
-        (now (log .exit)) ⌝ }
-{
-    if 2097151 < value {
-        return not_kept(11);
-    }
-    if log.len() < place {
-        return not_kept(11);
-    }
-    let count = group_count(value);
-    if log.len() - place < count {
-        return not_kept(11);
-    }
-    if value < 128 {
-        log[place] = value as u8;
-        return kept_to(place + 1);
-    }
-    log[place] = (128 + value % 128) as u8;
-    if value < 16384 {
-        log[place + 1] = (value / 128) as u8;
-        return kept_to(place + 2);
-    }
-    log[place + 1] = (128 + value / 128 % 128) as u8;
-    log[place + 2] = (value / 128 / 128) as u8;
-    kept_to(place + 3)
-}
-
-fn put(log: &mut [u8], place: usize, octets: &[u8])
-    requires { ⌜ place + length (now octets) ≤ length (now log) ⌝ }
-    ensures { λ _. ⌜ now (log .exit) ≡ writtenAt place (now (octets .entry)) (now (log .entry)) ⌝ }
-{
-    let mut i = 0;
-    while i < octets.len() {
-        log[place + i] = octets[i];
-        i += 1;
-    }
-}
-
-fn octet_of(indication: bool) -> u8
-    ensures { λ r. ⌜ r ≡ cond indication 1 0 ⌝ }
-{
-    if indication { 1 } else { 0 }
-}
-
-// Writes a record at a place of a lent log: 5 where the cell has not 48 octets, 12 where the log's end would cut it.
-pub fn write_record(log: &mut [u8], place: usize, indication: bool, cell: &[u8]) -> Kept
-    ensures { λ r. ⌜ Keeps (recordRefusal (now (log .entry)) place (now (cell .entry))) place
-        (recordOctets indication (now (cell .entry))) (now (log .entry)) r (now (log .exit)) ⌝ }
-{
-    if cell.len() != 48 {
-        return not_kept(5);
-    }
-    if log.len() < place {
-        return not_kept(12);
-    }
-    if log.len() - place < 49 {
-        return not_kept(12);
-    }
-    let start = place + 1;
-    log[place] = octet_of(indication);
-    put(log, start, cell);
-    kept_to(place + 49)
 }

@@ -1,4 +1,4 @@
--- `log::write_number` meets its contract: a law for each return.
+-- `log::keep::write_number` meets its contract: a law for each return.
 -- Assumes nothing.
 use Rattle.log.proofs.Laws.{groups-1, groups-many, groups-2, groups-3}
 use Rattle.log.proofs.Keeping.{keeps-not, number-large, number-no-room, stored-1, stored-2, stored-3}
@@ -6,8 +6,8 @@ use lib.ListN.{length, length-set}
 use native.Mathlib.Omega.{arith}
 use mathlib.Core.Path.{ap}
 use borrow.Author.Needs.{needs}
-use Rattle.log.proofs.write_number.Statement.{statement}
-use Rattle.log.proofs.write_number.Tie as tie
+use Rattle.log.proofs.keep.write_number.Statement.{statement}
+use Rattle.log.proofs.keep.write_number.Tie as tie
 
 not-kept-requires : tie.Need-not-kept-requires
 not-kept-requires c κs = search needs

@@ -1,10 +1,10 @@
--- `log::group_count` meets its contract.
+-- `log::keep::group_count` meets its contract.
 -- Assumes nothing.
 use borrow.Author.Needs.{needs}
 use Rattle.log.proofs.Laws.{groups-1, groups-2, groups-3}
 use native.Mathlib.Omega.{arith}
-use Rattle.log.proofs.group_count.Statement.{statement}
-use Rattle.log.proofs.group_count.Tie as tie
+use Rattle.log.proofs.keep.group_count.Statement.{statement}
+use Rattle.log.proofs.keep.group_count.Tie as tie
 
 returns : tie.Need-returns
 returns c = (rw (groups-1 2 _ (c .if1 .taken)), search needs)

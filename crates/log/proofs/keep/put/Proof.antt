@@ -1,4 +1,4 @@
--- `log::put` meets its contract. The loop: so many octets are copied. The measure is what is left of them.
+-- `log::keep::put` meets its contract. The loop: so many octets are copied. The measure is what is left of them.
 -- Assumes nothing.
 
 use lib.Seq.{paste, paste-zero}
@@ -8,8 +8,8 @@ use native.Mathlib.Omega.{arith}
 use borrow.Author.Needs.{needs}
 use Prim.Native.Nat.{_+_, _-_, _≤_}
 use mathlib.Core.Path.{_≡_, refl}
-use Rattle.log.proofs.put.Statement.{statement}
-use Rattle.log.proofs.put.Tie as tie
+use Rattle.log.proofs.keep.put.Statement.{statement}
+use Rattle.log.proofs.keep.put.Tie as tie
 
 abbrev Inv-loop : tie.InvT-loop
 Inv-loop log₀ place octets i₀ log i =

@@ -1,12 +1,12 @@
--- `log::write_record` meets its contract: a law for each return.
+-- `log::keep::write_record` meets its contract: a law for each return.
 -- Assumes nothing.
 use mathlib.Core.Path.{_∙_}
 use native.Mathlib.Omega.{arith}
 use lib.ListN.{length-set}
 use Rattle.log.proofs.Keeping.{keeps-not, record-no-cell, record-no-room, record-stored}
 use borrow.Author.Needs.{needs}
-use Rattle.log.proofs.write_record.Statement.{statement}
-use Rattle.log.proofs.write_record.Tie as tie
+use Rattle.log.proofs.keep.write_record.Statement.{statement}
+use Rattle.log.proofs.keep.write_record.Tie as tie
 
 not-kept-requires : tie.Need-not-kept-requires
 not-kept-requires c κs = search needs
