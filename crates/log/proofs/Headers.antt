@@ -5,7 +5,7 @@ use mathlib.Core.List.{List, [], _∷_}
 use mathlib.Core.Path.{_≡_, refl, sym, _∙_, ap, subst}
 use Prim.Native.Nat.{ℕ, _+_, _≤_, _<_}
 use native.Mathlib.Omega.{arith}
-use borrow.Author.Tests.{eq-eqb, ne-eqb, eqb-true, ltb-true, ltb-false, lt-ltb, le-ltb}
+use borrow.Author.Tests.{eq-eqb, ne-eqb, eqb-true, eqb-false, ltb-true, ltb-false, lt-ltb, le-ltb}
 use lib.Dec.{T, eqb, ltb, ltb→lt}
 use lib.ListN.{length, set}
 use lib.Seq.{sets}
@@ -121,6 +121,18 @@ module _ (log : List ℕ) (format channels order : ℕ) where
   header-no-room ok h =
       let e : headerOctets format channels order ≡ format ∷ channels ∷ order ∷ [] = header-octets format channels order ok in
       rw (ok, e, lt-ltb (length log) 3 h)
+
+  pub header-fits : headerRefused log format channels order ≡ 0 → (settingsRefusal format channels order ≡ 0) × (3 ≤ length log)
+  unfolding headerRefused
+  header-fits none =
+      by-test (eqb (settingsRefusal format channels order) 0)
+      (λ t.
+      let ok : settingsRefusal format channels order ≡ 0 = eqb-true (settingsRefusal format channels order) 0 t in
+      let e : headerOctets format channels order ≡ format ∷ channels ∷ order ∷ [] = header-octets format channels order ok in
+      by-test (ltb (length log) 3)
+      (λ u. absurd (let z : _≡_ {A = ℕ} 11 0 = rw (ok, e, u) at none in omega arith))
+      (λ u. (ok, ltb-false (length log) 3 u)))
+      (λ t. absurd (eqb-false (settingsRefusal format channels order) 0 t (rw t at none)))
 
   header-room : settingsRefusal format channels order ≡ 0 → 3 ≤ length log → headerRefused log format channels order ≡ 0
   unfolding headerRefused

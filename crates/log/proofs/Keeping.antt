@@ -5,13 +5,14 @@ use mathlib.Core.Path.{_≡_, refl, sym, _∙_, ap}
 use Prim.Native.Nat.{ℕ, suc, _+_, _/_, _%_, _≤_, _<_}
 use native.Mathlib.Omega.{arith}
 use native.Mathlib.Numerals.{add-one}
-use borrow.Author.Tests.{lt-ltb, le-ltb, eq-eqb, ne-eqb}
+use borrow.Author.Tests.{lt-ltb, le-ltb, eq-eqb, ne-eqb, ltb-false, eqb-true}
+use lib.Dec.{eqb, ltb}
 use lib.ListN.{length, getD, set, length-set}
 use lib.Seq.{sets, sets-eq, paste, paste-suc, take-all}
 use Rattle.log.specs.declared.keep.Kept.{Kept}
 use Rattle.log.specs.Numbers.{groupsOf}
 use Rattle.log.specs.Written.{writtenAt, kept, notKept, Keeps, numberRefusal, recordRefusal}
-use Rattle.log.proofs.Laws.{groups-1, groups-2, groups-3}
+use Rattle.log.proofs.Laws.{by-test, groups-1, groups-2, groups-3}
 
 -- a refusal leaves the log as it was
 pub keeps-no : {refusal place met : ℕ} {octets log : List ℕ} {answer : Kept} → refusal ≡ met → (met ≡ 0 → ⊥) → answer ≡ notKept met
@@ -50,6 +51,15 @@ module _ (log : List ℕ) (place n : ℕ) where
   unfolding numberRefusal
   number-room small h = rw (le-ltb 2097151 n small, le-ltb (length log) (place + length (groupsOf 3 n)) h)
 
+  pub number-fits : numberRefusal log place n ≡ 0 → (n ≤ 2097151) × (place + length (groupsOf 3 n) ≤ length log)
+  unfolding numberRefusal
+  number-fits ok =
+      by-test (ltb 2097151 n)
+      (λ t. absurd (let z : _≡_ {A = ℕ} 11 0 = rw t at ok in omega arith))
+      (λ t. by-test (ltb (length log) (place + length (groupsOf 3 n)))
+      (λ u. absurd (let z : _≡_ {A = ℕ} 11 0 = rw (t, u) at ok in omega arith))
+      (λ u. (ltb-false 2097151 n t, ltb-false (length log) (place + length (groupsOf 3 n)) u)))
+
   -- stores of a number's octets, one after the other, are its shortest form written
   groups-stored : (octets : List ℕ) {after : List ℕ} {answer : Kept} → n ≤ 2097151 → groupsOf 3 n ≡ octets → place + length octets ≤ length log
       → answer ≡ kept (place + length octets) → after ≡ sets log place octets
@@ -82,6 +92,15 @@ module _ (log : List ℕ) (place : ℕ) (cell : List ℕ) where
   pub record-no-room : length cell ≡ 48 → length log < place + 49 → recordRefusal log place cell ≡ 12
   unfolding recordRefusal
   record-no-room e h = rw (eq-eqb (length cell) 48 e, lt-ltb (length log) (place + 49) h)
+
+  pub record-fits : recordRefusal log place cell ≡ 0 → (length cell ≡ 48) × (place + 49 ≤ length log)
+  unfolding recordRefusal
+  record-fits ok =
+      by-test (eqb (length cell) 48)
+      (λ t. by-test (ltb (length log) (place + 49))
+      (λ u. absurd (let z : _≡_ {A = ℕ} 12 0 = rw (t, u) at ok in omega arith))
+      (λ u. (eqb-true (length cell) 48 t, ltb-false (length log) (place + 49) u)))
+      (λ t. absurd (let z : _≡_ {A = ℕ} 5 0 = rw t at ok in omega arith))
 
   record-room : length cell ≡ 48 → place + 49 ≤ length log → recordRefusal log place cell ≡ 0
   unfolding recordRefusal

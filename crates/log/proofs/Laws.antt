@@ -53,6 +53,32 @@ value-small (suc k) log at =
     (λ s. rw (e, s, pow-suc)
     (behind-small (128 ^ k) (getD log at 0) (numberIn k log (at + 1)) (value-small k log (at + 1)) (pow-128 k))))
 
+-- what a number can be, in one group more than so many
+pub number-cases : (k : ℕ) (log : List ℕ) (at : ℕ) (P : Number → Type 0)
+    → P noNumber
+    → (at < length log → getD log at 0 < 128 → P (number (getD log at 0) (at + 1)))
+    → (at < length log → 128 ≤ getD log at 0 → (numberIn k log (at + 1) .value ≡ 0 → ⊥)
+    → P (number (getD log at 0 % 128 + numberIn k log (at + 1) .value * 128) (numberIn k log (at + 1) .next)))
+    → P (numberIn (suc k) log at)
+unfolding numberIn behind
+number-cases k log at P refused whole more =
+    by-test (leb (length log) at)
+    (λ e. rw e refused)
+    (λ e. by-test (ltb (getD log at 0) 128)
+    (λ s. rw (e, s) (whole (leb-false (length log) at e) (ltb-true (getD log at 0) 128 s)))
+    (λ s. by-test (eqb (numberIn k log (at + 1) .value) 0)
+    (λ z. rw (e, s, z) refused)
+    (λ z.
+    rw (e, s, z)
+    (more (leb-false (length log) at e) (ltb-false (getD log at 0) 128 s) (eqb-false (numberIn k log (at + 1) .value) 0 z)))))
+
+-- a refused number is 0
+pub number-some : (k : ℕ) (log : List ℕ) (at : ℕ) → (numberIn k log at .value ≡ 0 → ⊥) → numberIn k log at .refusal ≡ 0
+unfolding numberIn
+number-some zero log at = λ some. absurd (some refl)
+number-some (suc k) log at =
+    number-cases k log at (λ n. (n .value ≡ 0 → ⊥) → n .refusal ≡ 0) (λ some. absurd (some refl)) (λ h s some. refl) (λ h s z some. refl)
+
 pub groups-1 : (k n : ℕ) → n < 128 → groupsOf (suc k) n ≡ n ∷ []
 unfolding groupsOf
 groups-1 k n h = rw (lt-ltb n 128 h)

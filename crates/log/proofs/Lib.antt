@@ -1,3 +1,4 @@
+pub mod Converse
 pub mod Headers
 pub mod Keeping
 pub mod Laws

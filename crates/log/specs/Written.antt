@@ -40,8 +40,11 @@ headerRefused log format channels order =
     orElse (settingsRefusal format channels order) (cond (ltb (length log) (length (headerOctets format channels order))) 11 0)
 
 -- "the indication, 0 or 1, and 48 octets"
+abbrev pub octetOf : Bool → ℕ
+octetOf indication = cond indication 1 0
+
 abbrev pub recordOctets : Bool → List ℕ → List ℕ
-recordOctets indication cell = cond indication 1 0 ∷ cell
+recordOctets indication cell = octetOf indication ∷ cell
 
 -- 5: "a cell not of 48 octets"; 12: "a record cut before its 48 octets end"
 unfoldable pub recordRefusal : List ℕ → ℕ → List ℕ → ℕ

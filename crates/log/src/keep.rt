@@ -1,5 +1,4 @@
 // Writing a log, document 01, "The log": the sender's box keeps one in a run that is lent to it.
-ghost use mathlib.Core.Bool.{cond};
 ghost use mathlib.Core.Path.{_≡_};
 ghost use Prim.Native.Nat.{_+_, _≤_};
 ghost use lib.ListN.{length};
@@ -107,7 +106,7 @@ fn put(log: &mut [u8], place: usize, octets: &[u8])
 }
 
 fn octet_of(indication: bool) -> u8
-    ensures { λ r. ⌜ r ≡ cond indication 1 0 ⌝ }
+    ensures { λ r. ⌜ r ≡ octetOf indication ⌝ }
 {
     if indication { 1 } else { 0 }
 }
