@@ -55,6 +55,10 @@ recordAt log place =
     (cond (ltb (length log) (place + 49)) (noRecord 12)
     (record { refusal = 0; what = 1; indication = eqb (getD log place 0) 1; start = place + 1; next = place + 49 })))
 
+-- where a reader stands after a record: past a cell, and else where it stood
+unfoldable pub placeAfter : List ℕ → ℕ → ℕ
+placeAfter log place = cond (eqb (recordAt log place .what) 1) (recordAt log place .next) place
+
 -- "it hands each cell back as that part of the log itself": 48 octets from where the cell starts, none where no cell is there
 unfoldable pub cellAt : List ℕ → ℕ → List ℕ
 cellAt log place = take (recordAt log place .what * 48) (drop (recordAt log place .start) log)

@@ -12,6 +12,7 @@ ghost use Rattle.log.specs.Written.{
   headerRefused,
   headerOctets,
   recordRefusal,
+  octetOf,
   recordOctets,
 };
 

@@ -3,9 +3,10 @@
 ghost use mathlib.Core.Path.{_≡_};
 ghost use Prim.Native.Nat.{_<_};
 ghost use Rattle.log.specs.Numbers.{numberAt, numberIn, behind, noNumber};
-ghost use Rattle.log.specs.Records.{headerOf, noHeader, recordAt, noRecord, cellAt, from};
+ghost use Rattle.log.specs.Records.{headerOf, noHeader, recordAt, noRecord, placeAfter, cellAt, from};
 
 pub mod keep; // keep.rt: writing a log
+pub mod reader; // reader.rt: the reader that holds a lent log and a place
 
 // A log number: the refusal (0: none), its value and the place after it, both zero where it is refused.
 pub struct Number {
@@ -203,6 +204,14 @@ pub fn read_record(log: &[u8], place: usize) -> Record
         start,
         next,
     }
+}
+
+// The place after the record at a place; the place itself where there is no cell, at the end or by a refusal.
+pub fn next_place(log: &[u8], place: usize) -> usize
+    ensures { λ r. ⌜ r ≡ placeAfter (now (log .entry)) place ⌝ }
+{
+    let record = read_record(log, place);
+    if record.what == 1 { record.next } else { place }
 }
 
 // The 48 octets of the cell at a place, as that part of the log itself; an empty part, at the log's start, where no cell is there.
