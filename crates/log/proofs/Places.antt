@@ -5,11 +5,11 @@ use mathlib.Core.List.{List}
 use mathlib.Core.Path.{_≡_, refl, sym, _∙_, ap}
 use Prim.Native.Nat.{ℕ, _+_, _*_, _-_, _≤_, _<_}
 use native.Mathlib.Omega.{arith}
-use borrow.Author.Tests.{lt-ltb, le-ltb, le-leb, lt-leb, ltb-true, ltb-false, leb-true, leb-false}
+use borrow.Author.Tests.{eq-eqb, ne-eqb, lt-ltb, le-ltb, le-leb, lt-leb, ltb-true, ltb-false, leb-true, leb-false}
 use lib.Dec.{eqb, leb, ltb}
 use lib.ListN.{length, getD, take, drop}
 use Rattle.log.specs.declared.Record.{Record}
-use Rattle.log.specs.Records.{recordAt, endAt, noRecord, cellAt, from}
+use Rattle.log.specs.Records.{recordAt, endAt, noRecord, placeAfter, cellAt}
 use Rattle.log.proofs.Laws.{by-test}
 
 module _ (log : List ℕ) (place : ℕ) where
@@ -71,3 +71,11 @@ module _ (log : List ℕ) (place : ℕ) where
       let zero′ : r .what ≡ 0 = omega (arith, none, ap (λ (x : Record). x .what) e, record-room .0) in
       let s : r .start - r .start ≡ r .what * 48 = omega arith in
       rw (s, e)
+
+  pub place-past : {r : Record} → r ≡ recordAt log place → r .what ≡ 1 → r .next ≡ placeAfter log place
+  unfolding placeAfter
+  place-past {r} e one = rw (← e, eq-eqb (r .what) 1 one)
+
+  pub place-stays : {r : Record} → r ≡ recordAt log place → (r .what ≡ 1 → ⊥) → place ≡ placeAfter log place
+  unfolding placeAfter
+  place-stays {r} e none = rw (← e, ne-eqb (r .what) 1 none)
