@@ -2,4 +2,5 @@ pub mod Converse
 pub mod Headers
 pub mod Keeping
 pub mod Laws
+pub mod One
 pub mod Places
