@@ -21,7 +21,7 @@ use Rattle.log.specs.Numbers.{numberAt, groupsOf}
 use Rattle.log.specs.Records.{noHeader, headerRefusal, headerOfNumbers, headerOf, secondNumber, thirdNumber}
 use Rattle.log.specs.Written.{Keeps, kept, headerOctets, headerRefused}
 use Rattle.log.proofs.Keeping.{keeps, stored}
-use Rattle.log.proofs.Laws.{by-test, groups-1}
+use Rattle.log.proofs.Laws.{by-test, next-small, groups-1}
 
 pub settled-refusal : (octet channels order : ℕ) → settingsOf octet channels order .refusal ≡ settingsRefusal octet channels order
 unfolding settingsOf
@@ -77,6 +77,16 @@ module _ (log : List ℕ) {first : Number} (e₁ : first ≡ numberAt log 0) whe
         pub header-taken : settled .refusal ≡ 0
             → record { refusal = 0; place = third .next; format = first .value; channels = second .value; order = third .value } ≡ headerOf log
         header-taken ok = numbers-taken first second third (judged ∙ ok) ∙ headed e₂ e₃
+
+-- three numbers of three groups at most
+pub header-place : (log : List ℕ) → headerOf log .place ≤ 9
+unfolding headerOf headerOfNumbers
+header-place log =
+    by-test (eqb (headerRefusal (numberAt log 0) (secondNumber log) (thirdNumber log)) 0)
+    (λ e.
+    rw e
+    (omega (arith, next-small 3 log 0, next-small 3 log (numberAt log 0 .next), next-small 3 log (secondNumber log .next))))
+    (λ e. rw e (omega arith))
 
 -- an octet of the eleven is one group
 one-group : ℕ → Bool

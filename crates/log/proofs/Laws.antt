@@ -79,6 +79,13 @@ number-some zero log at = λ some. absurd (some refl)
 number-some (suc k) log at =
     number-cases k log at (λ n. (n .value ≡ 0 → ⊥) → n .refusal ≡ 0) (λ some. absurd (some refl)) (λ h s some. refl) (λ h s z some. refl)
 
+-- a number ends within its groups
+pub next-small : (k : ℕ) (log : List ℕ) (at : ℕ) → numberIn k log at .next ≤ at + k
+unfolding numberIn
+next-small zero log at = omega arith
+next-small (suc k) log at =
+    number-cases k log at (λ n. n .next ≤ at + suc k) (omega arith) (λ h s. omega arith) (λ h s z. omega (arith, next-small k log (at + 1)))
+
 pub groups-1 : (k n : ℕ) → n < 128 → groupsOf (suc k) n ≡ n ∷ []
 unfolding groupsOf
 groups-1 k n h = rw (lt-ltb n 128 h)

@@ -1,0 +1,1 @@
+mod logs; // logs.rt: a log's header and records
