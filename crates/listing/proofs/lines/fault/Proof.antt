@@ -1,18 +1,15 @@
--- `listing::lines::broken_line` meets its contract: its parts are put one after the other.
+-- `listing::lines::fault` meets its contract: its parts are put one after the other.
 -- Assumes nothing.
 use Rattle.listing.proofs.Laws.{puts-then}
 use borrow.Author.Needs.{needs}
-use Rattle.listing.proofs.lines.broken_line.Statement.{statement}
-use Rattle.listing.proofs.lines.broken_line.Tie as tie
+use Rattle.listing.proofs.lines.fault.Statement.{statement}
+use Rattle.listing.proofs.lines.fault.Tie as tie
 
 slice-aggregate-put-item : tie.Need-slice-aggregate-put-item
 slice-aggregate-put-item c = search needs
 
 put-item-requires : tie.Need-put-item-requires
 put-item-requires c κs = search needs
-
-slice-aggregate-put-item-2 : tie.Need-slice-aggregate-put-item-2
-slice-aggregate-put-item-2 c = search needs
 
 put-item-requires-2 : tie.Need-put-item-requires-2
 put-item-requires-2 c κs = search needs
@@ -28,17 +25,16 @@ same-length c = search needs
 
 returns : tie.Need-returns
 returns c =
-    puts-then (puts-then (c .before .before .before .before .before .before .before .before .before .before .before .before .put-item .ensures)
+    puts-then (puts-then (c .before .before .before .before .before .before .before .before .before .before .before .put-item .ensures)
     (c .before .before .before .before .before .before .before .put-item2 .ensures))
     (c .before .before .put-all .ensures)
 
-pub broken-line-spec : {M : Type 1} → statement M
-broken-line-spec =
+pub fault-spec : {M : Type 1} → statement M
+fault-spec =
     tie.close
     (tie.spec
     slice-aggregate-put-item
     put-item-requires
-    slice-aggregate-put-item-2
     put-item-requires-2
     slice-aggregate-put-all
     put-all-requires
