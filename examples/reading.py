@@ -39,9 +39,9 @@ def main():
     spoiled = bytearray(cell(10, 60))
     spoiled[3] ^= 8
     log += b"\0" + spoiled
-    for number, indication in ((10, 0), (0, 1)):
-        log += bytes([indication]) + cell(number, number % 16 * 6 + 60)
-    log += b"\0" + cell(1, 162)[:20]
+    for number, indication, start in ((11, 0, 66), (0, 1, 96)):
+        log += bytes([indication]) + cell(number, start)
+    log += b"\0" + cell(1, 102)[:20]
     sys.stdout.buffer.write(log)
 
 
