@@ -12,10 +12,10 @@ use lib.Dec.{leb, ltb}
 use lib.ListN.{length, getD, take, drop, set, length-append, length-drop}
 use lib.Seq.{take-all, length-take-le, take-append-le, drop-cons, set-at, append-snoc, take-suc}
 use Rattle.runs.specs.Runs.{over}
-use Rattle.listing.specs.declared.text.Listed.{Listed}
+use Rattle.listing.specs.declared.Listed.{Listed}
 use Rattle.listing.specs.Text.{digitsOf, listed, Holds, Puts}
 
-by-test {ℓ} : {P : Type ℓ} (b : Bool) → (b ≡ true → P) → (b ≡ false → P) → P
+pub by-test {ℓ} : {P : Type ℓ} (b : Bool) → (b ≡ true → P) → (b ≡ false → P) → P
 by-test true is isn = is refl
 by-test false is isn = isn refl
 
@@ -110,6 +110,9 @@ pub puts-then : {a b c : List ℕ} {s t u : Listed} {first second : List ℕ} �
     → Puts a s c u (first ++ second)
 puts-then {first = first} {second = second} p q lent held h =
     rw (← append-assoc held first second) (q lent (held ++ first) (p lent held h))
+
+pub puts-same : {a b : List ℕ} {s t : Listed} {octets same : List ℕ} → octets ≡ same → Puts a s b t octets → Puts a s b t same
+puts-same e p lent held h = rw (← e) (p lent held h)
 
 -- putting nothing
 pub puts-none : (a : List ℕ) (s : Listed) → Puts a s a s []

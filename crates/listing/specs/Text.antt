@@ -7,7 +7,7 @@ use Prim.Native.Nat.{ℕ, zero, suc, _+_, _/_, _%_}
 use lib.Dec.{leb, ltb}
 use lib.ListN.{length, take}
 use Rattle.runs.specs.Runs.{over}
-use Rattle.listing.specs.declared.text.Listed.{Listed}
+use Rattle.listing.specs.declared.Listed.{Listed}
 
 -- a number in at most so many decimal digits, which are the octets from 48 on
 unfoldable pub digitsOf : ℕ → ℕ → List ℕ

@@ -1,5 +1,5 @@
 // The lines of a list, each put behind the octets that a lent run holds already.
-use crate::text::Listed;
+use crate::Listed;
 use crate::text::put_all;
 use crate::text::put_item;
 ghost use mathlib.Core.List.{_++_};

@@ -1,14 +1,9 @@
 // Octets put one after the other into a lent run, as far as it goes. What no longer fits is left out, and the answer says so.
+use crate::Listed;
 ghost use mathlib.Core.List.{[], _∷_};
 ghost use mathlib.Core.Path.{_≡_};
 ghost use Prim.Native.Nat.{_+_, _%_};
 ghost use Rattle.listing.specs.Text.{Puts, decimal, item};
-
-// How many octets were put from the run's start, and whether all of them fitted.
-pub struct Listed {
-    pub octets: usize,
-    pub whole: bool,
-}
 
 pub(crate) fn put(run: &mut [u8], at: Listed, octet: u8) -> Listed
     ensures { λ r. ⌜ Puts (now (run .entry)) at (now (run .exit)) r (octet ∷ []) ⌝ }

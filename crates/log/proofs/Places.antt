@@ -58,6 +58,12 @@ module _ (log : List ℕ) (place : ℕ) where
       record-cases (λ r. (r .what ≤ 1) × (r .start + r .what * 48 ≤ length log))
       (λ h. omega arith) (λ h l. omega arith) (λ h l k. omega arith) (λ h l. omega arith)
 
+  -- where a cell is, its record lies within the log
+  pub cell-facts : recordAt log place .what ≡ 1 → (place + 49 ≤ length log) × (recordAt log place .next ≡ place + 49)
+  cell-facts =
+      record-cases (λ r. r .what ≡ 1 → (place + 49 ≤ length log) × (r .next ≡ place + 49))
+      (λ h z. omega arith) (λ h l z. omega arith) (λ h l k z. omega arith) (λ h l one. (l, refl))
+
   pub room-of : {r : Record} → r ≡ recordAt log place → (r .what ≤ 1) × (r .start + r .what * 48 ≤ length log)
   room-of e = rw e record-room
 
