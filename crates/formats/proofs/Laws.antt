@@ -6,16 +6,19 @@ use mathlib.Core.Logic.{_⊎_, inl, inr, ⊎-elim}
 use mathlib.Core.Path.{_≡_, refl, sym, _∙_, ap}
 use Prim.Native.Nat.{ℕ, suc, _+_, _*_, _/_, _%_, _≤_, _<_}
 use native.Mathlib.Decide.{decLt}
-use native.Mathlib.Nat.{mod-lt, lt-of-not-le, le-of-suc-le-suc, pos-of-ne-zero}
+use native.Mathlib.Nat.{mod-lt, lt-of-not-le, le-of-suc-le-suc, pos-of-ne-zero, mul-div-le, le-div-iff-mul-le}
 use native.Mathlib.Omega.{arith}
 use borrow.Author.Tests
-use borrow.Author.Tests.{eqb-false, ltb-false, lt-ltb, le-ltb, le-leb, lt-leb, ne-eqb, eq-eqb}
+use borrow.Author.Tests.{eqb-true, eqb-false, ltb-false, lt-ltb, le-ltb, le-leb, lt-leb, ne-eqb, eq-eqb}
 use mir.Val.{hasKey}
 use types.Run.{OneOf, hit, miss}
 use lib.Dec.{T, eqb, leb, ltb, ltb→lt, leb→le, eqb→eq, eqb·suc-zero}
+use Rattle.runs.specs.Refusals.{orElse}
 use Rattle.runs.specs.Test.{every}
-use Rattle.runs.proofs.Laws.{every-at, both-left, both-right, past, neither}
+use Rattle.runs.proofs.Laws.{every-at, both-left, both-right, past, neither, split, first-refuses, then-later}
 use Rattle.formats.specs.declared.Format.{Format}
+use Rattle.formats.specs.declared.Settled.{Settled}
+use Rattle.formats.specs.Sound.{Sound, Limits}
 use Rattle.formats.specs.Formats.{
   lengthOf,
   sampleBits,
@@ -134,6 +137,13 @@ module _ {octet : ℕ} (h : octet < 256) where
   unfolding ruled
   by-bits one with known = rw (← ruled-base h, le-ltb _ _ one, le-ltb _ _ with, ne-eqb _ _ known)
 
+pub base-octet : (octet : ℕ) → isBase octet ≡ true → octet < 256
+base-octet octet h =
+    elim (decLt octet 256) [
+      | yes less ↦ less
+      | no above ↦ absurd (false≢true (sym (beyond (le-of-suc-le-suc (lt-of-not-le above))) ∙ h))
+    ]
+
 by-bool : (b x : Bool) → b ≡ true → T (not b || x) → T x
 by-bool true x h t = t
 by-bool false x h t = absurd (false≢true h)
@@ -141,25 +151,7 @@ by-bool false x h t = absurd (false≢true h)
 -- what a test shows of each of the eleven octets
 of-base : (test : ℕ → Bool) → T (every (λ k. not (isBase k) || test k) 256) → (octet : ℕ) → isBase octet ≡ true → T (test octet)
 of-base test t octet h =
-    elim (decLt octet 256) [
-      | yes less ↦ by-bool (isBase octet) (test octet) h (every-at (λ k. not (isBase k) || test k) 256 t octet less)
-      | no above ↦ absurd (false≢true (sym (beyond (le-of-suc-le-suc (lt-of-not-le above))) ∙ h))
-    ]
-
--- what all formats share: everything that is proved of cells is proved from it, once for all formats
-pub record Sound (f : Format) : Type 0 where
-  pub bits : f .sample + f .ancillary + f .overhead ≡ 8 * f .width
-  pub cell : f .slots * f .width ≡ 48
-  pub sample-from : 8 ≤ f .sample
-  pub sample-to : f .sample ≤ 40
-  pub ancillary-fours : f .ancillary % 4 ≡ 0
-  pub ancillary-to : f .ancillary ≤ 4
-  pub overhead-fours : f .overhead % 4 ≡ 0
-  pub overhead-to : f .overhead ≤ 4
-  pub width-from : 1 ≤ f .width
-  pub width-to : f .width ≤ 6
-  pub slots-from : 8 ≤ f .slots
-  pub slots-to : f .slots ≤ 48
+    by-bool (isBase octet) (test octet) h (every-at (λ k. not (isBase k) || test k) 256 t octet (base-octet octet h))
 
 -- the format of an octet of the eleven
 abbrev pub fieldsOf : ℕ → Format
@@ -303,3 +295,63 @@ settles-all octet channels order e =
       channels-to = ltb-false (slotsOf octet) channels (count .1);
       order-to = ltb-false 1 order (third .0);
     }
+
+pub slots-base : (octet : ℕ) → isBase octet ≡ true → slotsOf octet ≤ 48
+slots-base octet h = sound-fields octet h .slots-to
+
+-- the settings' refusal, and what they are where there is none
+pub refusal-of : (octet channels order : ℕ) → settingsOf octet channels order .refusal ≡ settingsRefusal octet channels order
+unfolding settingsOf
+refusal-of octet channels order =
+    split (eqb (settingsRefusal octet channels order) 0) (λ t. rw t (sym (eqb-true _ 0 t))) (λ t. rw t)
+
+pub settled-of : (octet channels order : ℕ) → settingsRefusal octet channels order ≡ 0
+    → settingsOf octet channels order ≡ settled octet channels order
+unfolding settingsOf
+settled-of octet channels order none = rw none
+
+pub settled-limits : {set : Settled} (octet channels order : ℕ) → set ≡ settled octet channels order
+    → settingsRefusal octet channels order ≡ 0 → Limits set
+settled-limits octet channels order is none = rw is limits
+  where
+    passed : Settles octet channels order
+    passed = settles-all octet channels order none
+
+    sound : Sound (formatOf octet)
+    sound = sound-format octet (passed .base)
+
+    fits : channels ≤ formatOf octet .slots
+    fits = rw (base-format octet (passed .base)) (passed .channels-to)
+
+    used-in : channels * (formatOf octet .slots / channels) ≤ formatOf octet .slots
+    used-in = mul-div-le (formatOf octet .slots) channels
+
+    limits : Limits (settled octet channels order)
+    limits =
+        record {
+          sound = sound;
+          channels-from = passed .channels-from;
+          times-from = le-div-iff-mul-le (passed .channels-from) .1 (omega (arith, fits));
+          used-in = used-in;
+          used-to = omega (arith, used-in, sound .slots-to);
+          sample-to = sound .sample-to;
+          ancillary-to = sound .ancillary-to;
+        }
+
+-- what later checks add to checks 1 to 3, by the settings
+module _ {set : Settled} (octet channels order later : ℕ) (given : set ≡ settingsOf octet channels order) where
+  pub given-refusal : set .refusal ≡ settingsRefusal octet channels order
+  given-refusal = ap (λ (x : Settled). x .refusal) given ∙ refusal-of octet channels order
+
+  pub given-refuses : (set .refusal ≡ 0 → ⊥) → set .refusal ≡ orElse (settingsRefusal octet channels order) later
+  given-refuses some = given-refusal ∙ sym (first-refuses later (λ e. some (given-refusal ∙ e)))
+
+  module _ (none : set .refusal ≡ 0) where
+    pub given-none : settingsRefusal octet channels order ≡ 0
+    given-none = sym given-refusal ∙ none
+
+    pub given-settled : set ≡ settled octet channels order
+    given-settled = given ∙ settled-of octet channels order given-none
+
+    pub given-later : orElse (settingsRefusal octet channels order) later ≡ later
+    given-later = then-later later given-none

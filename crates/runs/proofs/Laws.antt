@@ -12,7 +12,7 @@ use native.Mathlib.Nat.{
   eq-or-lt-of-le,
   pow-suc,
   pow-zero,
-  mul-one,
+  mul-one, one-mul, mod-eq-of-lt,
   mul-assoc,
   mul-comm,
   suc-mul,
@@ -24,7 +24,9 @@ use native.Mathlib.Nat.{
 use native.Mathlib.Omega.{arith}
 use native.Mathlib.Numerals.{add-one}
 use lib.Arith.{mod-mul}
-use lib.Dec.{T}
+use lib.Pow.{pow-lt}
+use borrow.Author.Tests.{ne-eqb, eqb-true, eqb-false}
+use lib.Dec.{T, eqb}
 use lib.ListN.{
   length,
   getD,
@@ -36,8 +38,9 @@ use lib.ListN.{
   List·getD-append,
   drop-of-length-le,
 }
-use lib.Seq.{take-at, drop-at, getD-at, take-append-le, drop-append-le, take-all, drop-cons}
+use lib.Seq.{take-at, drop-at, getD-at, take-append-le, drop-append-le, take-all, drop-cons, ext-getD}
 use Rattle.runs.specs.Runs.{tab, joined, octetsOf, readOn, numberOf, over}
+use Rattle.runs.specs.Refusals.{orElse}
 use Rattle.runs.specs.Test.{every}
 
 pub both-left : (a b : Bool) → T (a && b) → T a
@@ -52,6 +55,30 @@ both-right false b t = absurd t
 pub past : (test : Bool) (n rest : ℕ) → cond test (suc n) rest ≡ 0 → (test ≡ false) × (rest ≡ 0)
 past true n rest e = absurd (suc-ne-zero n e)
 past false n rest e = (refl, e)
+
+-- a test and what it says
+pub split : (test : Bool) {P : Type 0} → (test ≡ true → P) → (test ≡ false → P) → P
+split true here there = here refl
+split false here there = there refl
+
+pub first-refuses : {first : ℕ} (later : ℕ) → (first ≡ 0 → ⊥) → orElse first later ≡ first
+unfolding orElse
+first-refuses later some = rw (ne-eqb _ _ some)
+
+pub then-later : {first : ℕ} (later : ℕ) → first ≡ 0 → orElse first later ≡ later
+unfolding orElse
+then-later later none = rw none
+
+pub past-both : (first later : ℕ) → orElse first later ≡ 0 → (first ≡ 0) × (later ≡ 0)
+unfolding orElse
+past-both first later e =
+    split (eqb first 0)
+    (λ t. let none : first ≡ 0 = eqb-true first 0 t in (none, sym (then-later later none) ∙ e))
+    (λ t. absurd (eqb-false first 0 t (sym (first-refuses later (eqb-false first 0 t)) ∙ e)))
+
+pub both-true : (a b : Bool) → a && b ≡ true → (a ≡ true) × (b ≡ true)
+both-true true b e = (refl, e)
+both-true false b e = absurd (true≢false (sym e))
 
 pub neither : (a b : Bool) → a || b ≡ false → (a ≡ false) × (b ≡ false)
 neither true b e = absurd (true≢false e)
@@ -80,6 +107,12 @@ getD-tab f (suc n) {i} h =
     (λ e. rw e (getD-at (tab f n) (f n) [] 0 n (length-tab f n)))
     (λ less. List·getD-append (tab f n) (f n ∷ []) 0 i (omega (arith, less, length-tab f n)) ∙ getD-tab f n less)
     (eq-or-lt-of-le (le-of-suc-le-suc h))
+
+-- a run is what is said of each of its entries
+pub tab-is : (f : ℕ → ℕ) (n : ℕ) (xs : List ℕ) → length xs ≡ n → ((i : ℕ) → i < n → f i ≡ getD xs i 0) → tab f n ≡ xs
+tab-is f n xs len each =
+    ext-getD 0 (tab f n) xs (length-tab f n ∙ sym len)
+    (λ i h. let less : i < n = rw (length-tab f n) at h in getD-tab f n less ∙ each i less)
 
 pub length-joined : (g : ℕ → List ℕ) (w n : ℕ) → ((k : ℕ) → length (g k) ≡ w) → length (joined g n) ≡ n * w
 unfolding joined
@@ -127,3 +160,13 @@ read-octets (suc w) m n =
     read-octets w (m * 256 + n / 256 ^ w % 256) n
     ∙ rw (pow-suc, mul-comm (256 ^ w) 256, mod-mul n {m = 256} {c = 256 ^ w} (omega arith) (pow-256 w))
     (omega (arith, mul-assoc m 256 (256 ^ w)))
+
+-- octets read one more at the end
+pub read-snoc : (m : ℕ) (xs : List ℕ) (x : ℕ) → readOn m (xs ++ (x ∷ [])) ≡ readOn m xs * 256 + x
+unfolding readOn
+read-snoc m [] x = refl
+read-snoc m (y ∷ ys) x = read-snoc (m * 256 + y) ys x
+
+-- a single bit at a place, as code shifts it there
+pub one-shifted : {k : ℕ} → k < 64 → (1 * 2 ^ k) % 2 ^ 64 ≡ 2 ^ k
+one-shifted {k} h = ap (λ (n : ℕ). n % 2 ^ 64) (one-mul (2 ^ k)) ∙ mod-eq-of-lt (pow-lt {i = k} {j = 64} h)

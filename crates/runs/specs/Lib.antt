@@ -1,3 +1,4 @@
 pub mod Division
+pub mod Refusals
 pub mod Runs
 pub mod Test

@@ -6,7 +6,8 @@ use native.Mathlib.Omega.{arith}
 use borrow.Author.Needs.{needs}
 use borrow.Author.Tests.{not-true, not-false}
 use Rattle.formats.specs.Formats.{isBase, formatOf, noFormat}
-use Rattle.formats.proofs.Laws.{Sound, fieldsOf, made, made-format, made-sound, sample-le}
+use Rattle.formats.specs.Sound.{Sound}
+use Rattle.formats.proofs.Laws.{fieldsOf, made, made-format, made-sound, sample-le}
 use Rattle.formats.proofs.format_of.Statement.{statement}
 use Rattle.formats.proofs.format_of.Tie as tie
 

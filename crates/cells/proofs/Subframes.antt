@@ -1,0 +1,102 @@
+-- One subframe there and back, and a slot's subframe in a whole cell, for every format at once.
+-- Assumes nothing.
+use mathlib.Core.Bool.{Bool, true, false, cond}
+use mathlib.Core.List.{List}
+use mathlib.Core.Path.{_≡_, refl, sym, _∙_, ap, subst}
+use Prim.Native.Nat.{ℕ, zero, suc, _+_, _*_, _/_, _%_, _^_, _≤_, _<_}
+use native.Mathlib.Nat.{pow-suc, pow-zero, mul-suc, mul-zero, add-comm, mod-eq-of-lt, zero-mul}
+use native.Mathlib.Omega.{arith}
+use borrow.Author.Tests.{eq-eqb, ne-eqb, eqb-true, eqb-false}
+use lib.Arith.{digits-div, digits-mod, digits-lt}
+use lib.Dec.{eqb}
+use lib.ListN.{length, take, drop, getD}
+use lib.Pow.{pow-add, pow-pos, shr-shr}
+use Rattle.runs.specs.Runs.{joined, octetsOf, numberOf}
+use Rattle.runs.proofs.Laws.{split, length-octets, length-joined, part-joined, read-octets}
+use Rattle.formats.specs.declared.Format.{Format}
+use Rattle.formats.specs.Sound.{Sound}
+use Rattle.guards.specs.Guards.{guardOf}
+use Rattle.guards.proofs.Laws.{guard-le}
+use Rattle.cells.specs.Cells.{
+  overheadOf,
+  subframeOf,
+  slotOctets,
+  cellOf,
+  subframeAt,
+  sampleIn,
+  ancillaryIn,
+  markIn,
+  bitIn,
+}
+
+pub octets-pow : (w : ℕ) → 2 ^ (8 * w) ≡ 256 ^ w
+octets-pow zero = refl
+octets-pow (suc w) =
+    ap (λ (k : ℕ). 2 ^ k) (mul-suc 8 w) ∙ pow-add 2 (8 * w) 8 ∙ ap (λ (n : ℕ). n * 256) (octets-pow w) ∙ sym (pow-suc 256 w)
+
+module _ {f : Format} (s : Sound f) where
+  -- overhead is four bits or none
+  pub four : (f .overhead ≡ 0 → ⊥) → f .overhead ≡ 4
+  four some = four-of (f .overhead) (s .overhead-fours) (s .overhead-to) some
+    where
+      four-of : (n : ℕ) → n % 4 ≡ 0 → n ≤ 4 → (n ≡ 0 → ⊥) → n ≡ 4
+      four-of n e h some = omega arith
+
+  overhead-lt : (sample ancillary : ℕ) {bit : ℕ} → bit < 2 → overheadOf f sample ancillary bit < 2 ^ f .overhead
+  unfolding overheadOf
+  overhead-lt sample ancillary {bit} h =
+      split (eqb (f .overhead) 0)
+      (λ e. rw e (pow-pos (f .overhead)))
+      (λ e.
+      rw (e, four (eqb-false (f .overhead) 0 e))
+      (omega (arith, h, guard-le (f .sample) sample ancillary)))
+
+  module _ {sample ancillary bit : ℕ} (hs : sample < 2 ^ f .sample) (ha : ancillary < 2 ^ f .ancillary) (hb : bit < 2) where
+    pub subframe-lt : subframeOf f sample ancillary bit < 256 ^ f .width
+    unfolding subframeOf
+    subframe-lt =
+        let whole : 2 ^ f .sample * 2 ^ f .ancillary * 2 ^ f .overhead ≡ 256 ^ f .width
+        = ap (λ (n : ℕ). n * 2 ^ f .overhead) (sym (pow-add 2 (f .sample) (f .ancillary)))
+        ∙ sym (pow-add 2 (f .sample + f .ancillary) (f .overhead))
+        ∙ ap (λ (k : ℕ). 2 ^ k) (s .bits)
+        ∙ octets-pow (f .width) in
+        rw whole at (digits-lt (digits-lt hs ha) (overhead-lt sample ancillary hb))
+
+    pub sample-back : sampleIn f (subframeOf f sample ancillary bit) ≡ sample
+    unfolding sampleIn subframeOf
+    sample-back =
+        ap (λ (k : ℕ). subframeOf f sample ancillary bit / 2 ^ k) (add-comm (f .ancillary) (f .overhead))
+        ∙ sym (shr-shr (subframeOf f sample ancillary bit) (f .overhead) (f .ancillary))
+        ∙ ap (λ (n : ℕ). n / 2 ^ f .ancillary)
+        (digits-div (sample * 2 ^ f .ancillary + ancillary) (overhead-lt sample ancillary hb))
+        ∙ digits-div sample ha
+
+    pub ancillary-back : ancillaryIn f (subframeOf f sample ancillary bit) ≡ ancillary
+    unfolding ancillaryIn subframeOf
+    ancillary-back =
+        ap (λ (n : ℕ). n % 2 ^ f .ancillary)
+        (digits-div (sample * 2 ^ f .ancillary + ancillary) (overhead-lt sample ancillary hb))
+        ∙ digits-mod sample ha
+
+    module _ (some : f .overhead ≡ 0 → ⊥) where
+      low-back : subframeOf f sample ancillary bit % 16 ≡ bit * 8 + guardOf (f .sample) sample ancillary
+      unfolding subframeOf overheadOf
+      low-back =
+          rw (ne-eqb (f .overhead) 0 some, four some)
+          (digits-mod (sample * 2 ^ f .ancillary + ancillary) (omega (arith, hb, guard-le (f .sample) sample ancillary)))
+
+      pub guard-back : subframeOf f sample ancillary bit % 8 ≡ guardOf (f .sample) sample ancillary
+      guard-back = omega (arith, low-back, guard-le (f .sample) sample ancillary)
+
+      pub bit-back : subframeOf f sample ancillary bit / 8 % 2 ≡ bit
+      bit-back = omega (arith, low-back, guard-le (f .sample) sample ancillary)
+
+    pub mark-back : markIn f (subframeOf f sample ancillary bit) ≡ 0
+    unfolding markIn
+    mark-back =
+        split (eqb (f .overhead) 0)
+        (λ e. rw e)
+        (λ e.
+        rw (e, sample-back, ancillary-back)
+        (ap (λ (b : Bool). cond b 0 1)
+        (eq-eqb _ _ (guard-back (eqb-false (f .overhead) 0 e)))))

@@ -1,0 +1,87 @@
+-- Laws of the protection bits: the nine top bits at every sample length, and the fold to seven bits by one test over all tens.
+-- Assumes nothing.
+use mathlib.Core.Path.{_≡_, sym, _∙_, ap}
+use Prim.Native.Nat.{ℕ, _+_, _*_, _/_, _%_, _-_, _^_, _≤_, _<_}
+use native.Mathlib.Nat.{
+  mod-lt,
+  mod-eq-of-lt,
+  div-eq-of-lt,
+  mul-div-cancel,
+  mul-div-mul-right,
+  add-mul-mod-self-right,
+  div-add-mod',
+  zero-mod,
+  mul-assoc,
+}
+use native.Mathlib.Omega.{arith}
+use lib.Bits.{bitXor}
+use lib.Dec.{eqb, leb, eqb→eq, leb→le}
+use lib.Pow.{pow-add, pow-pos, pow-mono, shl-exact}
+use Rattle.runs.specs.Division.{coefficients, divided, takenDown}
+use Rattle.runs.specs.Test.{every}
+use Rattle.runs.proofs.Laws.{every-at}
+use Rattle.guards.specs.Guards.{nineOf, tenGuard, guardOf}
+
+-- powers that make up 512 and more
+nine-parts : {length : ℕ} → length < 9 → 2 ^ (9 - length) * 2 ^ length ≡ 512
+nine-parts {length} h =
+    sym (pow-add 2 (9 - length) length) ∙ ap (λ (k : ℕ). 2 ^ k) (let whole : 9 - length + length ≡ 9 = omega arith in whole)
+
+pub nine-short : (sample length : ℕ) → length < 9 → ((sample % 512) * 2 ^ (9 - length)) % 2 ^ 64 % 512 ≡ nineOf length sample
+unfolding nineOf
+nine-short sample length h =
+    let p = 2 ^ (9 - length) in
+    let low : sample % 512 < 2 ^ 9 = mod-lt sample (omega arith) in
+    let whole : sample * p ≡ sample % 512 * p + sample / 512 * p * 512 = omega (arith, whole-of p) in
+    ap (λ (n : ℕ). n % 512) (shl-exact 9 (9 - length) 64 low (omega arith))
+    ∙ sym (add-mul-mod-self-right (sample % 512 * p) (sample / 512 * p) 512)
+    ∙ ap (λ (n : ℕ). n % 512) (sym whole)
+    ∙ ap (λ (n : ℕ). n % 512) (sym (mul-div-cancel (sample * p) (pow-pos length)))
+    ∙ ap (λ (n : ℕ). n / 2 ^ length % 512) (mul-assoc sample p (2 ^ length) ∙ ap (λ (n : ℕ). sample * n) (nine-parts h))
+  where
+    whole-of : (p : ℕ) → (sample / 512 * 512 + sample % 512) * p ≡ sample * p
+    whole-of p = ap (λ (n : ℕ). n * p) (div-add-mod' sample 512)
+
+pub nine-long : (sample length : ℕ) → 9 ≤ length → sample / 2 ^ (length - 9) % 512 ≡ nineOf length sample
+unfolding nineOf
+nine-long sample length h =
+    let parts : 2 ^ (length - 9) * 512 ≡ 2 ^ length
+    = sym (pow-add 2 (length - 9) 9) ∙ ap (λ (k : ℕ). 2 ^ k) (let whole : length - 9 + 9 ≡ length = omega arith in whole) in
+    ap (λ (n : ℕ). n % 512)
+    (sym (mul-div-mul-right {m = 512} sample (2 ^ (length - 9)) (omega arith)) ∙ ap (λ (n : ℕ). sample * 512 / n) parts)
+
+pub nine-far : (sample length : ℕ) → sample < 2 ^ 64 → 63 < length - 9 → 0 ≡ nineOf length sample
+nine-far sample length h far =
+    let high : 2 ^ 64 ≤ 2 ^ (length - 9) = pow-mono {i = 64} {j = length - 9} far in
+    sym (ap (λ (n : ℕ). n % 512) (div-eq-of-lt (let less : sample < 2 ^ (length - 9) = omega arith in less)))
+    ∙ nine-long sample length (omega arith)
+
+pub nine-lt : (length sample : ℕ) → nineOf length sample < 512
+unfolding nineOf
+nine-lt length sample = mod-lt _ (omega arith)
+
+-- the ten bits folded to seven, and the three bits by sums modulo 2
+abbrev seven : ℕ → ℕ
+seven bits = bitXor bits (bits / 128) % 128
+
+abbrev pub folded : ℕ → ℕ
+folded bits =
+    7
+    - (bitXor (bitXor (bitXor (seven bits / 2) (seven bits / 4)) (seven bits / 8)) (seven bits / 64) % 2 * 4
+    + bitXor (bitXor (bitXor (seven bits) (seven bits / 2)) (seven bits / 4)) (seven bits / 32) % 2 * 2
+    + bitXor (bitXor (bitXor (seven bits) (seven bits / 4)) (seven bits / 8)) (seven bits / 16) % 2)
+
+pub folded-right : {ten : ℕ} → ten < 1024 → folded ten ≡ tenGuard ten
+unfolding every tenGuard coefficients divided takenDown
+folded-right {ten} h =
+    eqb→eq (folded ten) (tenGuard ten) (every-at (λ k. eqb (folded k) (tenGuard k)) 1024 tt ten h)
+
+pub guard-le : (length sample v : ℕ) → guardOf length sample v ≤ 7
+unfolding guardOf tenGuard
+guard-le length sample v = omega arith
+
+pub guard-ten : {nine : ℕ} (length sample v : ℕ) → nine ≡ nineOf length sample → tenGuard ((nine * 2 + v % 2) % 1024) ≡ guardOf length sample v
+unfolding guardOf
+guard-ten length sample v e =
+    ap (λ (n : ℕ). tenGuard ((n * 2 + v % 2) % 1024)) e
+    ∙ ap tenGuard (mod-eq-of-lt (omega (arith, nine-lt length sample)))

@@ -1,0 +1,199 @@
+-- Laws of the sequencing word: Table A.1's division rule and its distance, each by one test over the table; which eight bits are
+-- a number; and that a word read back gives its number and second number.
+-- Assumes nothing.
+use mathlib.Core.Bool.{Bool, true, false, cond, _||_}
+use mathlib.Core.List.{List, [], _∷_}
+use mathlib.Core.Path.{_≡_, refl, sym, _∙_, ap, ap₂, subst}
+use Prim.Native.Nat.{ℕ, zero, suc, _+_, _*_, _/_, _%_, _-_, _≤_, _<_}
+use native.Mathlib.Nat.{le-step, le-refl, mod-lt, not-suc-le-zero, le-of-suc-le-suc, div-add-mod', add-mul-mod-self-right, mod-add-mod}
+use native.Mathlib.Omega.{arith}
+use borrow.Author.Tests.{lt-ltb, eq-eqb, ne-eqb, eqb-true, ltb-false}
+use lib.Arith.{digits-div, digits-mod, digits-lt}
+use lib.Bits.{bitXor}
+use lib.Count.{ones, onesIn}
+use lib.Dec.{T, eqb, leb, ltb, leb→le, eqb→eq}
+use lib.ListN.{length, getD}
+use Rattle.runs.specs.Division.{coefficients, divided, takenDown}
+use Rattle.runs.specs.Test.{every}
+use Rattle.runs.proofs.Laws.{every-at, split}
+use Rattle.numbers.specs.declared.Found.{Found}
+use Rattle.numbers.specs.declared.Found.the-variants.{Number, Nothing}
+use Rattle.numbers.specs.Numbers.{
+  tableA1,
+  entryOf,
+  turned,
+  protectionOf,
+  sevenOf,
+  dividedEntry,
+  placeIn,
+  numberIn,
+  foundOf,
+  wordBit,
+  gathered,
+  eightOf,
+  secondOf,
+  differenceOf,
+}
+
+-- each entry is what the division and the parity make of its number
+pub table-divides : {number : ℕ} → number < 16 → entryOf number ≡ dividedEntry number
+unfolding every tableA1 dividedEntry sevenOf protectionOf turned coefficients divided takenDown ones onesIn
+table-divides {number} h =
+    eqb→eq (entryOf number) (dividedEntry number) (every-at (λ n. eqb (entryOf n) (dividedEntry n)) 16 tt number h)
+
+-- the test of two entries, the pair told as one number
+apart : ℕ → Bool
+apart pair =
+    eqb (pair / 16) (pair % 16) || leb 4 (ones (bitXor (entryOf (pair / 16)) (entryOf (pair % 16))))
+
+not-equal : (b x : Bool) → b ≡ false → T (b || x) → T x
+not-equal true x e t = absurd (subst code e tt)
+  where
+    code : Bool → Type 0
+    code true = Unit {0}
+    code false = ⊥
+not-equal false x e t = t
+
+-- "Any two differ in at least four bits."
+pub table-apart : {i j : ℕ} → i < 16 → j < 16 → (i ≡ j → ⊥) → 4 ≤ ones (bitXor (entryOf i) (entryOf j))
+unfolding every apart tableA1 ones onesIn
+table-apart {i} {j} hi hj other =
+    let high : (i * 16 + j) / 16 ≡ i = digits-div i hj in
+    let low : (i * 16 + j) % 16 ≡ j = digits-mod i hj in
+    let tested : T (apart (i * 16 + j)) = every-at apart 256 tt (i * 16 + j) (digits-lt hi hj) in
+    let said : T (eqb i j || leb 4 (ones (bitXor (entryOf i) (entryOf j)))) = rw (high, low) at tested in
+    leb→le 4 (ones (bitXor (entryOf i) (entryOf j))) (not-equal (eqb i j) _ (ne-eqb i j other) said)
+
+pub turned-lt : (n : ℕ) → turned n < 16
+unfolding turned
+turned-lt n = omega arith
+
+-- what parity and one look into the table find: the number, and 16 for none
+looked : ℕ → ℕ
+looked word =
+    cond (eqb (ones word % 2) 1) 16
+    (cond (eqb (entryOf (turned (word / 16) % 16)) word) (turned (word / 16)) 16)
+
+looked-right : {word : ℕ} → word < 256 → looked word ≡ numberIn word
+unfolding every looked tableA1 turned placeIn ones onesIn
+looked-right {word} h =
+    eqb→eq (looked word) (numberIn word) (every-at (λ w. eqb (looked w) (numberIn w)) 256 tt word h)
+
+found-none : (word : ℕ) → numberIn word ≡ 16 → Nothing ≡ foundOf word
+unfolding foundOf
+found-none word e = rw e
+
+found-number : (word : ℕ) {n : ℕ} → numberIn word ≡ n → n < 16 → Number n ≡ foundOf word
+unfolding foundOf
+found-number word e h = rw (e, lt-ltb _ _ h)
+
+module _ {word : ℕ} (h : word < 256) where
+  pub odd-nothing : ones word % 2 ≡ 1 → Nothing ≡ foundOf word
+  unfolding looked
+  odd-nothing odd = found-none word (sym (looked-right h) ∙ rw (eq-eqb _ _ odd))
+
+  module _ (even : ones word % 2 ≡ 1 → ⊥) where
+    pub entry-number : entryOf (turned (word / 16) % 16) ≡ word → Number (turned (word / 16)) ≡ foundOf word
+    unfolding looked
+    entry-number e =
+        found-number word (sym (looked-right h) ∙ rw (ne-eqb _ _ even, eq-eqb _ _ e)) (turned-lt (word / 16))
+
+    pub other-nothing : (entryOf (turned (word / 16) % 16) ≡ word → ⊥) → Nothing ≡ foundOf word
+    unfolding looked
+    other-nothing e = found-none word (sym (looked-right h) ∙ rw (ne-eqb _ _ even, ne-eqb _ _ e))
+
+-- a number's entry is that number, and eight bits that are a number are its entry: sound and complete
+pub number-entry : {number : ℕ} → number < 16 → numberIn (entryOf number) ≡ number
+unfolding every tableA1 placeIn
+number-entry {number} h =
+    eqb→eq (numberIn (entryOf number)) number (every-at (λ n. eqb (numberIn (entryOf n)) n) 16 tt number h)
+
+place-entry : (w : ℕ) (xs : List ℕ) → placeIn w xs < length xs → getD xs (placeIn w xs) 0 ≡ w
+unfolding placeIn
+place-entry w [] h = absurd (not-suc-le-zero h)
+place-entry w (x ∷ xs) h = go (eqb x w) refl (place-entry w xs) h
+  where
+    go : (b : Bool) → eqb x w ≡ b → (placeIn w xs < length xs → getD xs (placeIn w xs) 0 ≡ w)
+        → cond b 0 (suc (placeIn w xs)) < suc (length xs)
+        → getD (x ∷ xs) (cond b 0 (suc (placeIn w xs))) 0 ≡ w
+    go true e later l = eqb-true x w e
+    go false e later l = later (le-of-suc-le-suc l)
+
+pub entry-number-in : (word : ℕ) → numberIn word < 16 → entryOf (numberIn word) ≡ word
+unfolding tableA1
+entry-number-in word h = place-entry word tableA1 h
+
+-- the first eight bits of a word are its number bits, and bits 9 to 12 its second number
+pub eight-back : {word : ℕ} (second : ℕ) → word < 256 → eightOf (wordBit word second) ≡ word
+unfolding every wordBit gathered
+eight-back {word} second h =
+    eqb→eq (eightOf (wordBit word second)) word (every-at (λ w. eqb (eightOf (wordBit w second)) w) 256 tt word h)
+
+pub second-back : (word : ℕ) {second : ℕ} → second < 16 → secondOf (wordBit word second) ≡ second
+unfolding every wordBit
+second-back word {second} h =
+    eqb→eq (secondOf (wordBit word second)) second (every-at (λ s. eqb (secondOf (wordBit word s)) s) 16 tt second h)
+
+pub entry-lt : {number : ℕ} → number < 16 → entryOf number < 256
+unfolding every tableA1
+entry-lt {number} h = leb→le _ _ (every-at (λ n. ltb (entryOf n) 256) 16 tt number h)
+
+pub bit-lt : (word second slot : ℕ) → wordBit word second slot < 2
+unfolding wordBit
+bit-lt word second slot =
+    either (ltb slot 8) (mod-lt _ (omega arith)) (either (ltb slot 12) (mod-lt _ (omega arith)) (omega arith))
+  where
+    either : (b : Bool) {x y : ℕ} → x < 2 → y < 2 → cond b x y < 2
+    either true hx hy = hx
+    either false hx hy = hy
+
+-- what wraps modulo 256 is, modulo 16, the difference
+pub wraps-difference : (r number last : ℕ) → (r + last) % 256 ≡ number → r % 16 ≡ differenceOf number last
+unfolding differenceOf
+wraps-difference r number last e =
+    let part : last ≡ last / 16 * 16 + last % 16 = sym (div-add-mod' last 16) in
+    let less : last % 16 < 16 = mod-lt last (omega arith) in
+    let whole : r + last + (16 - last % 16) ≡ r + (last / 16 + 1) * 16 = omega arith in
+    let low : number % 16 ≡ (r + last) % 16 = ap (λ (n : ℕ). n % 16) (sym e) ∙ omega arith in
+    sym (add-mul-mod-self-right r (last / 16 + 1) 16)
+    ∙ ap (λ (n : ℕ). n % 16) (sym whole)
+    ∙ sym (mod-add-mod (r + last) 16 (16 - last % 16))
+    ∙ ap (λ (n : ℕ). (n + (16 - last % 16)) % 16) (sym low)
+    ∙ mod-add-mod number 16 (16 - last % 16)
+
+-- bits that agree at each place make one number
+pub gathered-same : (a b : ℕ → ℕ) (n : ℕ) → ((k : ℕ) → k < n → a k ≡ b k) → gathered a n ≡ gathered b n
+unfolding gathered
+gathered-same a b zero same = refl
+gathered-same a b (suc n) same =
+    ap₂ (λ (high low : ℕ). high * 2 + low) (gathered-same a b n (λ k h. same k (le-step h))) (same n (le-refl (suc n)))
+
+place-le : (w : ℕ) (xs : List ℕ) → placeIn w xs ≤ length xs
+unfolding placeIn
+place-le w [] = omega arith
+place-le w (x ∷ xs) = either (eqb x w) (place-le w xs)
+  where
+    either : (b : Bool) → placeIn w xs ≤ length xs → cond b 0 (suc (placeIn w xs)) ≤ suc (length xs)
+    either true h = omega arith
+    either false h = omega arith
+
+-- what is found is the number, and nothing is found where there is none
+pub found-is : (word : ℕ) {n : ℕ} → foundOf word ≡ Number n → n ≡ numberIn word
+unfolding foundOf
+found-is word {n} e =
+    split (ltb (numberIn word) 16)
+    (λ t. let same : Number (numberIn word) ≡ Number n = rw t at e in cc)
+    (λ t. absurd (let other : Nothing ≡ Number n = rw t at e in never other))
+  where
+    never : Nothing ≡ Number n → ⊥
+    never h = let z : _≡_ {A = ℕ} 0 1 = cc in omega arith
+
+pub found-not : (word : ℕ) → foundOf word ≡ Nothing → 16 ≡ numberIn word
+unfolding foundOf tableA1
+found-not word e =
+    split (ltb (numberIn word) 16)
+    (λ t. absurd (let other : Number (numberIn word) ≡ Nothing = rw t at e in never other))
+    (λ t. let above = ltb-false (numberIn word) 16 t in let low = place-le word tableA1 in omega arith)
+  where
+    never : Number (numberIn word) ≡ Nothing → ⊥
+    never h = let z : _≡_ {A = ℕ} 0 1 = cc in omega arith

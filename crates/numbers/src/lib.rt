@@ -1,0 +1,80 @@
+// The sequencing word, document 01: the cell number and its protection, the second number, and the difference of numbers.
+ghost use mathlib.Core.Path.{_≡_};
+ghost use Prim.Native.Nat.{_%_};
+ghost use Rattle.numbers.specs.Numbers.{turned, entryOf, foundOf, wordBit, differenceOf};
+
+// Table A.1: the first eight sequencing bits for numbers 0 to 15, the first bit sent being the top one.
+const TABLE: [u8; 16] = [
+    0x0F,
+    0x84,
+    0x41,
+    0xCA,
+    0x22,
+    0xA9,
+    0x6C,
+    0xE7,
+    0x18,
+    0x93,
+    0x56,
+    0xDD,
+    0x35,
+    0xBE,
+    0x7B,
+    0xF0,
+];
+
+// The number that eight sequencing bits are, or nothing where they equal no entry of the table.
+pub enum Found {
+    Number(u8),
+    Nothing,
+}
+
+// The entry of a number, which is taken modulo 16.
+pub fn entry_of(number: u8) -> u8
+    ensures { λ r. ⌜ r ≡ entryOf (number % 16) ⌝ }
+{
+    let place = (number % 16) as usize;
+    TABLE[place]
+}
+
+// Four bits, the others not looked at, in the opposite order.
+pub fn turned_round(bits: u8) -> u8
+    ensures { λ r. ⌜ r ≡ turned bits ⌝ }
+{
+    bits % 2 * 8 + bits / 2 % 2 * 4 + bits / 4 % 2 * 2 + bits / 8 % 2
+}
+
+// A cell number is accepted only if all eight bits equal an entry.
+pub fn number_of(word: u8) -> Found
+    ensures { λ r. ⌜ r ≡ foundOf word ⌝ }
+{
+    if u8::count_ones(word) % 2 == 1 {
+        return Found::Nothing;
+    }
+    let number = turned_round(word / 16);
+    if entry_of(number) == word {
+        Found::Number(number)
+    } else {
+        Found::Nothing
+    }
+}
+
+// The sequencing bit of a slot, for a cell whose first eight are `word` and whose second number is `second`.
+pub fn bit_of(word: u8, second: u8, slot: usize) -> u8
+    ensures { λ r. ⌜ r ≡ wordBit word second slot ⌝ }
+{
+    if slot < 8 {
+        return (word >> (7 - slot)) % 2;
+    }
+    if slot < 12 {
+        return (second >> (slot - 8)) % 2;
+    }
+    0
+}
+
+// The difference of two numbers modulo 16.
+pub fn difference(number: u8, last: u8) -> u8
+    ensures { λ r. ⌜ r ≡ differenceOf number last ⌝ }
+{
+    std::num::wrapping_sub_u8(number, last) % 16
+}

@@ -1,0 +1,32 @@
+-- `receiver::opened` meets its contract.
+-- Assumes nothing.
+use native.Mathlib.Omega.{arith}
+use Rattle.formats.proofs.Laws.{Settles, settles-all, given-none, base-octet, slots-base}
+use Rattle.receiver.proofs.Laws.{opens-refused, opens}
+use borrow.Author.Needs.{needs}
+use Rattle.receiver.proofs.opened.Statement.{statement}
+use Rattle.receiver.proofs.opened.Tie as tie
+
+settings-requires : tie.Need-settings-requires
+settings-requires c κs = search needs
+
+returns : tie.Need-returns
+returns c = opens-refused (c .before .before .args .format) (c .before .before .args .channels) (c .before .before .args .order) (c .before .settings .ensures) (c .if1 .taken)
+
+settles : (c : tie.Else1) → Settles (c .before .before .args .format) (c .before .before .args .channels) (c .before .before .args .order)
+settles c = settles-all (c .before .before .args .format) (c .before .before .args .channels) (c .before .before .args .order) (given-none (c .before .before .args .format) (c .before .before .args .channels) (c .before .before .args .order) 0 (c .before .settings .ensures) (c .if1 .left))
+
+cast-t8 : tie.Need-cast-t8
+cast-t8 c = record { fits = base-octet (c .before .before .args .format) (settles c .base) }
+
+cast-t9 : tie.Need-cast-t9
+cast-t9 c = omega (arith, settles c .channels-to, slots-base (c .before .before .args .format) (settles c .base))
+
+cast-t10 : tie.Need-cast-t10
+cast-t10 c = omega (arith, settles c .order-to)
+
+returns-2 : tie.Need-returns-2
+returns-2 c = opens (c .before .before .args .format) (c .before .before .args .channels) (c .before .before .args .order) (c .before .settings .ensures) (c .if1 .left)
+
+pub opened-spec : {M : Type 1} → statement M
+opened-spec = tie.close (tie.spec settings-requires returns cast-t8 cast-t9 cast-t10 returns-2)

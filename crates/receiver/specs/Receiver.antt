@@ -1,0 +1,137 @@
+-- The receiver, document 01: its refusals in the table's order, what it writes, and what it reports.
+-- Assumes nothing.
+use mathlib.Core.Bool.{Bool, true, false, cond, not, _&&_, _||_}
+use mathlib.Core.List.{List, [], _++_}
+use mathlib.Core.Path.{_≡_}
+use Prim.Native.Nat.{ℕ, _+_, _*_, _-_}
+use lib.Dec.{eqb, ltb}
+use lib.ListN.{length, replicate}
+use Rattle.runs.specs.Refusals.{orElse}
+use Rattle.runs.specs.Runs.{over}
+use Rattle.formats.specs.declared.Format.{Format}
+use Rattle.formats.specs.Formats.{timesOf, formatOf, settingsRefusal}
+use Rattle.numbers.specs.Numbers.{numberIn, differenceOf}
+use Rattle.cells.specs.Cells.{sampleIn, ancillaryIn, markIn, eightIn, secondIn, entriesOf}
+use Rattle.receiver.specs.declared.Receiver.{Receiver}
+use Rattle.receiver.specs.declared.Ready.{Ready}
+use Rattle.receiver.specs.declared.Received.{Received}
+
+-- "State: format, C, order, started or not, last number. Not started means last number 0."; "zeros from an opening" that is refused
+abbrev pub zeroState : Receiver
+zeroState = record { format = 0; channels = 0; order = 0; started = false; last = 0 }
+
+abbrev pub openState : ℕ → ℕ → ℕ → Receiver
+openState octet channels order = record { format = octet; channels = channels; order = order; started = false; last = 0 }
+
+unfoldable pub openedOf : ℕ → ℕ → ℕ → Ready
+openedOf octet channels order =
+    cond (eqb (settingsRefusal octet channels order) 0)
+    (record { refusal = 0; state = openState octet channels order })
+    (record { refusal = settingsRefusal octet channels order; state = zeroState })
+
+-- 4: "a state .. number above 15; .. a receiver not started, or without overhead, whose last number isn't 0"
+unfoldable pub lastRefused : Format → Bool → ℕ → Bool
+lastRefused f started last = ltb 15 last || (not (eqb last 0) && (not started || eqb (f .overhead) 0))
+
+-- checks 1 to 4 of a state
+unfoldable pub stateRefusal : Receiver → ℕ
+stateRefusal st =
+    orElse (settingsRefusal (st .format) (st .channels) (st .order))
+    (cond (lastRefused (formatOf (st .format)) (st .started) (st .last)) 4 0)
+
+-- T and C×T, as the state has them
+abbrev pub timesNow : Receiver → ℕ
+timesNow st = timesOf (formatOf (st .format) .slots) (st .channels)
+
+abbrev pub usedNow : Receiver → ℕ
+usedNow st = st .channels * timesNow st
+
+-- 5: "a cell not of 48 octets; .. receiver runs of unequal length"
+unfoldable pub lengthsRefused : ℕ → ℕ → ℕ → ℕ → Bool
+lengthsRefused cell samples ancillary marks =
+    not (eqb cell 48) || (not (eqb ancillary samples) || not (eqb marks samples))
+
+-- the cell's number, 16 where the eight bits are none; "Without overhead .. the reported and stored numbers stay 0"
+unfoldable pub numberNow : Format → List ℕ → ℕ
+numberNow f cell = cond (eqb (f .overhead) 0) 0 (numberIn (eightIn f cell))
+
+-- d: "The first accepted cell starts it, with none missing. Afterwards d is the difference of numbers modulo 16"; "Without overhead
+-- d is always 1"
+unfoldable pub gapNow : Format → Bool → ℕ → ℕ → ℕ
+gapNow f started last number = cond (not started || eqb (f .overhead) 0) 1 (differenceOf number last)
+
+-- the gap that a cell leaves in this state
+abbrev pub gapOf : Receiver → List ℕ → ℕ
+gapOf st cell = gapNow (formatOf (st .format)) (st .started) (st .last) (numberNow (formatOf (st .format)) cell)
+
+-- checks 1 to 4, then 5, then 8, 9, 10; the runs are told by their lengths
+unfoldable pub receiveRefusal : Receiver → List ℕ → ℕ → ℕ → ℕ → ℕ
+receiveRefusal st cell samples ancillary marks =
+    orElse (stateRefusal st)
+    (cond (lengthsRefused (length cell) samples ancillary marks) 5
+    (cond (ltb 15 (numberNow (formatOf (st .format)) cell)) 8
+    (cond (eqb (gapOf st cell) 0) 9
+    (cond (ltb samples (gapOf st cell * usedNow st)) 10 0))))
+
+-- "C×T entries of zero with mark 2 for each missing cell, then the cell's own entries": what one run is given
+unfoldable pub entriesNow : (ℕ → ℕ) → ℕ → Receiver → List ℕ → List ℕ
+entriesNow read missing st cell =
+    replicate ((gapOf st cell - 1) * usedNow st) missing
+    ++ entriesOf read (formatOf (st .format)) (eqb (st .order) 1) (st .channels) (timesNow st) cell
+
+abbrev pub samplesNow : Receiver → List ℕ → List ℕ
+samplesNow st cell = entriesNow (sampleIn (formatOf (st .format))) 0 st cell
+
+abbrev pub ancillaryNow : Receiver → List ℕ → List ℕ
+ancillaryNow st cell = entriesNow (ancillaryIn (formatOf (st .format))) 0 st cell
+
+abbrev pub marksNow : Receiver → List ℕ → List ℕ
+marksNow st cell = entriesNow (markIn (formatOf (st .format))) 2 st cell
+
+-- "second number (0 where there is none)"
+unfoldable pub secondNow : Format → List ℕ → ℕ
+secondNow f cell = cond (eqb (f .overhead) 0) 0 (secondIn f cell)
+
+unfoldable pub after : Receiver → List ℕ → Receiver
+after st cell =
+    record {
+        format = st .format;
+        channels = st .channels;
+        order = st .order;
+        started = true;
+        last = numberNow (formatOf (st .format)) cell }
+
+-- "Reported: missing count, number, second number .., and the indication as it came"
+unfoldable pub receivedOf : Receiver → List ℕ → Bool → ℕ → ℕ → ℕ → Received
+receivedOf st cell indication samples ancillary marks =
+    cond (eqb (receiveRefusal st cell samples ancillary marks) 0)
+    (record {
+        refusal = 0;
+        state = after st cell;
+        missing = gapOf st cell - 1;
+        number = numberNow (formatOf (st .format)) cell;
+        second = secondNow (formatOf (st .format)) cell;
+        indication = indication })
+    (record {
+        refusal = receiveRefusal st cell samples ancillary marks;
+        state = st;
+        missing = 0;
+        number = 0;
+        second = 0;
+        indication = false })
+
+-- what the call gives each run: nothing where it is refused
+unfoldable pub given : Receiver → List ℕ → ℕ → ℕ → ℕ → List ℕ → List ℕ
+given st cell samples ancillary marks entries =
+    cond (eqb (receiveRefusal st cell samples ancillary marks) 0) entries []
+
+-- the whole promise of receiving: "Entries past these stay"
+pub record Receives (st : Receiver) (cell : List ℕ) (indication : Bool) (samples ancillary marks : List ℕ)
+    (answer : Received) (samples₁ ancillary₁ marks₁ : List ℕ) : Type 0 where
+  pub answered : answer ≡ receivedOf st cell indication (length samples) (length ancillary) (length marks)
+  pub samples-after : samples₁
+      ≡ over (given st cell (length samples) (length ancillary) (length marks) (samplesNow st cell)) samples
+  pub ancillary-after : ancillary₁
+      ≡ over (given st cell (length samples) (length ancillary) (length marks) (ancillaryNow st cell)) ancillary
+  pub marks-after : marks₁
+      ≡ over (given st cell (length samples) (length ancillary) (length marks) (marksNow st cell)) marks

@@ -1,0 +1,111 @@
+// The receiver's box, document 01: opening and receiving, refusals 1 to 5 and 8 to 10.
+ghost use mathlib.Core.Path.{_≡_};
+ghost use Rattle.receiver.specs.Receiver.{openedOf, Receives};
+
+mod judge;
+mod unpack;
+
+// A receiver's state, in the paper's words: the subframe octet, C, the order, whether it is started, and the last number.
+pub struct Receiver {
+    pub format: u8,
+    pub channels: u8,
+    pub order: u8,
+    pub started: bool,
+    pub last: u8,
+}
+
+// The refusal (0: none) and the state to go on with.
+pub struct Ready {
+    pub refusal: u8,
+    pub state: Receiver,
+}
+
+// The refusal (0: none), the state to go on with, and the report; all of the report is zero where the cell is refused.
+pub struct Received {
+    pub refusal: u8,
+    pub state: Receiver,
+    pub missing: u8,
+    pub number: u8,
+    pub second: u8,
+    pub indication: bool,
+}
+
+// A receiver that has accepted no cell yet. Refused: 1 to 3, and the state is then all zeros.
+pub fn opened(format: u32, channels: u32, order: u32) -> Ready
+    ensures { λ r. ⌜ r ≡ openedOf format channels order ⌝ }
+{
+    let set = formats::settings(format, channels, order);
+    let refusal = set.refusal;
+    if refusal != 0 {
+        return Ready {
+            refusal,
+            state: Receiver {
+                format: 0,
+                channels: 0,
+                order: 0,
+                started: false,
+                last: 0,
+            },
+        };
+    }
+    Ready {
+        refusal: 0,
+        state: Receiver {
+            format: format as u8,
+            channels: channels as u8,
+            order: order as u8,
+            started: false,
+            last: 0,
+        },
+    }
+}
+
+// Takes a cell: C×T entries of zero with mark 2 for each missing cell, then the cell's own, go into the three runs from their
+// start; what stands past these stays. Refused: 1 to 5, 8, 9, 10, and then the state comes back as it went in and nothing is
+// written.
+pub fn receive(
+    state: Receiver,
+    cell: &[u8],
+    indication: bool,
+    samples: &mut [u64],
+    ancillary: &mut [u8],
+    marks: &mut [u8],
+) -> Received
+    ensures { λ r. ⌜ Receives state (now (cell .entry)) indication (now (samples .entry)) (now (ancillary .entry)) (now (marks .entry)) r (now (samples .exit)) (now (ancillary .exit)) (now (marks .exit)) ⌝ }
+{
+    let set = formats::settings(state.format as u32, state.channels as u32, state.order as u32);
+    let format = set.format;
+    let refusal = judge::receive_refusal(set, state, cell, samples.len(), ancillary.len(), marks.len());
+    if refusal != 0 {
+        return Received {
+            refusal,
+            state,
+            missing: 0,
+            number: 0,
+            second: 0,
+            indication: false,
+        };
+    }
+    let number = unpack::number_now(format, cell);
+    let missing = judge::gap_now(format, state.started, state.last, number) - 1;
+    let place = missing as usize * (set.channels * set.times);
+    unpack::zeros(samples, place);
+    unpack::octets(ancillary, place, 0);
+    unpack::octets(marks, place, 2);
+    unpack::unpack(set, cell, place, samples, ancillary, marks);
+    let second = unpack::second_now(format, cell);
+    Received {
+        refusal: 0,
+        state: Receiver {
+            format: state.format,
+            channels: state.channels,
+            order: state.order,
+            started: true,
+            last: number,
+        },
+        missing,
+        number,
+        second,
+        indication,
+    }
+}

@@ -1,0 +1,52 @@
+-- A lent run that a loop fills with given entries from a place on: the loop's invariant, and its three laws.
+-- Assumes nothing.
+use mathlib.Core.List.{List, _++_}
+use mathlib.Core.Path.{_≡_, refl, sym, _∙_, ap}
+use Prim.Native.Nat.{ℕ, zero, _+_, _≤_, _<_}
+use native.Mathlib.Nat.{zero-add}
+use native.Mathlib.Numerals.{add-one}
+use native.Mathlib.Omega.{arith}
+use lib.ListN.{length, getD, take, drop, set, length-set}
+use Rattle.runs.specs.Runs.{over}
+use lib.Seq.{paste, paste-zero, paste-suc, take-all}
+
+-- the run d is d₀ with the first i entries of vs written from `at` on
+pub record Filled (d d₀ : List ℕ) (at : ℕ) (vs : List ℕ) (i : ℕ) : Type 0 where
+  pub within : i ≤ length vs
+  pub is : d ≡ paste d₀ at vs i
+  pub same : length d ≡ length d₀
+
+module _ (d₀ : List ℕ) (at : ℕ) (vs : List ℕ) where
+  pub begun : Filled d₀ d₀ at vs zero
+  begun = record { within = omega arith; is = paste-zero d₀ at vs; same = refl }
+
+  pub turned : {d : List ℕ} {i v : ℕ} → Filled d d₀ at vs i → at + length vs ≤ length d₀ → i < length vs → v ≡ getD vs i 0
+      → Filled (set d (at + i) v) d₀ at vs (i + 1)
+  turned {d} {i} {v} so-far room less e =
+      record {
+        within = omega arith;
+        is =
+            ap (λ (x : ℕ). set d (at + i) x) e
+            ∙ ap (λ (l : List ℕ). set l (at + i) (getD vs i 0)) (so-far .is)
+            ∙ paste-suc d₀ at vs i 0 (omega arith) less
+            ∙ ap (paste d₀ at vs) (sym (add-one i));
+        same = length-set d (at + i) v ∙ so-far .same;
+      }
+
+  pub done : {d : List ℕ} {i : ℕ} → Filled d d₀ at vs i → length vs ≤ i → d ≡ take at d₀ ++ vs ++ drop (at + length vs) d₀
+  done {d} {i} so-far all =
+      let whole : i ≡ length vs = omega (arith, so-far .within) in
+      so-far .is
+      ∙ ap (paste d₀ at vs) whole
+      ∙ ap (λ (l : List ℕ). take at d₀ ++ l ++ drop (at + length vs) d₀) (take-all (length vs) vs (omega arith))
+
+-- the same from the run's start
+module _ (d₀ vs : List ℕ) where
+  pub turned-front : {d : List ℕ} {i v : ℕ} → Filled d d₀ 0 vs i → length vs ≤ length d₀ → i < length vs → v ≡ getD vs i 0
+      → Filled (set d i v) d₀ 0 vs (i + 1)
+  turned-front {d} {i} {v} so-far room less e =
+      rw (zero-add i) at (turned d₀ 0 vs so-far (omega arith) less e)
+
+  pub done-front : {d : List ℕ} {i : ℕ} → Filled d d₀ 0 vs i → length vs ≤ i → d ≡ over vs d₀
+  unfolding over
+  done-front so-far all = done d₀ 0 vs so-far all ∙ rw (zero-add (length vs))

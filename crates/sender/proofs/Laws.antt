@@ -1,0 +1,295 @@
+-- Laws of the sender's refusals: what each check gives in its turn, and what is known where none refuses.
+-- Assumes nothing.
+use mathlib.Core.Bool.{Bool, true, false, cond, not, _&&_, _||_}
+use mathlib.Core.List.{List, [], _∷_}
+use mathlib.Core.Path.{_≡_, refl, sym, _∙_, ap, ap₂}
+use Prim.Native.Nat.{ℕ, zero, suc, _+_, _*_, _/_, _%_, _^_, _≤_, _<_}
+use native.Mathlib.Nat.{suc-ne-zero, mod-eq-of-lt, mul-div-le, le-div-iff-mul-le}
+use native.Mathlib.Omega.{arith}
+use borrow.Author.Tests.{lt-ltb, le-ltb, eq-eqb, ne-eqb, ltb-true, ltb-false, eqb-true, not-false}
+use lib.Dec.{eqb, ltb}
+use lib.ListN.{length, getD, drop, drop-of-length-le}
+use lib.Pow.{pow-pos}
+use lib.Seq.{drop-cons}
+use Rattle.runs.specs.Refusals.{orElse}
+use Rattle.runs.proofs.Laws.{first-refuses, then-later, past, past-both, neither, both-true}
+use Rattle.formats.specs.declared.Format.{Format}
+use Rattle.formats.specs.declared.Settled.{Settled}
+use Rattle.formats.specs.Formats.{formatOf, timesOf, slotsOf, settingsOf, settingsRefusal, settled}
+use Rattle.formats.specs.Sound.{Limits}
+use Rattle.formats.proofs.Laws.{
+    settled-of,
+    Settles,
+    settles-all,
+    settled-limits,
+    given-refuses,
+    given-none,
+    given-settled,
+    given-later}
+use Rattle.sender.specs.declared.Sender.{Sender}
+use Rattle.numbers.specs.Numbers.{entryOf}
+use Rattle.sender.specs.Packing.{Packable, packed}
+use Rattle.sender.specs.Sender.{
+  zeroState,
+  openState,
+  openedOf,
+  numbersRefused,
+  stateRefusal,
+  timesNow,
+  usedNow,
+  allBelow,
+  lengthsRefused,
+  valuesRefused,
+  indicationRefused,
+  sendRefusal,
+  secondNow,
+  after,
+  cellNow,
+  sentOf,
+  cellAfter,
+  Sends,
+}
+
+-- checks 1 to 4, by the settings
+module _ {set : Settled} (octet channels order number : ℕ) (wanted : Bool) (second : ℕ)
+    (given : set ≡ settingsOf octet channels order)
+    where
+  pub by-settings : (set .refusal ≡ 0 → ⊥) → set .refusal ≡ stateRefusal octet channels order number wanted second
+  unfolding stateRefusal
+  by-settings some = given-refuses octet channels order _ given some
+
+  pub by-numbers : (none : set .refusal ≡ 0) {b : Bool} → b ≡ numbersRefused (set .format) number wanted second
+      → cond b 4 0 ≡ stateRefusal octet channels order number wanted second
+  unfolding stateRefusal
+  by-numbers none e =
+      ap (λ (b : Bool). cond b 4 0)
+      (e
+      ∙ ap (λ (x : Settled). numbersRefused (x .format) number wanted second)
+      (given-settled octet channels order 0 given none))
+      ∙ sym (given-later octet channels order _ given none)
+
+-- what checks 1 to 4 leave where none refuses
+pub record StatePasses (octet channels order number second : ℕ) : Type 0 where
+  pub settles : Settles octet channels order
+  pub number-to : number ≤ 15
+  pub second-to : second ≤ 15
+
+pub state-passes : (octet channels order number : ℕ) (wanted : Bool) (second : ℕ)
+    → stateRefusal octet channels order number wanted second ≡ 0 → StatePasses octet channels order number second
+unfolding stateRefusal numbersRefused
+state-passes octet channels order number wanted second e =
+    let both = past-both (settingsRefusal octet channels order) _ e in
+    let fourth = past (numbersRefused (formatOf octet) number wanted second) 3 0 (both .1) in
+    let first = neither (ltb 15 number) _ (fourth .0) in
+    let next = neither (ltb 15 second) _ (first .1) in
+    record {
+      settles = settles-all octet channels order (both .0);
+      number-to = ltb-false 15 number (first .0);
+      second-to = ltb-false 15 second (next .0);
+    }
+
+-- an opening, refused and taken
+module _ (octet channels order number : ℕ) (wanted : Bool) (second : ℕ) where
+  pub opens-refused : {n : ℕ} → (n ≡ 0 → ⊥) → n ≡ stateRefusal octet channels order number wanted second
+      → record { refusal = n; state = zeroState } ≡ openedOf octet channels order number wanted second
+  unfolding openedOf
+  opens-refused some e = rw (← e, ne-eqb _ _ some)
+
+  pub opens : 0 ≡ stateRefusal octet channels order number wanted second
+      → record { refusal = 0; state = openState octet channels order number wanted second }
+      ≡ openedOf octet channels order number wanted second
+  unfolding openedOf
+  opens e = rw (← e)
+
+-- a run judged from its start: what is passed is below the bound
+module _ (bound : ℕ) (run : List ℕ) {i : ℕ} (h : i < length run) where
+  pub below-on : getD run i 0 < bound → allBelow bound (drop i run) ≡ allBelow bound (drop (suc i) run)
+  unfolding allBelow
+  below-on less = ap (allBelow bound) (drop-cons run i 0 h) ∙ rw (lt-ltb _ _ less)
+
+  pub below-stops : bound ≤ getD run i 0 → allBelow bound (drop i run) ≡ false
+  unfolding allBelow
+  below-stops above = ap (allBelow bound) (drop-cons run i 0 h) ∙ rw (le-ltb _ _ above)
+
+pub below-end : (bound : ℕ) (run : List ℕ) (i : ℕ) → length run ≤ i → true ≡ allBelow bound (drop i run)
+unfolding allBelow
+below-end bound run i h = sym (ap (allBelow bound) (drop-of-length-le run h))
+
+pub below-each : (bound : ℕ) (run : List ℕ) → zero < bound → allBelow bound run ≡ true → (i : ℕ) → getD run i 0 < bound
+unfolding allBelow
+below-each bound [] some e i = some
+below-each bound (x ∷ xs) some e zero = ltb-true x bound (both-true (ltb x bound) (allBelow bound xs) e .0)
+below-each bound (x ∷ xs) some e (suc i) = below-each bound xs some (both-true (ltb x bound) (allBelow bound xs) e .1) i
+
+-- checks 5 to 7 in their turn, by the settings
+module _ {set : Settled} (st : Sender) (indication : Bool) (samples ancillary : List ℕ) (room : ℕ)
+    (given : set ≡ settingsOf (st .format) (st .channels) (st .order))
+  where
+    abbrev refusal : ℕ
+    refusal = sendRefusal st indication samples ancillary room
+
+    pub sends-first : {n : ℕ} → (n ≡ 0 → ⊥)
+        → n ≡ stateRefusal (st .format) (st .channels) (st .order) (st .number) (st .wanted) (st .second) → n ≡ refusal
+    unfolding sendRefusal
+    sends-first some e = e ∙ sym (first-refuses _ (λ z. some (e ∙ z)))
+
+    pub sends-settings : (set .refusal ≡ 0 → ⊥) → set .refusal ≡ refusal
+    sends-settings some =
+        sends-first some
+        (by-settings (st .format) (st .channels) (st .order) (st .number) (st .wanted) (st .second) given some)
+
+    module _ (none : set .refusal ≡ 0) where
+      is : set ≡ settled (st .format) (st .channels) (st .order)
+      is = given-settled (st .format) (st .channels) (st .order) 0 given none
+
+      -- what the settings bound
+      pub limits : Limits set
+      limits =
+          settled-limits (st .format) (st .channels) (st .order) is
+          (given-none (st .format) (st .channels) (st .order) 0 given none)
+
+      pub sends-4 : true ≡ numbersRefused (set .format) (st .number) (st .wanted) (st .second) → 4 ≡ refusal
+      sends-4 e =
+          sends-first (suc-ne-zero 3)
+          (by-numbers (st .format) (st .channels) (st .order) (st .number) (st .wanted) (st .second) given none e)
+
+      module _ (fourth : false ≡ numbersRefused (set .format) (st .number) (st .wanted) (st .second)) where
+        later : refusal
+            ≡ cond (lengthsRefused (set .channels * set .times) samples ancillary room) 5
+            (cond (valuesRefused (set .format) samples ancillary) 6 (cond (indicationRefused (st .number) indication) 7 0))
+        unfolding sendRefusal
+        later =
+            then-later _
+            (sym (by-numbers (st .format) (st .channels) (st .order) (st .number) (st .wanted) (st .second) given none fourth))
+            ∙ ap
+            (λ (x : Settled).
+            cond (lengthsRefused (x .channels * x .times) samples ancillary room) 5
+            (cond (valuesRefused (x .format) samples ancillary) 6 (cond (indicationRefused (st .number) indication) 7 0)))
+            (sym is)
+
+        pub sends-5 : true ≡ lengthsRefused (set .channels * set .times) samples ancillary room → 5 ≡ refusal
+        sends-5 e = sym (later ∙ rw (← e))
+
+        module _ (fit : false ≡ lengthsRefused (set .channels * set .times) samples ancillary room) where
+          pub sends-6 : true ≡ valuesRefused (set .format) samples ancillary → 6 ≡ refusal
+          sends-6 e = sym (later ∙ rw (← fit, ← e))
+
+          module _ (small : false ≡ valuesRefused (set .format) samples ancillary) where
+            pub sends-7 : true ≡ indicationRefused (st .number) indication → 7 ≡ refusal
+            sends-7 e = sym (later ∙ rw (← fit, ← small, ← e))
+
+            pub sends-0 : false ≡ indicationRefused (st .number) indication → 0 ≡ refusal
+            sends-0 e = sym (later ∙ rw (← fit, ← small, ← e))
+
+-- everything that packing asks, where nothing is refused
+module _ (st : Sender) (indication : Bool) (samples ancillary : List ℕ) (room : ℕ)
+    (none : sendRefusal st indication samples ancillary room ≡ 0)
+  where
+    abbrev f : Format
+    f = formatOf (st .format)
+
+    abbrev from-7 : ℕ
+    from-7 = cond (indicationRefused (st .number) indication) 7 0
+
+    abbrev from-6 : ℕ
+    from-6 = cond (valuesRefused (formatOf (st .format)) samples ancillary) 6 from-7
+
+    abbrev from-5 : ℕ
+    from-5 = cond (lengthsRefused (usedNow st) samples ancillary room) 5 from-6
+
+    state-none : (stateRefusal (st .format) (st .channels) (st .order) (st .number) (st .wanted) (st .second) ≡ 0) × (from-5 ≡ 0)
+    unfolding sendRefusal
+    state-none = past-both _ _ none
+
+    pub passes : StatePasses (st .format) (st .channels) (st .order) (st .number) (st .second)
+    passes = state-passes (st .format) (st .channels) (st .order) (st .number) (st .wanted) (st .second) (state-none .0)
+
+    pub settings-none : settingsRefusal (st .format) (st .channels) (st .order) ≡ 0
+    unfolding stateRefusal
+    settings-none = past-both (settingsRefusal (st .format) (st .channels) (st .order)) _ (state-none .0) .0
+
+    fifth : (lengthsRefused (usedNow st) samples ancillary room ≡ false) × (from-6 ≡ 0)
+    fifth = past (lengthsRefused (usedNow st) samples ancillary room) 4 from-6 (state-none .1)
+
+    sixth : (valuesRefused (formatOf (st .format)) samples ancillary ≡ false) × (from-7 ≡ 0)
+    sixth = past (valuesRefused (formatOf (st .format)) samples ancillary) 5 from-7 (fifth .1)
+
+    lengths : (room ≡ 48) × (length samples ≡ usedNow st) × (length ancillary ≡ usedNow st)
+    unfolding lengthsRefused
+    lengths =
+        let first = neither (not (eqb room 48)) _ (fifth .0) in
+        let next = neither (not (eqb (length samples) (usedNow st))) _ (first .1) in (
+          eqb-true room 48 (not-false _ (first .0)),
+          eqb-true (length samples) (usedNow st) (not-false _ (next .0)),
+          eqb-true (length ancillary) (usedNow st) (not-false _ (next .1)),
+        )
+
+    pub room-is : room ≡ 48
+    room-is = lengths .0
+
+    pub packable : Packable (settled (st .format) (st .channels) (st .order)) samples ancillary
+    unfolding valuesRefused
+    packable =
+        let bounds = settled-limits (st .format) (st .channels) (st .order) refl settings-none in
+        let values = neither (not (allBelow (2 ^ f .sample) samples)) _ (sixth .0) in
+        record {
+          limits = bounds;
+          samples-length = lengths .1;
+          ancillary-length = lengths .2;
+          small = below-each (2 ^ f .sample) samples (pow-pos (f .sample)) (not-false _ (values .0));
+          few = below-each (2 ^ f .ancillary) ancillary (pow-pos (f .ancillary)) (not-false _ (values .1));
+        }
+
+-- a call of `send`, refused and taken
+module _ (st : Sender) (indication : Bool) (samples ancillary cell : List ℕ) where
+  pub sends-refused : {n : ℕ} → (n ≡ 0 → ⊥) → n ≡ sendRefusal st indication samples ancillary (length cell)
+      → Sends st indication samples ancillary cell (record { refusal = n; state = st }) cell
+  unfolding sentOf cellAfter
+  sends-refused some e =
+      record { answered = rw (← e, ne-eqb _ _ some); cell-after = rw (← e, ne-eqb _ _ some) }
+
+  module _ {set : Settled} (given : set ≡ settingsOf (st .format) (st .channels) (st .order))
+      (none : 0 ≡ sendRefusal st indication samples ancillary (length cell))
+    where
+      pub set-is : set ≡ settled (st .format) (st .channels) (st .order)
+      set-is =
+          given
+          ∙ settled-of (st .format) (st .channels) (st .order)
+          (settings-none st indication samples ancillary (length cell) (sym none))
+
+      pub can-pack : Packable set samples ancillary × (length cell ≡ 48)
+      can-pack = (
+        rw set-is (packable st indication samples ancillary (length cell) (sym none)),
+        room-is st indication samples ancillary (length cell) (sym none),
+      )
+
+      pub sends-taken : {second word : ℕ} {cell₁ : List ℕ} → second ≡ secondNow st indication → word ≡ entryOf (st .number % 16)
+          → cell₁ ≡ packed set word second samples ancillary
+          → Sends st indication samples ancillary cell
+          (record {
+            refusal = 0;
+            state =
+                record {
+                  format = st .format;
+                  channels = st .channels;
+                  order = st .order;
+                  number = (st .number + 1) % 16;
+                  wanted = st .wanted;
+                  second = second;
+                  sent = true;
+                };
+          })
+          cell₁
+      unfolding sentOf after cellAfter cellNow
+      sends-taken {second} {word} second-is word-is written =
+          let number-to = passes st indication samples ancillary (length cell) (sym none) .number-to in
+          let low : st .number % 16 ≡ st .number = mod-eq-of-lt (omega arith) in
+          record {
+            answered = rw (← none, second-is);
+            cell-after =
+                written
+                ∙ ap (λ (x : Settled). packed x word second samples ancillary) set-is
+                ∙ ap₂ (λ (w n : ℕ). packed (settled (st .format) (st .channels) (st .order)) w n samples ancillary)
+                (word-is ∙ ap entryOf low) second-is
+                ∙ rw (← none);
+          }

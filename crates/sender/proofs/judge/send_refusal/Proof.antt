@@ -1,0 +1,78 @@
+-- `sender::judge::send_refusal` meets its contract: each way out by the check that it goes by.
+-- Assumes nothing.
+use mathlib.Core.Bool.{false}
+use mathlib.Core.Path.{_≡_, sym, _∙_}
+use Prim.Native.Nat.{_*_}
+use native.Mathlib.Omega.{arith}
+use denote.Ref.{now}
+use Rattle.sender.specs.Sender.{numbersRefused, lengthsRefused, valuesRefused}
+use Rattle.sender.proofs.Laws.{sends-settings, sends-4, sends-5, sends-6, sends-7, sends-0, limits}
+use borrow.Author.Needs.{needs}
+use Rattle.sender.proofs.judge.send_refusal.Statement.{statement}
+use Rattle.sender.proofs.judge.send_refusal.Tie as tie
+
+returns : tie.Need-returns
+returns c = sends-settings (c .before .before .before .args .state) (c .before .before .before .args .indication) (now (c .before .before .before .args .samples)) (now (c .before .before .before .args .ancillary)) (c .before .before .before .args .room) (c .before .before .before .pre) (c .if1 .taken)
+
+cast-numbers : tie.Need-cast-numbers
+cast-numbers c = search needs
+
+cast-numbers-2 : tie.Need-cast-numbers-2
+cast-numbers-2 c = search needs
+
+numbers-requires : tie.Need-numbers-requires
+numbers-requires c κs = search needs
+
+returns-2 : tie.Need-returns-2
+returns-2 c = sends-4 (c .before .before .before .before .before .before .before .before .args .state) (c .before .before .before .before .before .before .before .before .args .indication) (now (c .before .before .before .before .before .before .before .before .args .samples)) (now (c .before .before .before .before .before .before .before .before .args .ancillary)) (c .before .before .before .before .before .before .before .before .args .room) (c .before .before .before .before .before .before .before .before .pre) (c .before .before .before .before .before .if1 .left) (sym (c .if2 .taken) ∙ c .before .numbers .ensures)
+
+fourth : (c : tie.Else2) → false ≡ numbersRefused (c .before .before .before .before .before .before .before .before .args .set .format) (c .before .before .before .before .before .before .before .before .args .state .number) (c .before .before .before .before .before .before .before .before .args .state .wanted) (c .before .before .before .before .before .before .before .before .args .state .second)
+fourth c = sym (c .if2 .left) ∙ c .before .numbers .ensures
+
+fifth : (c : tie.Else3) → false ≡ lengthsRefused (c .before .before .before .before .before .before .before .before .before .before .before .args .set .channels * c .before .before .before .before .before .before .before .before .before .before .before .args .set .times) (now (c .before .before .before .before .before .before .before .before .before .before .before .args .samples)) (now (c .before .before .before .before .before .before .before .before .before .before .before .args .ancillary)) (c .before .before .before .before .before .before .before .before .before .before .before .args .room)
+fifth c = sym (c .if3 .left) ∙ c .before .lengths-refused .ensures
+
+sixth : (c : tie.Else4) → false ≡ valuesRefused (c .before .before .before .before .before .before .before .before .before .before .before .before .before .args .set .format) (now (c .before .before .before .before .before .before .before .before .before .before .before .before .before .args .samples)) (now (c .before .before .before .before .before .before .before .before .before .before .before .before .before .args .ancillary))
+sixth c = sym (c .if4 .left) ∙ c .before .values-refused .ensures
+
+mul-lengths-refused : tie.Need-mul-lengths-refused
+mul-lengths-refused c = omega (arith, limits (c .before .before .before .before .before .before .before .before .before .args .state) (c .before .before .before .before .before .before .before .before .before .args .indication) (now (c .before .before .before .before .before .before .before .before .before .args .samples)) (now (c .before .before .before .before .before .before .before .before .before .args .ancillary)) (c .before .before .before .before .before .before .before .before .before .args .room) (c .before .before .before .before .before .before .before .before .before .pre) (c .before .before .before .before .before .before .if1 .left) .used-to)
+
+lengths-refused-requires : tie.Need-lengths-refused-requires
+lengths-refused-requires c κs = search needs
+
+returns-3 : tie.Need-returns-3
+returns-3 c = sends-5 (c .before .before .before .before .before .before .before .before .before .before .before .args .state) (c .before .before .before .before .before .before .before .before .before .before .before .args .indication) (now (c .before .before .before .before .before .before .before .before .before .before .before .args .samples)) (now (c .before .before .before .before .before .before .before .before .before .before .before .args .ancillary)) (c .before .before .before .before .before .before .before .before .before .before .before .args .room) (c .before .before .before .before .before .before .before .before .before .before .before .pre) (c .before .before .before .before .before .before .before .before .if1 .left) (fourth (c .before .before .before)) (sym (c .if3 .taken) ∙ c .before .lengths-refused .ensures)
+
+values-refused-requires : tie.Need-values-refused-requires
+values-refused-requires c κs = (limits (c .before .before .before .before .before .before .before .before .before .before .before .args .state) (c .before .before .before .before .before .before .before .before .before .before .before .args .indication) (now (c .before .before .before .before .before .before .before .before .before .before .before .args .samples)) (now (c .before .before .before .before .before .before .before .before .before .before .before .args .ancillary)) (c .before .before .before .before .before .before .before .before .before .before .before .args .room) (c .before .before .before .before .before .before .before .before .before .before .before .pre) (c .before .before .before .before .before .before .before .before .if1 .left) .sample-to, limits (c .before .before .before .before .before .before .before .before .before .before .before .args .state) (c .before .before .before .before .before .before .before .before .before .before .before .args .indication) (now (c .before .before .before .before .before .before .before .before .before .before .before .args .samples)) (now (c .before .before .before .before .before .before .before .before .before .before .before .args .ancillary)) (c .before .before .before .before .before .before .before .before .before .before .before .args .room) (c .before .before .before .before .before .before .before .before .before .before .before .pre) (c .before .before .before .before .before .before .before .before .if1 .left) .ancillary-to)
+
+returns-4 : tie.Need-returns-4
+returns-4 c = sends-6 (c .before .before .before .before .before .before .before .before .before .before .before .before .before .args .state) (c .before .before .before .before .before .before .before .before .before .before .before .before .before .args .indication) (now (c .before .before .before .before .before .before .before .before .before .before .before .before .before .args .samples)) (now (c .before .before .before .before .before .before .before .before .before .before .before .before .before .args .ancillary)) (c .before .before .before .before .before .before .before .before .before .before .before .before .before .args .room) (c .before .before .before .before .before .before .before .before .before .before .before .before .before .pre) (c .before .before .before .before .before .before .before .before .before .before .if1 .left) (fourth (c .before .before .before .before .before)) (fifth (c .before .before)) (sym (c .if4 .taken) ∙ c .before .values-refused .ensures)
+
+indication-refused-requires : tie.Need-indication-refused-requires
+indication-refused-requires c κs = search needs
+
+returns-5 : tie.Need-returns-5
+returns-5 c = sends-7 (c .before .before .before .before .before .before .before .before .before .before .before .before .before .before .before .args .state) (c .before .before .before .before .before .before .before .before .before .before .before .before .before .before .before .args .indication) (now (c .before .before .before .before .before .before .before .before .before .before .before .before .before .before .before .args .samples)) (now (c .before .before .before .before .before .before .before .before .before .before .before .before .before .before .before .args .ancillary)) (c .before .before .before .before .before .before .before .before .before .before .before .before .before .before .before .args .room) (c .before .before .before .before .before .before .before .before .before .before .before .before .before .before .before .pre) (c .before .before .before .before .before .before .before .before .before .before .before .before .if1 .left) (fourth (c .before .before .before .before .before .before .before)) (fifth (c .before .before .before .before)) (sixth (c .before .before)) (sym (c .if5 .taken) ∙ c .before .indication-refused .ensures)
+
+returns-6 : tie.Need-returns-6
+returns-6 c = sends-0 (c .before .before .before .before .before .before .before .before .before .before .before .before .before .before .before .args .state) (c .before .before .before .before .before .before .before .before .before .before .before .before .before .before .before .args .indication) (now (c .before .before .before .before .before .before .before .before .before .before .before .before .before .before .before .args .samples)) (now (c .before .before .before .before .before .before .before .before .before .before .before .before .before .before .before .args .ancillary)) (c .before .before .before .before .before .before .before .before .before .before .before .before .before .before .before .args .room) (c .before .before .before .before .before .before .before .before .before .before .before .before .before .before .before .pre) (c .before .before .before .before .before .before .before .before .before .before .before .before .if1 .left) (fourth (c .before .before .before .before .before .before .before)) (fifth (c .before .before .before .before)) (sixth (c .before .before)) (sym (c .if5 .left) ∙ c .before .indication-refused .ensures)
+
+pub send-refusal-spec : {M : Type 1} → statement M
+send-refusal-spec =
+    tie.close
+    (tie.spec
+    returns
+    cast-numbers
+    cast-numbers-2
+    numbers-requires
+    returns-2
+    mul-lengths-refused
+    lengths-refused-requires
+    returns-3
+    values-refused-requires
+    returns-4
+    indication-refused-requires
+    returns-5
+    returns-6)

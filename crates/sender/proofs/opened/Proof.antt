@@ -1,0 +1,53 @@
+-- `sender::opened` meets its contract.
+-- Assumes nothing.
+use mathlib.Core.Path.{_≡_, _∙_, sym}
+use native.Mathlib.Omega.{arith}
+use Rattle.formats.proofs.Laws.{base-octet, slots-base}
+use Rattle.sender.proofs.Laws.{StatePasses, state-passes, opens-refused, opens}
+use borrow.Author.Needs.{needs}
+use Rattle.sender.proofs.opened.Statement.{statement}
+use Rattle.sender.proofs.opened.Tie as tie
+
+state-refusal-requires : tie.Need-state-refusal-requires
+state-refusal-requires c κs = search needs
+
+returns : tie.Need-returns
+returns c = opens-refused (c .before .before .args .format) (c .before .before .args .channels) (c .before .before .args .order) (c .before .before .args .number) (c .before .before .args .wanted) (c .before .before .args .second) (c .if1 .taken) (c .before .state-refusal .ensures)
+
+passed : (c : tie.Else1)
+    → StatePasses (c .before .before .args .format) (c .before .before .args .channels) (c .before .before .args .order)
+    (c .before .before .args .number) (c .before .before .args .second)
+passed c =
+    state-passes (c .before .before .args .format) (c .before .before .args .channels) (c .before .before .args .order) (c .before .before .args .number) (c .before .before .args .wanted) (c .before .before .args .second)
+    (sym (c .before .state-refusal .ensures) ∙ c .if1 .left)
+
+cast-t10 : tie.Need-cast-t10
+cast-t10 c = record { fits = base-octet (c .before .before .args .format) (passed c .settles .base) }
+
+cast-t11 : tie.Need-cast-t11
+cast-t11 c = omega (arith, passed c .settles .channels-to, slots-base (c .before .before .args .format) (passed c .settles .base))
+
+cast-t12 : tie.Need-cast-t12
+cast-t12 c = omega (arith, passed c .settles .order-to)
+
+cast-t13 : tie.Need-cast-t13
+cast-t13 c = omega (arith, passed c .number-to)
+
+cast-t14 : tie.Need-cast-t14
+cast-t14 c = omega (arith, passed c .second-to)
+
+returns-2 : tie.Need-returns-2
+returns-2 c = opens (c .before .before .args .format) (c .before .before .args .channels) (c .before .before .args .order) (c .before .before .args .number) (c .before .before .args .wanted) (c .before .before .args .second) (sym (c .if1 .left) ∙ c .before .state-refusal .ensures)
+
+pub opened-spec : {M : Type 1} → statement M
+opened-spec =
+    tie.close
+    (tie.spec
+    state-refusal-requires
+    returns
+    cast-t10
+    cast-t11
+    cast-t12
+    cast-t13
+    cast-t14
+    returns-2)

@@ -1,0 +1,86 @@
+-- `sender::pack::put` meets its contract: the cell is filled with the octets of the number.
+-- Assumes nothing.
+use mathlib.Core.Path.{_∙_, ap}
+use Prim.Native.Nat.{ℕ, _+_, _-_}
+use native.Mathlib.Omega.{arith}
+use denote.Ref.{now}
+use lib.ListN.{take, drop}
+use mathlib.Core.List.{_++_}
+use borrow.Author.Needs.{needs}
+use Rattle.runs.specs.Runs.{octetsOf}
+use Rattle.runs.proofs.Filling.{Filled, begun, turned, done}
+use Rattle.runs.proofs.Laws.{length-octets}
+use Rattle.sender.proofs.Packing.{octet-at}
+use Rattle.sender.proofs.pack.put.Statement.{statement}
+use Rattle.sender.proofs.pack.put.Tie as tie
+
+abbrev Inv-loop : tie.InvT-loop
+Inv-loop cell₀ at width number i₀ cell i = Filled cell cell₀ at (octetsOf width number) i
+
+abbrev μ-loop : tie.MeasureT-loop
+μ-loop cell₀ at width number i₀ cell i = width - i
+
+loop-holds : tie.Need-loop-holds Inv-loop μ-loop
+loop-holds c = begun (now (c .args .cell)) (c .args .at) (octetsOf (c .args .width) (c .args .number))
+
+sub-cell : tie.Need-sub-cell Inv-loop μ-loop
+sub-cell c = omega arith
+
+sub-cell-2 : tie.Need-sub-cell-2 Inv-loop μ-loop
+sub-cell-2 c = omega arith
+
+mul-cell : tie.Need-mul-cell Inv-loop μ-loop
+mul-cell c = omega arith
+
+shr-cell : tie.Need-shr-cell Inv-loop μ-loop
+shr-cell c = omega arith
+
+cast-cell : tie.Need-cast-cell Inv-loop μ-loop
+cast-cell c = search needs
+
+add-cell : tie.Need-add-cell Inv-loop μ-loop
+add-cell c = omega arith
+
+slice-write-cell : tie.Need-slice-write-cell Inv-loop μ-loop
+slice-write-cell c = omega arith
+
+add-i : tie.Need-add-i Inv-loop μ-loop
+add-i c = omega arith
+
+loop-less : tie.Need-loop-less Inv-loop μ-loop
+loop-less c = omega arith
+
+loop-again : tie.Need-loop-again Inv-loop μ-loop
+loop-again c =
+    turned (now (c .before .before .args .cell)) (c .before .before .args .at) (octetsOf (c .before .before .args .width) (c .before .before .args .number)) (c .before .loop .inv)
+    (omega (arith, length-octets (c .before .before .args .width) (c .before .before .args .number)))
+    (omega (arith, length-octets (c .before .before .args .width) (c .before .before .args .number)))
+    (octet-at (c .before .before .args .width) (c .before .before .args .number) (c .before .loop .i) (c .loop-test .taken))
+
+same-length : tie.Need-same-length Inv-loop μ-loop
+same-length c = c .before .loop .inv .same
+
+returns : tie.Need-returns Inv-loop μ-loop
+returns c =
+    done (now (c .before .before .args .cell)) (c .before .before .args .at) (octetsOf (c .before .before .args .width) (c .before .before .args .number)) (c .before .loop .inv) (omega (arith, length-octets (c .before .before .args .width) (c .before .before .args .number)))
+    ∙ ap (λ (n : ℕ). take (c .before .before .args .at) (now (c .before .before .args .cell)) ++ (octetsOf (c .before .before .args .width) (c .before .before .args .number)) ++ drop ((c .before .before .args .at) + n) (now (c .before .before .args .cell))) (length-octets (c .before .before .args .width) (c .before .before .args .number))
+
+pub put-spec : {M : Type 1} → statement M
+put-spec =
+    tie.close
+    (tie.spec
+    Inv-loop
+    μ-loop
+    loop-holds
+    sub-cell
+    sub-cell-2
+    mul-cell
+    shr-cell
+    cast-cell
+    add-cell
+    slice-write-cell
+    add-i
+    loop-less
+    loop-again
+    same-length
+    returns)

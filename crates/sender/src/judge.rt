@@ -1,0 +1,179 @@
+// What the sender refuses, in the table's order, and which second number it writes.
+ghost use mathlib.Core.Path.{_≡_};
+ghost use Prim.Native.Nat.{_≤_};
+ghost use Rattle.formats.specs.Formats.{settingsOf};
+ghost use Rattle.sender.specs.Sender.{
+  numbersRefused,
+  stateRefusal,
+  allBelow,
+  lengthsRefused,
+  valuesRefused,
+  indicationRefused,
+  sendRefusal,
+  secondNow,
+};
+use crate::Sender;
+use formats::Format;
+use formats::Settled;
+
+// Check 4, of numbers as they stand.
+pub(crate) fn numbers(format: Format, number: u32, wanted: bool, second: u32) -> bool
+    ensures { λ r. ⌜ r ≡ numbersRefused format number wanted second ⌝ }
+{
+    if 15 < number {
+        return true;
+    }
+    if 15 < second {
+        return true;
+    }
+    if wanted {
+        if format.overhead == 0 {
+            return true;
+        }
+        return format.slots == 8;
+    }
+    second != 0
+}
+
+// Checks 1 to 4.
+pub(crate) fn state_refusal(
+    octet: u32,
+    channels: u32,
+    order: u32,
+    number: u32,
+    wanted: bool,
+    second: u32,
+) -> u8
+    ensures { λ r. ⌜ r ≡ stateRefusal octet channels order number wanted second ⌝ }
+{
+    let set = formats::settings(octet, channels, order);
+    let refusal = set.refusal;
+    if refusal != 0 {
+        return refusal;
+    }
+    let format = set.format;
+    if numbers(format, number, wanted, second) {
+        return 4;
+    }
+    0
+}
+
+// Whether every number of a run is below `bound`.
+pub(crate) fn samples_below(run: &[u64], bound: u64) -> bool
+    ensures { λ r. ⌜ r ≡ allBelow bound (now (run .entry)) ⌝ }
+{
+    let mut i = 0;
+    while i < run.len() {
+        if bound <= run[i] {
+            return false;
+        }
+        i += 1;
+    }
+    true
+}
+
+pub(crate) fn octets_below(run: &[u8], bound: u64) -> bool
+    ensures { λ r. ⌜ r ≡ allBelow bound (now (run .entry)) ⌝ }
+{
+    let mut i = 0;
+    while i < run.len() {
+        if bound <= wide(run[i]) {
+            return false;
+        }
+        i += 1;
+    }
+    true
+}
+
+fn wide(octet: u8) -> u64
+    ensures { λ r. ⌜ r ≡ octet ⌝ }
+{
+    octet as u64
+}
+
+// Check 5.
+fn lengths_refused(used: usize, samples: &[u64], ancillary: &[u8], room: usize) -> bool
+    ensures { λ r. ⌜ r ≡ lengthsRefused used (now (samples .entry)) (now (ancillary .entry)) room ⌝ }
+{
+    if room != 48 {
+        return true;
+    }
+    if samples.len() != used {
+        return true;
+    }
+    ancillary.len() != used
+}
+
+// Check 6.
+fn values_refused(format: Format, samples: &[u64], ancillary: &[u8]) -> bool
+    requires { ⌜ (format .sample ≤ 40) × (format .ancillary ≤ 4) ⌝ }
+    ensures { λ r. ⌜ r ≡ valuesRefused format (now (samples .entry)) (now (ancillary .entry)) ⌝ }
+{
+    if !samples_below(samples, 1 << format.sample) {
+        return true;
+    }
+    !octets_below(ancillary, 1 << format.ancillary)
+}
+
+// Check 7.
+fn indication_refused(number: u8, indication: bool) -> bool
+    ensures { λ r. ⌜ r ≡ indicationRefused number indication ⌝ }
+{
+    if !indication {
+        return false;
+    }
+    number % 8 != 0
+}
+
+// Checks 1 to 7 of a call of `send`, by the settings of its state.
+pub(crate) fn send_refusal(
+    set: Settled,
+    state: Sender,
+    indication: bool,
+    samples: &[u64],
+    ancillary: &[u8],
+    room: usize,
+) -> u8
+    requires { ⌜ set ≡ settingsOf (state .format) (state .channels) (state .order) ⌝ }
+    ensures { λ r. ⌜ r ≡ sendRefusal state indication (now (samples .entry)) (now (ancillary .entry)) room ⌝ }
+{
+    let refusal = set.refusal;
+    if refusal != 0 {
+        return refusal;
+    }
+    let format = set.format;
+    if numbers(
+        format,
+        state.number as u32,
+        state.wanted,
+        state.second as u32,
+    ) {
+        return 4;
+    }
+    if lengths_refused(set.channels * set.times, samples, ancillary, room) {
+        return 5;
+    }
+    if values_refused(format, samples, ancillary) {
+        return 6;
+    }
+    if indication_refused(state.number, indication) {
+        return 7;
+    }
+    0
+}
+
+// The second number of the next cell.
+pub(crate) fn second_now(state: Sender, indication: bool) -> u8
+    ensures { λ r. ⌜ r ≡ secondNow state indication ⌝ }
+{
+    if !state.wanted {
+        return state.second;
+    }
+    if !indication {
+        return state.second;
+    }
+    if !state.sent {
+        return state.second;
+    }
+    std::num::wrapping_add_u8(state.second, 1) % 16
+}

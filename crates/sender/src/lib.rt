@@ -1,0 +1,108 @@
+// The sender's box, document 01: opening and sending, refusals 1 to 7.
+ghost use mathlib.Core.Path.{_≡_};
+ghost use Rattle.sender.specs.Sender.{openedOf, Sends};
+
+mod judge;
+mod pack;
+
+// A sender's state, in the paper's words: the subframe octet, C, the order, the next cell's number, whether second numbers are
+// kept, the last one (the given start before the first cell), and whether a cell was sent.
+pub struct Sender {
+    pub format: u8,
+    pub channels: u8,
+    pub order: u8,
+    pub number: u8,
+    pub wanted: bool,
+    pub second: u8,
+    pub sent: bool,
+}
+
+// The refusal (0: none) and the state to go on with.
+pub struct Sent {
+    pub refusal: u8,
+    pub state: Sender,
+}
+
+// A sender that has sent nothing yet, its first cell to have the number `number` and to carry `second`. Refused: 1 to 4, and the
+// state is then all zeros.
+pub fn opened(
+    format: u32,
+    channels: u32,
+    order: u32,
+    number: u32,
+    wanted: bool,
+    second: u32,
+) -> Sent
+    ensures { λ r. ⌜ r ≡ openedOf format channels order number wanted second ⌝ }
+{
+    let refusal = judge::state_refusal(format, channels, order, number, wanted, second);
+    if refusal != 0 {
+        return Sent {
+            refusal,
+            state: Sender {
+                format: 0,
+                channels: 0,
+                order: 0,
+                number: 0,
+                wanted: false,
+                second: 0,
+                sent: false,
+            },
+        };
+    }
+    Sent {
+        refusal: 0,
+        state: Sender {
+            format: format as u8,
+            channels: channels as u8,
+            order: order as u8,
+            number: number as u8,
+            wanted,
+            second: second as u8,
+            sent: false,
+        },
+    }
+}
+
+// Writes the next cell: C×T samples and ancillary numbers, time after time, go into the 48 octets of `cell`. Refused: 1 to 7, and
+// then the state comes back as it went in and the cell is not written.
+pub fn send(
+    state: Sender,
+    indication: bool,
+    samples: &[u64],
+    ancillary: &[u8],
+    cell: &mut [u8],
+) -> Sent
+    ensures { λ r. ⌜ Sends state indication (now (samples .entry)) (now (ancillary .entry)) (now (cell .entry)) r (now (cell .exit)) ⌝ }
+{
+    let set = formats::settings(
+        state.format as u32,
+        state.channels as u32,
+        state.order as u32,
+    );
+    let refusal = judge::send_refusal(set, state, indication, samples, ancillary, cell.len());
+    if refusal != 0 {
+        return Sent { refusal, state };
+    }
+    let second = judge::second_now(state, indication);
+    pack::pack(
+        set,
+        numbers::entry_of(state.number),
+        second,
+        samples,
+        ancillary,
+        cell,
+    );
+    Sent {
+        refusal: 0,
+        state: Sender {
+            format: state.format,
+            channels: state.channels,
+            order: state.order,
+            number: (state.number + 1) % 16,
+            wanted: state.wanted,
+            second,
+            sent: true,
+        },
+    }
+}
