@@ -7,6 +7,7 @@ use Prim.Native.Nat.{ℕ, zero, suc, _+_, _*_, _/_, _%_, _-_, _≤_}
 use native.Mathlib.Omega.{arith}
 use borrow.Author.Tests.{eqb-true, ltb-false, le-leb}
 use lib.Dec.{eqb, ltb}
+use Rattle.runs.proofs.Laws.{split}
 use lib.ListN.{length, length-append}
 use Rattle.log.specs.Records.{headerOf, recordAt}
 use Rattle.log.proofs.Places.{cell-facts}
@@ -17,14 +18,13 @@ use Rattle.listing.specs.Lines.{formatLine, brokenLine, endLine, logRefu
 use Rattle.listing.specs.List.{startOf, gotAt, lineOf, afterOf, endLines, recordLines, linesFrom, listOf, Lists}
 use Rattle.listing.specs.Text.{digitsOf, item}
 use Rattle.listing.specs.Words.{words}
-use Rattle.listing.proofs.Laws.{by-test}
 use Rattle.listing.proofs.Standings.{after-place}
 
 length-digits : (k n : ℕ) → length (digitsOf k n) ≤ k
 unfolding digitsOf
 length-digits zero n = omega arith
 length-digits (suc k) n =
-    by-test (ltb n 10)
+    split (ltb n 10)
     (λ e. rw e (omega arith))
     (λ e. rw (e, length-append (digitsOf k (n / 10)) ((48 + n % 10) ∷ [])) (omega (arith, length-digits k (n / 10))))
 
@@ -57,7 +57,7 @@ two-short first second last a b hi hj hl =
 line-short : (index : ℕ) (got : Received) → length (lineOf index got) ≤ 76
 unfolding lineOf
 line-short index got =
-    by-test (eqb (got .refusal) 0)
+    split (eqb (got .refusal) 0)
     (λ e. rw e (three-short (words "") (words " sound ") (words " number ") (words "\n") index (got .missing) (got .number) {i = 0} {j = 7} {k = 8} {l = 1} (omega arith) (omega arith) (omega arith) (omega arith)))
     (λ e. rw e (omega (arith, two-short (words "") (words " refused ") (words "\n") index (got .refusal) {i = 0} {j = 9} {l = 1} (omega arith) (omega arith) (omega arith))))
 
@@ -66,7 +66,7 @@ unfolding endLines
 end-short here refusal =
     let end = three-short (words "end ") (words " sound ") (words " missing ") (words " refused\n") (here .sound) (here .missing) (here .refused) {i = 4} {j = 7} {k = 9} {l = 9} (omega arith) (omega arith) (omega arith) (omega arith) in
     let broken = two-short (words "") (words " broken ") (words "\n") (here .index) refusal {i = 0} {j = 8} {l = 1} (omega arith) (omega arith) (omega arith) in
-    by-test (eqb refusal 0)
+    split (eqb refusal 0)
     (λ e. rw e (omega (arith, end)))
     (λ e. rw e (omega (arith, with-words (brokenLine (here .index) refusal) (endLine (here .sound) (here .missing) (here .refused)) broken end)))
 
@@ -76,7 +76,7 @@ lines-short : (most : ℕ) (log : List ℕ) (here : Standing) (k : ℕ) → leng
 unfolding recordLines
 lines-short zero log here k h = omega arith
 lines-short (suc most) log here k h =
-    by-test (eqb (recordAt log (here .place) .what) 1)
+    split (eqb (recordAt log (here .place) .what) 1)
     (λ e.
     let facts = cell-facts log (here .place) (eqb-true (recordAt log (here .place) .what) 1 e) in
     let past : Standing = afterOf here (recordAt log (here .place) .next) (gotAt log here) in
@@ -91,10 +91,10 @@ unfolding listOf
 list-fits log =
     let refused : (n : ℕ) → length (logRefusedLine n) ≤ 131072 =
     λ n. omega (arith, with-words (item (words "log refused ") n) (words "\n") {a = 32} {b = 1} (one-item (words "log refused ") n {b = 12} (omega arith)) (omega arith)) in
-    by-test (ltb 65536 (length log))
+    split (ltb 65536 (length log))
     (λ e. rw e (refused 13))
     (λ e.
-    by-test (eqb (headerOf log .refusal) 0)
+    split (eqb (headerOf log .refusal) 0)
     (λ ok.
     let few = ltb-false 65536 (length log) e in
     let head = three-short (words "format ") (words " ") (words " ") (words "\n") (headerOf log .format) (headerOf log .channels) (headerOf log .order) {i = 7} {j = 1} {k = 1} {l = 1} (omega arith) (omega arith) (omega arith) (omega arith) in

@@ -1,9 +1,9 @@
 -- Laws of octets put into a lent run, and of decimal numbers, over plain values.
 -- Assumes nothing.
-use mathlib.Core.Bool.{Bool, true, false}
+use mathlib.Core.Bool.{false}
 use mathlib.Core.List.{List, [], _∷_, _++_, append-assoc, append-nil}
-use mathlib.Core.Path.{_≡_, refl, sym, _∙_, ap, subst}
-use Prim.Native.Nat.{ℕ, zero, suc, _+_, _/_, _%_, _^_, _-_, _≤_, _<_}
+use mathlib.Core.Path.{_≡_, sym, _∙_, ap}
+use Prim.Native.Nat.{ℕ, zero, suc, _+_, _/_, _%_, _^_, _≤_, _<_}
 use native.Mathlib.Nat.{pow-suc}
 use native.Mathlib.Omega.{arith}
 use native.Mathlib.Numerals.{add-one}
@@ -12,12 +12,9 @@ use lib.Dec.{leb, ltb}
 use lib.ListN.{length, getD, take, drop, set, length-append, length-drop}
 use lib.Seq.{take-all, length-take-le, take-append-le, drop-cons, set-at, append-snoc, take-suc}
 use Rattle.runs.specs.Runs.{over}
+use Rattle.runs.proofs.Laws.{split}
 use Rattle.listing.specs.declared.Listed.{Listed}
 use Rattle.listing.specs.Text.{digitsOf, listed, Holds, Puts}
-
-pub by-test {ℓ} : {P : Type ℓ} (b : Bool) → (b ≡ true → P) → (b ≡ false → P) → P
-by-test true is isn = is refl
-by-test false is isn = isn refl
 
 module _ {lent held now : List ℕ} {at : Listed} (h : Holds lent held now at) where
   place : at .octets ≡ length (take (length lent) held)
@@ -27,7 +24,7 @@ module _ {lent held now : List ℕ} {at : Listed} (h : Holds lent held now at) w
   pub same-length : length now ≡ length lent
   unfolding over
   same-length =
-      by-test (leb (length held) (length lent))
+      split (leb (length held) (length lent))
       (λ t.
       let fits : length held ≤ length lent = leb-true (length held) (length lent) t in
       ap length (h .run)
@@ -46,7 +43,7 @@ module _ {lent held now : List ℕ} {at : Listed} (h : Holds lent held now at) w
   module _ (octet : ℕ) (room : at .octets < length now) where
     short : length held < length lent
     short =
-        by-test (ltb (length held) (length lent))
+        split (ltb (length held) (length lent))
         (λ t. ltb-true (length held) (length lent) t)
         (λ t.
         let more : length lent ≤ length held = ltb-false (length held) (length lent) t in
@@ -87,7 +84,7 @@ module _ {lent held now : List ℕ} {at : Listed} (h : Holds lent held now at) w
   module _ (octet : ℕ) (full : length now ≤ at .octets) where
     long : length lent ≤ length held
     long =
-        by-test (ltb (length held) (length lent))
+        split (ltb (length held) (length lent))
         (λ t.
         let short : length held < length lent = ltb-true (length held) (length lent) t in
         absurd (omega (arith, place, same-length, ap length (take-all (length lent) held (omega (arith, short))), short)))
@@ -139,7 +136,7 @@ digits-step k n large = rw (le-ltb n 10 large)
 digits-enough : (k n : ℕ) → n < 10 ^ suc k → digitsOf (suc (suc k)) n ≡ digitsOf (suc k) n
 digits-enough zero n below = digits-one 1 n below ∙ sym (digits-one 0 n below)
 digits-enough (suc k) n below =
-    by-test (ltb n 10)
+    split (ltb n 10)
     (λ t. let small : n < 10 = ltb-true n 10 t in digits-one (suc (suc k)) n small ∙ sym (digits-one (suc k) n small))
     (λ t.
     let large : 10 ≤ n = ltb-false n 10 t in

@@ -1,12 +1,13 @@
 -- Laws of the lines of records, over plain values.
 -- Assumes nothing.
-use mathlib.Core.Bool.{Bool, true, false}
-use mathlib.Core.List.{List, [], _∷_, _++_, append-assoc}
+use mathlib.Core.Bool.{true}
+use mathlib.Core.List.{List, [], _++_, append-assoc}
 use mathlib.Core.Path.{_≡_, refl, sym, _∙_, ap}
-use Prim.Native.Nat.{ℕ, zero, suc, _+_, _*_, _-_, _≤_, _<_}
+use Prim.Native.Nat.{ℕ, suc, _+_, _*_, _-_, _≤_, _<_}
 use native.Mathlib.Omega.{arith}
 use borrow.Author.Tests.{eq-eqb, ne-eqb, lt-ltb, le-ltb}
 use lib.Dec.{eqb, leb·zero}
+use Rattle.runs.proofs.Laws.{split}
 use lib.ListN.{length, take, drop, length-append}
 use lib.Seq.{take-nil}
 use Rattle.runs.specs.Runs.{over}
@@ -32,7 +33,7 @@ use Rattle.listing.specs.List.{
   Begun,
 }
 use Rattle.listing.specs.Text.{listed, Holds, Puts}
-use Rattle.listing.proofs.Laws.{by-test, puts-none, puts-then, puts-same}
+use Rattle.listing.proofs.Laws.{puts-none, puts-then, puts-same}
 use Rattle.log.proofs.Places.{cell-facts}
 
 pub line-sound : (index : ℕ) (got : Received) → got .refusal ≡ 0 → soundLine index (got .missing) (got .number) ≡ lineOf index got
@@ -82,16 +83,16 @@ end-broken here refusal some = rw (ne-eqb refusal 0 some)
 module _ (here : Standing) (next : ℕ) (got : Received) where
   pub after-place : afterOf here next got .place ≡ next
   unfolding afterOf
-  after-place = by-test (eqb (got .refusal) 0) (λ e. rw e) (λ e. rw e)
+  after-place = split (eqb (got .refusal) 0) (λ e. rw e) (λ e. rw e)
 
   pub after-index : afterOf here next got .index ≡ here .index + 1
   unfolding afterOf
-  after-index = by-test (eqb (got .refusal) 0) (λ e. rw e) (λ e. rw e)
+  after-index = split (eqb (got .refusal) 0) (λ e. rw e) (λ e. rw e)
 
   pub after-counted : Counted here → got .missing ≤ 255 → here .index < 2000 → Counted (afterOf here next got)
   unfolding afterOf
   after-counted c few more =
-      by-test (eqb (got .refusal) 0)
+      split (eqb (got .refusal) 0)
       (λ e.
       rw e
       (record {

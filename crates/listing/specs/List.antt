@@ -1,14 +1,13 @@
 -- The list of a log, document 01, "The log": a line for the format, a line for each record, and the end line.
 -- Assumes nothing.
 use mathlib.Core.Bool.{Bool, cond}
-use mathlib.Core.List.{List, [], _∷_, _++_}
+use mathlib.Core.List.{List, [], _++_}
 use mathlib.Core.Path.{_≡_}
 use Prim.Native.Nat.{ℕ, zero, suc, _+_, _*_, _-_, _≤_}
 use lib.Dec.{eqb, ltb}
 use lib.ListN.{length, take}
 use Rattle.runs.specs.Runs.{over}
 use Rattle.log.specs.declared.Header.{Header}
-use Rattle.log.specs.declared.Record.{Record}
 use Rattle.log.specs.Records.{headerOf, recordAt, cellAt}
 use Rattle.receiver.specs.declared.Receiver.{Receiver}
 use Rattle.receiver.specs.declared.Received.{Received}

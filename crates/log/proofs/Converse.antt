@@ -13,15 +13,16 @@ use lib.Dec.{eqb, ltb}
 use lib.ListN.{length, getD, take, drop, length-append}
 use lib.Seq.{append-snoc, getD-at, length-take-le, take-at, drop-at, drop-cons}
 use Rattle.log.specs.declared.Number.{Number}
-use Rattle.log.specs.declared.Record.{Record}
-use Rattle.log.specs.Numbers.{number, noNumber, behind, numberIn, numberAt, groupsOf}
+use Rattle.log.specs.Numbers.{number, behind, numberIn, numberAt, groupsOf}
+use Rattle.runs.specs.Refusals.{orElse}
+use Rattle.runs.proofs.Laws.{split}
 use Rattle.formats.specs.Formats.{settingsRefusal}
 use Rattle.log.specs.Records.{headerOf, headerOfNumbers, headerRefusal, recordAt, cellAt}
 use Rattle.log.specs.Written.{writtenAt, numberRefusal, headerRefused, headerOctets, recordRefusal, octetOf, recordOctets}
 use Rattle.log.proofs.Headers.{header-fits, header-octets, format-small, channels-small, order-small}
 use Rattle.log.proofs.Keeping.{number-fits, record-fits}
 use Rattle.log.proofs.Places.{record-cell}
-use Rattle.log.proofs.Laws.{by-test, number-whole, number-more, number-cases, number-some, value-small, groups-1, groups-more}
+use Rattle.log.proofs.Laws.{number-whole, number-more, number-cases, number-some, value-small, groups-1, groups-more}
 
 -- a list with an entry behind a start
 module _ {log : List ℕ} (before : List ℕ) (x : ℕ) (behind′ : List ℕ) {at : ℕ} (e : log ≡ before ++ x ∷ behind′) (here : length before ≡ at) where
@@ -80,7 +81,7 @@ read-groups : (k n : ℕ) (log : List ℕ) (at : ℕ) → n < 128 ^ suc k → St
     → numberIn (suc k) log at ≡ number n (at + length (groupsOf (suc k) n))
 read-groups zero n log at below s = read-one zero n log at below s
 read-groups (suc k) n log at below s =
-    by-test (ltb n 128)
+    split (ltb n 128)
     (λ t. read-one (suc k) n log at (ltb-true n 128 t) s)
     (λ t.
     let large : 128 ≤ n = ltb-false n 128 t in
@@ -164,7 +165,7 @@ module _ (log : List ℕ) (format channels order : ℕ) (ok : headerRefused log 
 
   -- a header that was written is read back
   pub read-written-header : headerOf headed ≡ record { refusal = 0; place = 3; format = format; channels = channels; order = order }
-  unfolding headerOf headerOfNumbers headerRefusal
+  unfolding headerOf headerOfNumbers headerRefusal orElse
   read-written-header = rw (first, second, third, fits .0)
 
 octet-small : (b : Bool) → octetOf b ≤ 1

@@ -1,18 +1,19 @@
 -- Laws of writing into a lent log, over plain values.
 -- Assumes nothing.
-use mathlib.Core.List.{List, [], _∷_, _++_}
-use mathlib.Core.Path.{_≡_, refl, sym, _∙_, ap}
+use mathlib.Core.List.{List, [], _∷_}
+use mathlib.Core.Path.{_≡_, refl, sym, _∙_}
 use Prim.Native.Nat.{ℕ, suc, _+_, _/_, _%_, _≤_, _<_}
 use native.Mathlib.Omega.{arith}
 use native.Mathlib.Numerals.{add-one}
 use borrow.Author.Tests.{lt-ltb, le-ltb, eq-eqb, ne-eqb, ltb-false, eqb-true}
 use lib.Dec.{eqb, ltb}
-use lib.ListN.{length, getD, set, length-set}
-use lib.Seq.{sets, sets-eq, paste, paste-suc, take-all}
+use Rattle.runs.proofs.Laws.{split}
+use lib.ListN.{length, set, length-set}
+use lib.Seq.{sets, sets-eq}
 use Rattle.log.specs.declared.keep.Kept.{Kept}
 use Rattle.log.specs.Numbers.{groupsOf}
 use Rattle.log.specs.Written.{writtenAt, kept, notKept, Keeps, numberRefusal, recordRefusal}
-use Rattle.log.proofs.Laws.{by-test, groups-1, groups-2, groups-3}
+use Rattle.log.proofs.Laws.{groups-1, groups-2, groups-3}
 
 -- a refusal leaves the log as it was
 pub keeps-no : {refusal place met : ℕ} {octets log : List ℕ} {answer : Kept} → refusal ≡ met → (met ≡ 0 → ⊥) → answer ≡ notKept met
@@ -54,9 +55,9 @@ module _ (log : List ℕ) (place n : ℕ) where
   pub number-fits : numberRefusal log place n ≡ 0 → (n ≤ 2097151) × (place + length (groupsOf 3 n) ≤ length log)
   unfolding numberRefusal
   number-fits ok =
-      by-test (ltb 2097151 n)
+      split (ltb 2097151 n)
       (λ t. absurd (let z : _≡_ {A = ℕ} 11 0 = rw t at ok in omega arith))
-      (λ t. by-test (ltb (length log) (place + length (groupsOf 3 n)))
+      (λ t. split (ltb (length log) (place + length (groupsOf 3 n)))
       (λ u. absurd (let z : _≡_ {A = ℕ} 11 0 = rw (t, u) at ok in omega arith))
       (λ u. (ltb-false 2097151 n t, ltb-false (length log) (place + length (groupsOf 3 n)) u)))
 
@@ -96,8 +97,8 @@ module _ (log : List ℕ) (place : ℕ) (cell : List ℕ) where
   pub record-fits : recordRefusal log place cell ≡ 0 → (length cell ≡ 48) × (place + 49 ≤ length log)
   unfolding recordRefusal
   record-fits ok =
-      by-test (eqb (length cell) 48)
-      (λ t. by-test (ltb (length log) (place + 49))
+      split (eqb (length cell) 48)
+      (λ t. split (ltb (length log) (place + 49))
       (λ u. absurd (let z : _≡_ {A = ℕ} 12 0 = rw (t, u) at ok in omega arith))
       (λ u. (eqb-true (length cell) 48 t, ltb-false (length log) (place + 49) u)))
       (λ t. absurd (let z : _≡_ {A = ℕ} 5 0 = rw t at ok in omega arith))
@@ -113,14 +114,3 @@ module _ (log : List ℕ) (place : ℕ) (cell : List ℕ) where
   record-stored octet {first} same e h a l =
       let n : place + length (first ∷ cell) ≡ place + 49 = omega arith in
       keeps (record-room e h) (a ∙ rw n) (l ∙ stored-behind octet cell log place (omega arith) ∙ rw same)
-
--- a turn of the loop that copies
-pub copied : {log : List ℕ} (before : List ℕ) (place : ℕ) (octets : List ℕ) (i : ℕ) → log ≡ paste before place octets i
-    → place + i < length before → i < length octets → set log (place + i) (getD octets i 0) ≡ paste before place octets (i + 1)
-copied before place octets i e h l = rw (e, add-one i) (paste-suc before place octets i 0 h l)
-
-pub copied-all : {log : List ℕ} (before : List ℕ) (place : ℕ) (octets : List ℕ) (i : ℕ) → log ≡ paste before place octets i
-    → i ≤ length octets → length octets ≤ i → log ≡ writtenAt place octets before
-unfolding writtenAt
-copied-all before place octets i e h l =
-    let n : i ≡ length octets = omega arith in e ∙ rw (take-all i octets l, n)

@@ -1,21 +1,16 @@
 -- Laws of log numbers, over plain values.
 -- Assumes nothing.
-use mathlib.Core.Bool.{Bool, true, false, cond}
-use mathlib.Core.List.{List, [], _∷_, _++_}
-use mathlib.Core.Path.{_≡_, refl, sym, _∙_, ap, subst}
-use Prim.Native.Nat.{ℕ, zero, suc, _+_, _*_, _/_, _%_, _^_, _-_, _≤_, _<_}
-use native.Mathlib.Nat.{pow-suc, pow-zero, mod-lt}
+use mathlib.Core.List.{List, [], _∷_}
+use mathlib.Core.Path.{_≡_, refl}
+use Prim.Native.Nat.{ℕ, zero, suc, _+_, _*_, _/_, _%_, _^_, _≤_, _<_}
+use native.Mathlib.Nat.{pow-suc, pow-zero}
 use native.Mathlib.Omega.{arith}
-use borrow.Author.Tests.{lt-ltb, le-ltb, le-leb, lt-leb, eq-eqb, ne-eqb, ltb-true, ltb-false, leb-true, leb-false, eqb-true, eqb-false}
+use borrow.Author.Tests.{lt-ltb, le-ltb, le-leb, lt-leb, ltb-true, ltb-false, leb-false, eqb-false}
 use lib.Dec.{eqb, leb, ltb}
-use lib.ListN.{length, getD, take, drop}
+use lib.ListN.{length, getD}
+use Rattle.runs.proofs.Laws.{split}
 use Rattle.log.specs.declared.Number.{Number}
 use Rattle.log.specs.Numbers.{number, noNumber, behind, numberIn, groupsOf}
-
--- by cases on a test
-pub by-test {ℓ} : {P : Type ℓ} (b : Bool) → (b ≡ true → P) → (b ≡ false → P) → P
-by-test true yes′ no′ = yes′ refl
-by-test false yes′ no′ = no′ refl
 
 pub number-cut : (k : ℕ) (log : List ℕ) (at : ℕ) → length log ≤ at → numberIn (suc k) log at ≡ noNumber
 unfolding numberIn
@@ -34,7 +29,7 @@ number-more k log at {group} e h large = rw (← e, lt-leb (length log) at h, le
 behind-small : (bound group : ℕ) (more : Number) → more .value < bound → 0 < bound → behind group more .value < bound * 128
 unfolding behind
 behind-small bound group more h positive =
-    by-test (eqb (more .value) 0)
+    split (eqb (more .value) 0)
     (λ e. rw e (omega arith))
     (λ e. rw e (omega arith))
 
@@ -46,9 +41,9 @@ pub value-small : (k : ℕ) (log : List ℕ) (at : ℕ) → numberIn k log at .v
 unfolding numberIn
 value-small zero log at = rw pow-zero (omega arith)
 value-small (suc k) log at =
-    by-test (leb (length log) at)
+    split (leb (length log) at)
     (λ e. rw e (pow-128 (suc k)))
-    (λ e. by-test (ltb (getD log at 0) 128)
+    (λ e. split (ltb (getD log at 0) 128)
     (λ s. rw (e, s, pow-suc) (omega (arith, ltb-true (getD log at 0) 128 s, pow-128 k)))
     (λ s. rw (e, s, pow-suc)
     (behind-small (128 ^ k) (getD log at 0) (numberIn k log (at + 1)) (value-small k log (at + 1)) (pow-128 k))))
@@ -62,11 +57,11 @@ pub number-cases : (k : ℕ) (log : List ℕ) (at : ℕ) (P : Number → Type 0)
     → P (numberIn (suc k) log at)
 unfolding numberIn behind
 number-cases k log at P refused whole more =
-    by-test (leb (length log) at)
+    split (leb (length log) at)
     (λ e. rw e refused)
-    (λ e. by-test (ltb (getD log at 0) 128)
+    (λ e. split (ltb (getD log at 0) 128)
     (λ s. rw (e, s) (whole (leb-false (length log) at e) (ltb-true (getD log at 0) 128 s)))
-    (λ s. by-test (eqb (numberIn k log (at + 1) .value) 0)
+    (λ s. split (eqb (numberIn k log (at + 1) .value) 0)
     (λ z. rw (e, s, z) refused)
     (λ z.
     rw (e, s, z)

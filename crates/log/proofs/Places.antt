@@ -1,8 +1,7 @@
 -- Laws of records and of the parts of a log, over plain values.
 -- Assumes nothing.
-use mathlib.Core.Bool.{false}
 use mathlib.Core.List.{List}
-use mathlib.Core.Path.{_≡_, refl, sym, _∙_, ap}
+use mathlib.Core.Path.{_≡_, refl, ap}
 use Prim.Native.Nat.{ℕ, _+_, _*_, _-_, _≤_, _<_}
 use native.Mathlib.Omega.{arith}
 use borrow.Author.Tests.{eq-eqb, ne-eqb, lt-ltb, le-ltb, le-leb, lt-leb, ltb-true, ltb-false, leb-true, leb-false}
@@ -10,7 +9,7 @@ use lib.Dec.{eqb, leb, ltb}
 use lib.ListN.{length, getD, take, drop}
 use Rattle.log.specs.declared.Record.{Record}
 use Rattle.log.specs.Records.{recordAt, endAt, noRecord, placeAfter, cellAt}
-use Rattle.log.proofs.Laws.{by-test}
+use Rattle.runs.proofs.Laws.{split}
 
 module _ (log : List ℕ) (place : ℕ) where
   pub record-end : length log ≤ place → recordAt log place ≡ endAt place
@@ -36,20 +35,20 @@ module _ (log : List ℕ) (place : ℕ) where
       rw (lt-leb (length log) place h, le-ltb 1 (getD log place 0) small, le-ltb (length log) (place + 49) fits)
 
   -- what a record can be
-  pub record-cases {ℓ} : (P : Record → Type ℓ)
+  pub record-cases : (P : Record → Type 0)
       → (length log ≤ place → P (endAt place))
       → (place < length log → 1 < getD log place 0 → P (noRecord 11))
       → (place < length log → getD log place 0 ≤ 1 → length log < place + 49 → P (noRecord 12))
       → (getD log place 0 ≤ 1 → place + 49 ≤ length log → P found)
       → P (recordAt log place)
   record-cases P ends eleven twelve cell =
-      by-test (leb (length log) place)
+      split (leb (length log) place)
       (λ e. let h : length log ≤ place = leb-true (length log) place e in rw (record-end h) (ends h))
       (λ e. let h : place < length log = leb-false (length log) place e in
-      by-test (ltb 1 (getD log place 0))
+      split (ltb 1 (getD log place 0))
       (λ t. let large : 1 < getD log place 0 = ltb-true 1 (getD log place 0) t in rw (record-11 h large) (eleven h large))
       (λ t. let small : getD log place 0 ≤ 1 = ltb-false 1 (getD log place 0) t in
-      by-test (ltb (length log) (place + 49))
+      split (ltb (length log) (place + 49))
       (λ u. let cut : length log < place + 49 = ltb-true (length log) (place + 49) u in rw (record-12 h small cut) (twelve h small cut))
       (λ u. let fits : place + 49 ≤ length log = ltb-false (length log) (place + 49) u in rw (record-cell small fits) (cell small fits))))
 

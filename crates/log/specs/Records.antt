@@ -5,6 +5,7 @@ use mathlib.Core.List.{List}
 use Prim.Native.Nat.{ℕ, _+_, _*_}
 use lib.Dec.{eqb, leb, ltb}
 use lib.ListN.{length, getD, take, drop}
+use Rattle.runs.specs.Refusals.{orElse}
 use Rattle.formats.specs.Formats.{settingsRefusal}
 use Rattle.log.specs.declared.Header.{Header}
 use Rattle.log.specs.declared.Number.{Number}
@@ -13,10 +14,6 @@ use Rattle.log.specs.Numbers.{numberAt}
 
 abbrev pub noHeader : ℕ → Header
 noHeader refusal = record { refusal = refusal; place = 0; format = 0; channels = 0; order = 0 }
-
--- the refusal of the first of two that refuses, 0 where none does
-abbrev pub orElse : ℕ → ℕ → ℕ
-orElse first second = cond (eqb first 0) second first
 
 -- "First three numbers: subframe octet, C, order", and "11 as met, then 1 to 3"
 unfoldable pub headerRefusal : Number → Number → Number → ℕ

@@ -7,9 +7,9 @@ use Prim.Native.Nat.{ℕ, _+_}
 use lib.Dec.{eqb, ltb}
 use lib.ListN.{length, take, drop}
 use Rattle.log.specs.declared.keep.Kept.{Kept}
+use Rattle.runs.specs.Refusals.{orElse}
 use Rattle.formats.specs.Formats.{settingsRefusal}
 use Rattle.log.specs.Numbers.{groupsOf}
-use Rattle.log.specs.Records.{orElse}
 
 -- a lent run after octets were written at a place
 unfoldable pub writtenAt : ℕ → List ℕ → List ℕ → List ℕ

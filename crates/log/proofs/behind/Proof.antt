@@ -2,7 +2,7 @@
 -- Assumes nothing.
 use Rattle.log.specs.Numbers.{behind}
 use borrow.Author.Tests.{eq-eqb, ne-eqb}
-use mathlib.Core.Path.{_∙_, sym}
+use mathlib.Core.Path.{_∙_}
 use borrow.Author.Needs.{needs}
 use Rattle.log.proofs.behind.Statement.{statement}
 use Rattle.log.proofs.behind.Tie as tie

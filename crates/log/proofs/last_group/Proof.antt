@@ -1,6 +1,6 @@
 -- `log::last_group` meets its contract: a law for each return.
 -- Assumes nothing.
-use mathlib.Core.Path.{_≡_, sym, _∙_, ap}
+use mathlib.Core.Path.{sym, _∙_}
 use native.Mathlib.Omega.{arith}
 use Rattle.log.specs.Numbers.{numberIn, behind}
 use Rattle.log.proofs.Laws.{number-cut, number-whole, number-more}

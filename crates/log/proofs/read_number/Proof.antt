@@ -1,10 +1,10 @@
 -- `log::read_number` meets its contract: a law for each return.
 -- Assumes nothing.
 use Prim.Native.Nat.{_+_}
-use mathlib.Core.Path.{_≡_, sym, _∙_, ap}
+use mathlib.Core.Path.{sym, _∙_, ap}
 use native.Mathlib.Omega.{arith}
 use Rattle.log.specs.declared.Number.{Number}
-use Rattle.log.specs.Numbers.{numberIn, behind}
+use Rattle.log.specs.Numbers.{behind}
 use Rattle.log.proofs.Laws.{number-cut, number-whole, number-more, value-small}
 use borrow.Author.Needs.{needs}
 use Rattle.log.proofs.read_number.Statement.{statement}

@@ -4,9 +4,6 @@ use mathlib.Core.Path.{sym, _∙_}
 use borrow.Author.Needs.{needs}
 use Rattle.log.proofs.read_record.Statement.{statement}
 use Rattle.log.proofs.read_record.Tie as tie
-use Rattle.log.proofs.read_record.Reads as reads
-use Rattle.log.proofs.read_record.Lts as lts
-use Rattle.log.proofs.no_record.Reads as no-record-reads
 
 -- src/lib.rt:145:9
 returns : tie.Need-returns

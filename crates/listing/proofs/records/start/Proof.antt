@@ -1,6 +1,5 @@
 -- `listing::records::start` meets its contract.
 -- Assumes nothing.
-use Rattle.listing.specs.declared.records.Standing.{Standing}
 use Rattle.receiver.specs.declared.Ready.{Ready}
 use mathlib.Core.Path.{ap}
 use borrow.Author.Needs.{needs}

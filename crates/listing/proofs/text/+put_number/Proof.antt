@@ -1,6 +1,6 @@
 -- `listing::text::put_number` meets its contract. It calls itself with a tenth of the number, which is the measure.
 -- Assumes nothing.
-use mathlib.Core.Path.{_≡_, _∙_}
+use mathlib.Core.Path.{_∙_}
 use Prim.Native.Nat.{ℕ, _<_}
 use native.Mathlib.Omega.{arith}
 use borrow.Author.Needs.{needs}
