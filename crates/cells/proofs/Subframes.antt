@@ -4,7 +4,7 @@ use mathlib.Core.Bool.{Bool, true, false, cond}
 use mathlib.Core.List.{List}
 use mathlib.Core.Path.{_≡_, refl, sym, _∙_, ap, subst}
 use Prim.Native.Nat.{ℕ, zero, suc, _+_, _*_, _/_, _%_, _^_, _≤_, _<_}
-use native.Mathlib.Nat.{pow-suc, pow-zero, mul-suc, mul-zero, add-comm, mod-eq-of-lt, zero-mul}
+use native.Mathlib.Nat.{pow-suc, pow-zero, mul-suc, mul-zero, add-comm, mod-eq-of-lt, zero-mul, suc-mul, mul-le-mul-right}
 use native.Mathlib.Omega.{arith}
 use borrow.Author.Tests.{eq-eqb, ne-eqb, eqb-true, eqb-false}
 use lib.Arith.{digits-div, digits-mod, digits-lt}
@@ -35,6 +35,11 @@ octets-pow (suc w) =
     ap (λ (k : ℕ). 2 ^ k) (mul-suc 8 w) ∙ pow-add 2 (8 * w) 8 ∙ ap (λ (n : ℕ). n * 256) (octets-pow w) ∙ sym (pow-suc 256 w)
 
 module _ {f : Format} (s : Sound f) where
+  -- a slot lies within the cell
+  pub slot-room : {slot : ℕ} → slot < f .slots → slot * f .width + f .width ≤ 48
+  slot-room {slot} less =
+      omega (arith, suc-mul slot (f .width), mul-le-mul-right {m = suc slot} {n = f .slots} (f .width) less, s .cell)
+
   -- overhead is four bits or none
   pub four : (f .overhead ≡ 0 → ⊥) → f .overhead ≡ 4
   four some = four-of (f .overhead) (s .overhead-fours) (s .overhead-to) some

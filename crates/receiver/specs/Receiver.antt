@@ -95,30 +95,33 @@ secondNow f cell = cond (eqb (f .overhead) 0) 0 (secondIn f cell)
 unfoldable pub after : Receiver → List ℕ → Receiver
 after st cell =
     record {
-        format = st .format;
-        channels = st .channels;
-        order = st .order;
-        started = true;
-        last = numberNow (formatOf (st .format)) cell }
+      format = st .format;
+      channels = st .channels;
+      order = st .order;
+      started = true;
+      last = numberNow (formatOf (st .format)) cell;
+    }
 
 -- "Reported: missing count, number, second number .., and the indication as it came"
 unfoldable pub receivedOf : Receiver → List ℕ → Bool → ℕ → ℕ → ℕ → Received
 receivedOf st cell indication samples ancillary marks =
     cond (eqb (receiveRefusal st cell samples ancillary marks) 0)
     (record {
-        refusal = 0;
-        state = after st cell;
-        missing = gapOf st cell - 1;
-        number = numberNow (formatOf (st .format)) cell;
-        second = secondNow (formatOf (st .format)) cell;
-        indication = indication })
+      refusal = 0;
+      state = after st cell;
+      missing = gapOf st cell - 1;
+      number = numberNow (formatOf (st .format)) cell;
+      second = secondNow (formatOf (st .format)) cell;
+      indication = indication;
+    })
     (record {
-        refusal = receiveRefusal st cell samples ancillary marks;
-        state = st;
-        missing = 0;
-        number = 0;
-        second = 0;
-        indication = false })
+      refusal = receiveRefusal st cell samples ancillary marks;
+      state = st;
+      missing = 0;
+      number = 0;
+      second = 0;
+      indication = false;
+    })
 
 -- what the call gives each run: nothing where it is refused
 unfoldable pub given : Receiver → List ℕ → ℕ → ℕ → ℕ → List ℕ → List ℕ

@@ -3,7 +3,8 @@
 use mathlib.Core.List.{List, _++_}
 use mathlib.Core.Path.{_≡_}
 use Prim.Native.Nat.{ℕ, _+_, _*_, _≤_}
-use lib.ListN.{length, take, drop}
+use lib.ListN.{length, take, drop, replicate}
+use Rattle.runs.specs.Runs.{over}
 use Rattle.formats.specs.declared.Settled.{Settled}
 use Rattle.cells.specs.Cells.{sampleIn, ancillaryIn, markIn, entriesOf}
 
@@ -24,6 +25,12 @@ pub record Unpacks (set : Settled) (cell : List ℕ) (at : ℕ) (samples ancilla
   pub samples-are : samples₁ ≡ written samples at (ownEntries (sampleIn (set .format)) set cell)
   pub ancillary-is : ancillary₁ ≡ written ancillary at (ownEntries (ancillaryIn (set .format)) set cell)
   pub marks-are : marks₁ ≡ written marks at (ownEntries (markIn (set .format)) set cell)
+
+-- three runs after the entries of missing cells and the cell's own were written from their start
+pub record Writes (set : Settled) (cell : List ℕ) (missing : ℕ) (samples ancillary marks samples₁ ancillary₁ marks₁ : List ℕ) : Type 0 where
+  pub samples-are : samples₁ ≡ over (replicate missing 0 ++ ownEntries (sampleIn (set .format)) set cell) samples
+  pub ancillary-is : ancillary₁ ≡ over (replicate missing 0 ++ ownEntries (ancillaryIn (set .format)) set cell) ancillary
+  pub marks-are : marks₁ ≡ over (replicate missing 2 ++ ownEntries (markIn (set .format)) set cell) marks
 
 -- the three runs have room
 pub record Roomy (set : Settled) (at : ℕ) (samples ancillary marks : List ℕ) : Type 0 where

@@ -3,9 +3,9 @@ ghost use mathlib.Core.Path.{_≡_};
 ghost use lib.ListN.{length};
 ghost use Rattle.formats.specs.Formats.{settingsOf};
 ghost use Rattle.receiver.specs.Receiver.{lastRefused, lengthsRefused, gapNow, receiveRefusal};
-
 use crate::Receiver;
-use formats::{Format, Settled};
+use formats::Format;
+use formats::Settled;
 
 // Check 4, beside checks 1 to 3.
 fn last_refused(format: Format, started: bool, last: u8) -> bool

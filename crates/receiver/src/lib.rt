@@ -73,9 +73,20 @@ pub fn receive(
 ) -> Received
     ensures { λ r. ⌜ Receives state (now (cell .entry)) indication (now (samples .entry)) (now (ancillary .entry)) (now (marks .entry)) r (now (samples .exit)) (now (ancillary .exit)) (now (marks .exit)) ⌝ }
 {
-    let set = formats::settings(state.format as u32, state.channels as u32, state.order as u32);
+    let set = formats::settings(
+        state.format as u32,
+        state.channels as u32,
+        state.order as u32,
+    );
     let format = set.format;
-    let refusal = judge::receive_refusal(set, state, cell, samples.len(), ancillary.len(), marks.len());
+    let refusal = judge::receive_refusal(
+        set,
+        state,
+        cell,
+        samples.len(),
+        ancillary.len(),
+        marks.len(),
+    );
     if refusal != 0 {
         return Received {
             refusal,
@@ -89,10 +100,7 @@ pub fn receive(
     let number = unpack::number_now(format, cell);
     let missing = judge::gap_now(format, state.started, state.last, number) - 1;
     let place = missing as usize * (set.channels * set.times);
-    unpack::zeros(samples, place);
-    unpack::octets(ancillary, place, 0);
-    unpack::octets(marks, place, 2);
-    unpack::unpack(set, cell, place, samples, ancillary, marks);
+    unpack::write(set, cell, place, samples, ancillary, marks);
     let second = unpack::second_now(format, cell);
     Received {
         refusal: 0,

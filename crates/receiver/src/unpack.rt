@@ -8,9 +8,9 @@ ghost use Rattle.formats.specs.Sound.{Sound, Limits};
 ghost use Rattle.cells.specs.Cells.{subframeAt, bitIn, eightIn, secondIn, ancillaryIn, markIn};
 ghost use Rattle.cells.specs.Placement.{slotOfEntry};
 ghost use Rattle.receiver.specs.Receiver.{numberNow, secondNow};
-ghost use Rattle.receiver.specs.Unpacking.{Unpacks, Roomy};
-
-use formats::{Format, Settled};
+ghost use Rattle.receiver.specs.Unpacking.{Unpacks, Writes, Roomy};
+use formats::Format;
+use formats::Settled;
 use numbers::Found;
 
 // The number that `width` octets make, the highest first.
@@ -76,7 +76,10 @@ pub(crate) fn second_now(format: Format, cell: &[u8]) -> u8
     if format.slots < 12 {
         return 0;
     }
-    bit_in(format, cell, 8) + bit_in(format, cell, 9) * 2 + bit_in(format, cell, 10) * 4 + bit_in(format, cell, 11) * 8
+    bit_in(format, cell, 8)
+        + bit_in(format, cell, 9) * 2
+        + bit_in(format, cell, 10) * 4
+        + bit_in(format, cell, 11) * 8
 }
 
 // The slot of a run's entry.
@@ -115,7 +118,7 @@ fn mark_in(format: Format, subframe: u64) -> u8
 }
 
 // Writes zeros to a run's first `count` entries.
-pub(crate) fn zeros(run: &mut [u64], count: usize)
+fn zeros(run: &mut [u64], count: usize)
     requires { ⌜ count ≤ length (now run) ⌝ }
     ensures { λ r. ⌜ now (run .exit) ≡ over (replicate count 0) (now (run .entry)) ⌝ }
 {
@@ -127,7 +130,7 @@ pub(crate) fn zeros(run: &mut [u64], count: usize)
 }
 
 // Writes one octet to a run's first `count` entries.
-pub(crate) fn octets(run: &mut [u8], count: usize, value: u8)
+fn octets(run: &mut [u8], count: usize, value: u8)
     requires { ⌜ count ≤ length (now run) ⌝ }
     ensures { λ r. ⌜ now (run .exit) ≡ over (replicate count value) (now (run .entry)) ⌝ }
 {
@@ -139,7 +142,7 @@ pub(crate) fn octets(run: &mut [u8], count: usize, value: u8)
 }
 
 // Writes the cell's own entries to the three runs from `at` on.
-pub(crate) fn unpack(
+fn own_entries(
     set: Settled,
     cell: &[u8],
     at: usize,
@@ -162,4 +165,22 @@ pub(crate) fn unpack(
         marks[at + i] = mark_in(format, subframe);
         i += 1;
     }
+}
+
+// Writes `missing` entries of zero with mark 2 to the three runs, and the cell's own entries after them.
+pub(crate) fn write(
+    set: Settled,
+    cell: &[u8],
+    missing: usize,
+    samples: &mut [u64],
+    ancillary: &mut [u8],
+    marks: &mut [u8],
+)
+    requires { ⌜ Limits set × (length (now cell) ≡ 48) × Roomy set missing (now samples) (now ancillary) (now marks) ⌝ }
+    ensures { λ r. ⌜ Writes set (now (cell .entry)) missing (now (samples .entry)) (now (ancillary .entry)) (now (marks .entry)) (now (samples .exit)) (now (ancillary .exit)) (now (marks .exit)) ⌝ }
+{
+    zeros(samples, missing);
+    octets(ancillary, missing, 0);
+    octets(marks, missing, 2);
+    own_entries(set, cell, missing, samples, ancillary, marks);
 }

@@ -1,1 +1,3 @@
+pub mod Copies
 pub mod LogsOne
+pub mod StatusesOne

@@ -1,7 +1,7 @@
 // A log for C, Rust and Python: the header and the records. Each call puts the answer of the proved function into a lent array.
 ghost use mathlib.Core.Path.{_≡_};
 ghost use Rattle.log.specs.Records.{headerOf, recordAt};
-ghost use Rattle.rimesatchel.specs.Log.{headerNumbers, recordNumbers};
+ghost use Rattle.rimesatchel.specs.Logs.{headerNumbers, recordNumbers};
 
 // The header of a log. Returns the refusal, 0 where there is none, and writes the place after it, the format octet, channels and
 // order; four zeros where it is refused.

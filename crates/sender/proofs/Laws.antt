@@ -18,14 +18,15 @@ use Rattle.formats.specs.declared.Settled.{Settled}
 use Rattle.formats.specs.Formats.{formatOf, timesOf, slotsOf, settingsOf, settingsRefusal, settled}
 use Rattle.formats.specs.Sound.{Limits}
 use Rattle.formats.proofs.Laws.{
-    settled-of,
-    Settles,
-    settles-all,
-    settled-limits,
-    given-refuses,
-    given-none,
-    given-settled,
-    given-later}
+  settled-of,
+  Settles,
+  settles-all,
+  settled-limits,
+  given-refuses,
+  given-none,
+  given-settled,
+  given-later,
+}
 use Rattle.sender.specs.declared.Sender.{Sender}
 use Rattle.numbers.specs.Numbers.{entryOf}
 use Rattle.sender.specs.Packing.{Packable, packed}
@@ -53,20 +54,20 @@ use Rattle.sender.specs.Sender.{
 -- checks 1 to 4, by the settings
 module _ {set : Settled} (octet channels order number : ℕ) (wanted : Bool) (second : ℕ)
     (given : set ≡ settingsOf octet channels order)
-    where
-  pub by-settings : (set .refusal ≡ 0 → ⊥) → set .refusal ≡ stateRefusal octet channels order number wanted second
-  unfolding stateRefusal
-  by-settings some = given-refuses octet channels order _ given some
+  where
+    pub by-settings : (set .refusal ≡ 0 → ⊥) → set .refusal ≡ stateRefusal octet channels order number wanted second
+    unfolding stateRefusal
+    by-settings some = given-refuses octet channels order _ given some
 
-  pub by-numbers : (none : set .refusal ≡ 0) {b : Bool} → b ≡ numbersRefused (set .format) number wanted second
-      → cond b 4 0 ≡ stateRefusal octet channels order number wanted second
-  unfolding stateRefusal
-  by-numbers none e =
-      ap (λ (b : Bool). cond b 4 0)
-      (e
-      ∙ ap (λ (x : Settled). numbersRefused (x .format) number wanted second)
-      (given-settled octet channels order 0 given none))
-      ∙ sym (given-later octet channels order _ given none)
+    pub by-numbers : (none : set .refusal ≡ 0) {b : Bool} → b ≡ numbersRefused (set .format) number wanted second
+        → cond b 4 0 ≡ stateRefusal octet channels order number wanted second
+    unfolding stateRefusal
+    by-numbers none e =
+        ap (λ (b : Bool). cond b 4 0)
+        (e
+        ∙ ap (λ (x : Settled). numbersRefused (x .format) number wanted second)
+        (given-settled octet channels order 0 given none))
+        ∙ sym (given-later octet channels order _ given none)
 
 -- what checks 1 to 4 leave where none refuses
 pub record StatePasses (octet channels order number second : ℕ) : Type 0 where

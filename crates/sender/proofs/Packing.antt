@@ -4,7 +4,7 @@ use mathlib.Core.Bool.{Bool}
 use mathlib.Core.List.{List, [], _∷_, _++_, append-nil}
 use mathlib.Core.Path.{_≡_, refl, sym, _∙_, ap, ap₂}
 use Prim.Native.Nat.{ℕ, zero, suc, _+_, _*_, _/_, _%_, _-_, _^_, _≤_, _<_}
-use native.Mathlib.Nat.{mul-one, zero-mul, suc-mul, mul-le-mul-right, pow-le-pow-right, not-suc-le-zero, le-of-suc-le-suc}
+use native.Mathlib.Nat.{mul-one, zero-mul, suc-mul, pow-le-pow-right, not-suc-le-zero, le-of-suc-le-suc}
 use native.Mathlib.Numerals.{add-one}
 use native.Mathlib.Omega.{arith}
 use borrow.Author.Tests.{ne-eqb, lt-ltb, le-ltb}
@@ -140,10 +140,6 @@ module _ (set : Settled) (word second : ℕ) (samples ancillary cell₀ : List �
     pub packs-begun : Packs cell₀ 0
     unfolding joined
     packs-begun = record { within = omega arith; is = ap (λ (n : ℕ). drop n cell₀) (sym (zero-mul (set .format .width))); same = whole }
-
-    pub slot-fits : {slot : ℕ} → slot < set .format .slots → slot * set .format .width + set .format .width ≤ 48
-    slot-fits {slot} less =
-        omega (arith, suc-mul slot (set .format .width), mul-le-mul-right {m = suc slot} {n = set .format .slots} (set .format .width) less, s .cell)
 
     pub packs-on : {cell cell₁ : List ℕ} {slot number : ℕ} → Packs cell slot → slot < set .format .slots
         → number ≡ slotSubframe set word second samples ancillary slot

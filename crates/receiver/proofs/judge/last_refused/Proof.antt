@@ -17,18 +17,20 @@ returns-2 c = rw (le-ltb _ _ (c .before .if1 .left), eq-eqb _ _ (c .if2 .taken))
 returns-3 : tie.Need-returns-3
 unfolding lastRefused
 returns-3 c =
-    rw
-    (le-ltb _ _ (c .before .before .if1 .left),
-    ne-eqb _ _ (c .before .if2 .left),
-    not-true (c .before .before .before .args .started) (c .if3 .taken))
+    rw (
+      le-ltb _ _ (c .before .before .if1 .left),
+      ne-eqb _ _ (c .before .if2 .left),
+      not-true (c .before .before .before .args .started) (c .if3 .taken),
+    )
 
 returns-4 : tie.Need-returns-4
 unfolding lastRefused
 returns-4 c =
-    rw
-    (le-ltb _ _ (c .before .before .before .if1 .left),
-    ne-eqb _ _ (c .before .before .if2 .left),
-    not-false (c .before .before .before .before .args .started) (c .before .if3 .left))
+    rw (
+      le-ltb _ _ (c .before .before .before .if1 .left),
+      ne-eqb _ _ (c .before .before .if2 .left),
+      not-false (c .before .before .before .before .args .started) (c .before .if3 .left),
+    )
 
 pub last-refused-spec : {M : Type 1} → statement M
 last-refused-spec = tie.close (tie.spec returns returns-2 returns-3 returns-4)

@@ -4,7 +4,7 @@ use mathlib.Core.Path.{ap}
 use native.Mathlib.Omega.{arith}
 use Rattle.log.specs.declared.Header.{Header}
 use Rattle.log.proofs.Headers.{header-place}
-use Rattle.rimesatchel.specs.Log.{headerNumbers}
+use Rattle.rimesatchel.specs.Logs.{headerNumbers}
 use borrow.Author.Needs.{needs}
 use Rattle.rimesatchel.proofs.logs.rime_log_header.Statement.{statement}
 use Rattle.rimesatchel.proofs.logs.rime_log_header.Tie as tie

@@ -5,7 +5,7 @@ use mathlib.Core.List.{[], _∷_}
 use mathlib.Core.Path.{_≡_, refl, _∙_, ap}
 use mir.Val.{boolByte}
 use Rattle.log.specs.declared.Record.{Record}
-use Rattle.rimesatchel.specs.Log.{recordNumbers}
+use Rattle.rimesatchel.specs.Logs.{recordNumbers}
 use borrow.Author.Needs.{needs}
 use Rattle.rimesatchel.proofs.logs.rime_log_record.Statement.{statement}
 use Rattle.rimesatchel.proofs.logs.rime_log_record.Tie as tie

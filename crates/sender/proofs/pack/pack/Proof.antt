@@ -5,7 +5,8 @@ use Prim.Native.Nat.{_-_}
 use native.Mathlib.Omega.{arith}
 use denote.Ref.{now}
 use borrow.Author.Needs.{needs}
-use Rattle.sender.proofs.Packing.{Packs, packs-begun, slot-fits, packs-on, packs-done}
+use Rattle.cells.proofs.Subframes.{slot-room}
+use Rattle.sender.proofs.Packing.{Packs, packs-begun, packs-on, packs-done}
 use Rattle.sender.proofs.pack.pack.Statement.{statement}
 use Rattle.sender.proofs.pack.pack.Tie as tie
 
@@ -22,10 +23,10 @@ slot-subframe-requires : tie.Need-slot-subframe-requires Inv-loop μ-loop
 slot-subframe-requires c κs = c .before .before .before .before .before .pre .0
 
 mul-put : tie.Need-mul-put Inv-loop μ-loop
-mul-put c = omega (arith, slot-fits (c .before .before .before .before .before .before .before .args .set) (c .before .before .before .before .before .before .before .args .word) (c .before .before .before .before .before .before .before .args .second) (now (c .before .before .before .before .before .before .before .args .samples)) (now (c .before .before .before .before .before .before .before .args .ancillary)) (now (c .before .before .before .before .before .before .before .args .cell)) (c .before .before .before .before .before .before .before .pre .0 .limits .sound) (c .before .before .before .before .before .before .before .pre .1) (c .before .before .loop-test .taken))
+mul-put c = omega (arith, slot-room (c .before .before .before .before .before .before .before .pre .0 .limits .sound) (c .before .before .loop-test .taken))
 
 put-requires : tie.Need-put-requires Inv-loop μ-loop
-put-requires c κs = (omega (arith, slot-fits (c .before .before .before .before .before .before .before .args .set) (c .before .before .before .before .before .before .before .args .word) (c .before .before .before .before .before .before .before .args .second) (now (c .before .before .before .before .before .before .before .args .samples)) (now (c .before .before .before .before .before .before .before .args .ancillary)) (now (c .before .before .before .before .before .before .before .args .cell)) (c .before .before .before .before .before .before .before .pre .0 .limits .sound) (c .before .before .before .before .before .before .before .pre .1) (c .before .before .loop-test .taken), c .before .before .before .loop .inv .same), c .before .before .before .before .before .before .before .pre .0 .limits .sound .width-to)
+put-requires c κs = (omega (arith, slot-room (c .before .before .before .before .before .before .before .pre .0 .limits .sound) (c .before .before .loop-test .taken), c .before .before .before .loop .inv .same), c .before .before .before .before .before .before .before .pre .0 .limits .sound .width-to)
 
 add-slot : tie.Need-add-slot Inv-loop μ-loop
 add-slot c = omega arith

@@ -1,0 +1,60 @@
+-- `receiver::unpack::eight_in` meets its contract.
+-- Assumes nothing.
+use mathlib.Core.Path.{_≡_, _∙_, ap}
+use Prim.Native.Nat.{ℕ, _-_}
+use native.Mathlib.Omega.{arith}
+use denote.Ref.{now}
+use borrow.Author.Needs.{needs}
+use Rattle.numbers.specs.Numbers.{gathered}
+use Rattle.cells.specs.Cells.{bitIn, eightIn}
+use Rattle.receiver.proofs.Unpacking.{Gathers, gathers-begun, gathers-low, gathers-on}
+use Rattle.receiver.proofs.unpack.eight_in.Statement.{statement}
+use Rattle.receiver.proofs.unpack.eight_in.Tie as tie
+
+abbrev Inv-loop : tie.InvT-loop
+Inv-loop format cell eight₀ slot₀ eight slot = Gathers (bitIn format cell) eight slot
+
+abbrev μ-loop : tie.MeasureT-loop
+μ-loop format cell eight₀ slot₀ eight slot = 8 - slot
+
+loop-holds : tie.Need-loop-holds Inv-loop μ-loop
+loop-holds c = gathers-begun (bitIn (c .before .args .format) (now (c .before .args .cell)))
+
+mul-eight : tie.Need-mul-eight Inv-loop μ-loop
+mul-eight c = omega arith
+
+bit-in-requires : tie.Need-bit-in-requires Inv-loop μ-loop
+bit-in-requires c κs = (c .before .before .before .pre .0, c .before .before .before .pre .1, omega (arith, c .before .before .before .pre .0 .slots-from))
+
+add-eight : tie.Need-add-eight Inv-loop μ-loop
+add-eight c = omega (arith, c .bit-in .ensures .1)
+
+add-slot : tie.Need-add-slot Inv-loop μ-loop
+add-slot c = omega arith
+
+loop-less : tie.Need-loop-less Inv-loop μ-loop
+loop-less c = omega arith
+
+loop-again : tie.Need-loop-again Inv-loop μ-loop
+loop-again c = gathers-on (bitIn (c .before .before .before .before .args .format) (now (c .before .before .before .before .args .cell))) (c .before .before .loop .inv) (c .before .loop-test .taken) (c .bit-in .ensures .0) (c .bit-in .ensures .1)
+
+returns : tie.Need-returns Inv-loop μ-loop
+unfolding eightIn
+returns c =
+    let end : c .before .loop .slot ≡ 8 = omega arith in
+    c .before .loop .inv .is ∙ ap (gathered (bitIn (c .before .before .before .args .format) (now (c .before .before .before .args .cell)))) end
+
+pub eight-in-spec : {M : Type 1} → statement M
+eight-in-spec =
+    tie.close
+    (tie.spec
+    Inv-loop
+    μ-loop
+    loop-holds
+    mul-eight
+    bit-in-requires
+    add-eight
+    add-slot
+    loop-less
+    loop-again
+    returns)

@@ -1,0 +1,55 @@
+-- `receiver::unpack::number_now` meets its contract.
+-- Assumes nothing.
+use mathlib.Core.Path.{_≡_, _∙_, sym, ap}
+use borrow.Author.Tests.{eq-eqb, ne-eqb}
+use denote.Ref.{now}
+use Rattle.numbers.specs.Numbers.{numberIn, foundOf}
+use Rattle.numbers.proofs.Laws.{found-is, found-not}
+use Rattle.cells.specs.Cells.{eightIn}
+use Rattle.receiver.specs.Receiver.{numberNow}
+use borrow.Author.Needs.{needs}
+use Rattle.receiver.proofs.unpack.number_now.Statement.{statement}
+use Rattle.receiver.proofs.unpack.number_now.Tie as tie
+
+returns : tie.Need-returns
+unfolding numberNow
+returns c = rw (eq-eqb _ _ (c .if1 .taken))
+
+eight-in-requires : tie.Need-eight-in-requires
+eight-in-requires c κs = search needs
+
+number-of-requires : tie.Need-number-of-requires
+number-of-requires c κs = search needs
+
+enum-known-found : tie.Need-enum-known-found
+enum-known-found c = search needs
+
+enum-told : tie.Need-enum-told
+enum-told c = search needs
+
+found : (c : tie.After-number-of) → c .number-of .result ≡ foundOf (eightIn (c .before .before .before .before .before .args .format) (now (c .before .before .before .before .before .args .cell)))
+found c = c .number-of .ensures ∙ ap foundOf (c .before .eight-in .ensures)
+
+returns-2 : tie.Need-returns-2
+unfolding numberNow
+returns-2 c =
+    rw (ne-eqb _ _ (c .before .before .before .before .before .if1 .left))
+    (found-is (eightIn (c .before .before .before .before .before .before .before .before .args .format) (now (c .before .before .before .before .before .before .before .before .args .cell))) (sym (found (c .before .before .before)) ∙ c .before .found .given .1))
+
+returns-3 : tie.Need-returns-3
+unfolding numberNow
+returns-3 c =
+    rw (ne-eqb _ _ (c .before .before .before .before .if1 .left))
+    (found-not (eightIn (c .before .before .before .before .before .before .before .args .format) (now (c .before .before .before .before .before .before .before .args .cell))) (sym (found (c .before .before)) ∙ c .enum-told .given .1))
+
+pub number-now-spec : {M : Type 1} → statement M
+number-now-spec =
+    tie.close
+    (tie.spec
+    returns
+    eight-in-requires
+    number-of-requires
+    enum-known-found
+    enum-told
+    returns-2
+    returns-3)

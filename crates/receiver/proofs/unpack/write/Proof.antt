@@ -1,0 +1,46 @@
+-- `receiver::unpack::write` meets its contract.
+-- Assumes nothing.
+use Rattle.receiver.proofs.Unpacking.{writes}
+use denote.Ref.{now}
+use borrow.Author.Needs.{needs}
+use Rattle.receiver.proofs.unpack.write.Statement.{statement}
+use Rattle.receiver.proofs.unpack.write.Tie as tie
+
+zeros-requires : tie.Need-zeros-requires
+zeros-requires c κs = search needs
+
+octets-requires : tie.Need-octets-requires
+octets-requires c κs = search needs
+
+octets-requires-2 : tie.Need-octets-requires-2
+octets-requires-2 c κs = search needs
+
+own-entries-requires : tie.Need-own-entries-requires
+own-entries-requires c κs = search needs
+
+same-length : tie.Need-same-length
+same-length c = search needs
+
+same-length-2 : tie.Need-same-length-2
+same-length-2 c = search needs
+
+same-length-3 : tie.Need-same-length-3
+same-length-3 c = search needs
+
+returns : tie.Need-returns
+returns c =
+    writes (c .before .before .before .before .before .before .before .before .before .before .before .before .before .before .before .before .before .before .before .before .before .before .before .before .before .before .args .set) (now (c .before .before .before .before .before .before .before .before .before .before .before .before .before .before .before .before .before .before .before .before .before .before .before .before .before .before .args .cell)) (c .before .before .before .before .before .before .before .before .before .before .before .before .before .before .before .before .before .before .before .before .before .before .before .before .before .before .args .missing) (now (c .before .before .before .before .before .before .before .before .before .before .before .before .before .before .before .before .before .before .before .before .before .before .before .before .before .before .args .samples)) (now (c .before .before .before .before .before .before .before .before .before .before .before .before .before .before .before .before .before .before .before .before .before .before .before .before .before .before .args .ancillary)) (now (c .before .before .before .before .before .before .before .before .before .before .before .before .before .before .before .before .before .before .before .before .before .before .before .before .before .before .args .marks)) (c .before .before .before .before .before .before .before .before .before .before .before .before .before .before .before .before .before .before .before .before .before .before .before .before .before .before .pre .2)
+    (c .before .before .before .before .before .before .before .before .before .before .before .before .before .before .before .before .before .before .before .before .zeros .ensures) (c .before .before .before .before .before .before .before .before .before .before .before .before .before .before .before .before .octets .ensures) (c .before .before .before .before .before .before .before .before .before .before .before .before .octets2 .ensures) (c .before .before .before .before .before .before .own-entries .ensures)
+
+pub write-spec : {M : Type 1} → statement M
+write-spec =
+    tie.close
+    (tie.spec
+    zeros-requires
+    octets-requires
+    octets-requires-2
+    own-entries-requires
+    same-length
+    same-length-2
+    same-length-3
+    returns)

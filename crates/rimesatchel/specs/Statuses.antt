@@ -1,0 +1,22 @@
+-- A block of channel status as 25 octets, and what a step on them leaves (C-FACE.md).
+-- Assumes nothing.
+use mathlib.Core.List.{List, _∷_}
+use mathlib.Core.Path.{_≡_}
+use Prim.Native.Nat.{ℕ}
+use lib.ListN.{getD, drop}
+use Rattle.status.specs.Step.{stepOf}
+use Rattle.status.specs.declared.step.Block.{Block}
+use Rattle.status.specs.declared.step.Stepped.{Stepped}
+
+-- "bits begun, then the 24 octets under assembly"
+abbrev pub blockOf : List ℕ → Block
+blockOf octets = record { bits = getD octets 0 0; octets = drop 1 octets }
+
+abbrev pub steppedOf : List ℕ → ℕ → ℕ → Stepped
+steppedOf block ancillary mark = stepOf (blockOf block) ancillary mark
+
+-- the refusal, the block as it is left, and `out`: "answer (0 neither, 1 doesn't fit, 2 fits), then the 24 octets handed out"
+pub record SteppedOctets (block : List ℕ) (ancillary mark refusal : ℕ) (left out : List ℕ) : Type 0 where
+  pub refused : refusal ≡ steppedOf block ancillary mark .handed .refusal
+  pub leaves : left ≡ steppedOf block ancillary mark .block .bits ∷ steppedOf block ancillary mark .block .octets
+  pub hands : out ≡ steppedOf block ancillary mark .handed .answer ∷ steppedOf block ancillary mark .handed .octets

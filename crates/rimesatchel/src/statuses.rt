@@ -1,0 +1,70 @@
+// Channel status for C, Rust and Python: 25 octets are a block (bits begun, then the 24 octets under assembly), or what goes
+// out (answer 0 neither, 1 doesn't fit, 2 fits, then the 24 octets handed out).
+use status::assembler::brought_forward;
+use status::check::check_character;
+use status::step::Block;
+ghost use mathlib.Core.List.{_∷_};
+ghost use mathlib.Core.Path.{_≡_};
+ghost use lib.ListN.{drop};
+ghost use Rattle.status.specs.Check.{checkCharacter};
+ghost use Rattle.rimesatchel.specs.Statuses.{SteppedOctets};
+
+fn after_first(octets: [u8; 25]) -> [u8; 24]
+    ensures { λ r. ⌜ r ≡ drop 1 octets ⌝ }
+{
+    let mut rest = [0u8; 24];
+    let mut i: usize = 0;
+    while i < 24 {
+        rest[i] = octets[i + 1];
+        i += 1;
+    }
+    rest
+}
+
+fn with_first(first: u8, rest: [u8; 24]) -> [u8; 25]
+    ensures { λ r. ⌜ r ≡ first ∷ rest ⌝ }
+{
+    let mut octets = [first; 25];
+    let mut i: usize = 0;
+    while i < 24 {
+        octets[i + 1] = rest[i];
+        i += 1;
+    }
+    octets
+}
+
+// Brings the block forward by an ancillary number and its mark, writes what goes out, and gives the refusal: 0, or 14 where
+// the block is left as it was and `out` is zeros.
+#[no_mangle]
+pub extern "C" fn rime_status_step(
+    block: &mut [u8; 25],
+    ancillary: u8,
+    mark: u8,
+    out: &mut [u8; 25],
+) -> u8
+    ensures { λ r. ⌜ SteppedOctets (now (block .entry)) ancillary mark r (now (block .exit)) (now (out .exit)) ⌝ }
+{
+    let lent = *block;
+    let bits = lent[0];
+    let octets = after_first(lent);
+    let begun = Block {
+        bits: bits,
+        octets: octets,
+    };
+    let stepped = brought_forward(begun, ancillary, mark);
+    let after = stepped.block;
+    let handed = stepped.handed;
+    let left = after.octets;
+    *block = with_first(after.bits, left);
+    let given = handed.octets;
+    *out = with_first(handed.answer, given);
+    handed.refusal
+}
+
+// The check character of octets 0 to 22; octet 23 isn't read.
+#[no_mangle]
+pub extern "C" fn rime_check_character(block: &[u8; 24]) -> u8
+    ensures { λ r. ⌜ r ≡ checkCharacter (now (block .entry)) ⌝ }
+{
+    check_character(*block)
+}

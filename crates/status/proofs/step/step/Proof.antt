@@ -1,0 +1,125 @@
+-- `status::step::step` meets its contract: each return is one kind of step.
+-- Assumes nothing.
+use mathlib.Core.Bool.{false}
+use mathlib.Core.List.{List}
+use mathlib.Core.Path.{_≡_, sym, _∙_, ap}
+use Prim.Native.Nat.{ℕ, _+_}
+use native.Mathlib.Omega.{arith}
+use borrow.Author.Needs.{needs}
+use Rattle.status.specs.Bits.{withBit}
+use Rattle.status.specs.Step.{stepOf, addedTo, isRefused, unfinished, finished, cOf}
+use Rattle.status.proofs.Steps.{
+  step-refused,
+  step-dropped,
+  step-begun,
+  step-idle,
+  step-added,
+  added-more,
+  added-last,
+  taken-bits,
+}
+use Rattle.status.proofs.step.step.Statement.{statement}
+use Rattle.status.proofs.step.step.Tie as tie
+
+-- the step isn't refused
+taken : (c : tie.Else1) → isRefused (c .before .before .args .block .bits) (c .before .before .args .ancillary) (c .before .before .args .mark) ≡ false
+taken c = sym (c .before .refused .ensures) ∙ c .if1 .left
+
+-- B is 0, and the block has begun
+added : (c : tie.Else4)
+    → stepOf (c .before .before .before .before .before .args .block) (c .before .before .before .before .before .args .ancillary) (c .before .before .before .before .before .args .mark)
+    ≡ addedTo (c .before .before .before .before .before .args .block .bits)
+    (withBit (c .before .before .before .before .before .args .block .octets) (c .before .before .before .before .before .args .block .bits) (cOf (c .before .before .before .before .before .args .ancillary)))
+added c =
+    let s = c .before .before .before .before .before .args in
+    step-added (s .block) (s .ancillary) (s .mark) (taken (c .before .before .before)) (c .before .before .if2 .left) (c .before .if3 .left) (c .if4 .left)
+
+refused-requires : tie.Need-refused-requires
+refused-requires c κs = search needs
+
+unfinished-with-requires : tie.Need-unfinished-with-requires
+unfinished-with-requires c κs = search needs
+
+returns : tie.Need-returns
+returns c =
+    let s = c .before .before .before .args in
+    c .unfinished-with .ensures ∙ sym (step-refused (s .block) (s .ancillary) (s .mark) (sym (c .before .before .refused .ensures) ∙ c .before .if1 .taken))
+
+unfinished-with-requires-2 : tie.Need-unfinished-with-requires-2
+unfinished-with-requires-2 c κs = search needs
+
+returns-2 : tie.Need-returns-2
+returns-2 c =
+    let s = c .before .before .before .before .args in
+    c .unfinished-with2 .ensures ∙ sym (step-dropped (s .block) (s .ancillary) (s .mark) (taken (c .before .before)) (c .before .if2 .taken))
+
+with-bit-requires : tie.Need-with-bit-requires
+with-bit-requires c κs = search needs
+
+unfinished-with-requires-3 : tie.Need-unfinished-with-requires-3
+unfinished-with-requires-3 c κs = search needs
+
+returns-3 : tie.Need-returns-3
+returns-3 c =
+    let s = c .before .before .before .before .before .before .args in
+    c .unfinished-with3 .ensures
+    ∙ ap (λ (o : List ℕ). unfinished 0 (record { bits = 1; octets = o })) (c .before .with-bit .ensures)
+    ∙ sym (step-begun (s .block) (s .ancillary) (s .mark) (taken (c .before .before .before .before)) (c .before .before .before .if2 .left) (c .before .before .if3 .taken))
+
+unfinished-with-requires-4 : tie.Need-unfinished-with-requires-4
+unfinished-with-requires-4 c κs = search needs
+
+returns-4 : tie.Need-returns-4
+returns-4 c =
+    let s = c .before .before .before .before .before .before .args in
+    c .unfinished-with4 .ensures
+    ∙ sym (step-idle (s .block) (s .ancillary) (s .mark) (taken (c .before .before .before .before)) (c .before .before .before .if2 .left) (c .before .before .if3 .left) (c .before .if4 .taken))
+
+with-bit-requires-2 : tie.Need-with-bit-requires-2
+with-bit-requires-2 c κs =
+    let s = c .before .before .before .before .before .before .args in
+    (omega (arith, taken-bits (s .block .bits) (s .ancillary) (s .mark) (taken (c .before .before .before .before))), omega arith)
+
+add-t16 : tie.Need-add-t16
+add-t16 c = search needs
+
+unfinished-with-requires-5 : tie.Need-unfinished-with-requires-5
+unfinished-with-requires-5 c κs = search needs
+
+returns-5 : tie.Need-returns-5
+returns-5 c =
+    let s = c .before .before .before .before .before .before .before .before .before .args in
+    c .unfinished-with5 .ensures
+    ∙ ap (λ (o : List ℕ). unfinished 0 (record { bits = s .block .bits + 1; octets = o })) (c .before .before .with-bit2 .ensures)
+    ∙ sym (added (c .before .before .before .before) ∙ added-more (s .block .bits) _ (omega (arith, c .before .if5 .taken)))
+
+finished-with-requires : tie.Need-finished-with-requires
+finished-with-requires c κs = search needs
+
+returns-6 : tie.Need-returns-6
+returns-6 c =
+    let s = c .before .before .before .before .before .before .before .before .before .args in
+    c .finished-with .ensures
+    ∙ ap finished (c .before .before .with-bit2 .ensures)
+    ∙ sym (added (c .before .before .before .before) ∙ added-last (s .block .bits) _ (omega (arith, c .before .if5 .left)))
+
+pub step-spec : {M : Type 1} → statement M
+step-spec =
+    tie.close
+    (tie.spec
+    refused-requires
+    unfinished-with-requires
+    returns
+    unfinished-with-requires-2
+    returns-2
+    with-bit-requires
+    unfinished-with-requires-3
+    returns-3
+    unfinished-with-requires-4
+    returns-4
+    with-bit-requires-2
+    add-t16
+    unfinished-with-requires-5
+    returns-5
+    finished-with-requires
+    returns-6)

@@ -1,0 +1,4 @@
+pub mod Bits
+pub mod Check
+pub mod Step
+pub mod Sender
