@@ -97,7 +97,7 @@ pub record Lists (log run : List ℕ) (answer : Listed) (after : List ℕ) : Typ
   pub answered : answer ≡ listed (length run) (listOf log)
   pub left : after ≡ over (take (length run) (listOf log)) run
 
--- the counts of so many records of a log, and the octets that those records take
+-- counts that no sum can wrap: a log of 65,536 octets has fewer than 2,000 records, and a record's missing count is an octet
 pub record Counted (here : Standing) : Type 0 where
   pub few : here .index ≤ 2000
   pub sound : here .sound ≤ here .index

@@ -5,11 +5,10 @@ use log::Header;
 use receiver::Received;
 use receiver::Receiver;
 ghost use mathlib.Core.Path.{_≡_};
-ghost use Prim.Native.Nat.{_*_, _≤_};
+ghost use Prim.Native.Nat.{_≤_};
 ghost use lib.ListN.{length};
-ghost use Rattle.log.specs.Records.{recordAt, cellAt};
 ghost use Rattle.listing.specs.Text.{Puts};
-ghost use Rattle.listing.specs.List.{startOf, judgedOf, gotAt, lineOf, afterOf, recordLines, linesFrom, endLines, Counted, Begun};
+ghost use Rattle.listing.specs.List.{startOf, judgedOf, lineOf, afterOf, linesFrom, endLines, Counted, Begun};
 
 // Where the list stands in its log: the place, the record's number, the counts of the end line, and the receiver's state.
 pub(crate) struct Standing {
@@ -36,7 +35,8 @@ pub(crate) fn start(header: Header) -> Standing
     }
 }
 
-// What the receiver says of a cell, with room for all that one call can write: fifteen cells of up to 48 entries.
+// What the receiver says of a cell, with room for all that one call can write: fifteen cells of up to 48 entries. Refusal 10 is
+// never met.
 fn judged(state: Receiver, indication: bool, cell: &[u8]) -> Received
     ensures { λ r. ⌜ r ≡ judgedOf state indication (now (cell .entry)) ⌝ }
 {
