@@ -7,3 +7,5 @@ all:
 
 test:
 	.ci/run
+
+include tests/face.mk

@@ -1,0 +1,83 @@
+-- What the boxes' promises leave of their states as octets.
+-- Assumes nothing.
+use mathlib.Core.Bool.{Bool, cond}
+use mathlib.Core.List.{List, [], _∷_}
+use mathlib.Core.Path.{_≡_, refl, sym, _∙_, ap, subst}
+use Prim.Native.Nat.{ℕ}
+use borrow.Author.Tests.{ne-eqb}
+use lib.ListN.{length}
+use Rattle.sender.specs.declared.Sender.{Sender}
+use Rattle.sender.specs.declared.Sent.{Sent}
+use Rattle.sender.specs.Sender.{Sends}
+use Rattle.receiver.specs.declared.Receiver.{Receiver}
+use Rattle.receiver.specs.declared.Received.{Received}
+use Rattle.receiver.specs.Receiver.{Receives}
+use Rattle.rimesatchel.specs.Boxes.{
+  yesNo,
+  senderOf,
+  senderOctets,
+  receiverOf,
+  receiverOctets,
+  reportOctets,
+  stateAfter,
+  SentOctets,
+  ReceivedOctets,
+}
+
+module _ (state : List ℕ) (indication : Bool) (samples ancillary cell : List ℕ) {st : Sender} {answer : Sent} {cell₁ : List ℕ}
+    (is : st ≡ senderOf state) (sends : Sends st indication samples ancillary cell answer cell₁)
+  where
+    here : Sends (senderOf state) indication samples ancillary cell answer cell₁
+    here = subst (λ (x : Sender). Sends x indication samples ancillary cell answer cell₁) is sends
+
+    pub sent-refused : (answer .refusal ≡ 0 → ⊥) → SentOctets state indication samples ancillary cell (answer .refusal) state cell₁
+    sent-refused some =
+        record {
+          refused = ap (λ (x : Sent). x .refusal) (here .answered);
+          leaves = rw (ne-eqb (answer .refusal) 0 some);
+          writes = here .cell-after;
+        }
+
+    pub sent-taken : answer .refusal ≡ 0 → {left : List ℕ} → left ≡ senderOctets (answer .state)
+        → SentOctets state indication samples ancillary cell 0 left cell₁
+    sent-taken none e =
+        record {
+          refused = sym none ∙ ap (λ (x : Sent). x .refusal) (here .answered);
+          leaves = e ∙ ap (λ (x : Sent). senderOctets (x .state)) (here .answered);
+          writes = here .cell-after;
+        }
+
+module _ (state cell : List ℕ) (indication : Bool) (samples ancillary marks : List ℕ) {st : Receiver} {answer : Received}
+    {samples₁ ancillary₁ marks₁ : List ℕ} {told : ℕ} (is : st ≡ receiverOf state)
+    (receives : Receives st cell indication samples ancillary marks answer samples₁ ancillary₁ marks₁)
+    (said : told ≡ yesNo (answer .indication))
+  where
+    taken : Receives (receiverOf state) cell indication samples ancillary marks answer samples₁ ancillary₁ marks₁
+    taken = subst (λ (x : Receiver). Receives x cell indication samples ancillary marks answer samples₁ ancillary₁ marks₁) is receives
+
+    abbrev report : List ℕ
+    report = answer .missing ∷ answer .number ∷ answer .second ∷ told ∷ []
+
+    reported : report ≡ reportOctets answer
+    unfolding reportOctets
+    reported = ap (λ (n : ℕ). answer .missing ∷ answer .number ∷ answer .second ∷ n ∷ []) said
+
+    pub received-refused : (answer .refusal ≡ 0 → ⊥)
+        → ReceivedOctets state cell indication samples ancillary marks (answer .refusal) state samples₁ ancillary₁ marks₁ report
+    received-refused some =
+        record {
+          refused = ap (λ (x : Received). x .refusal) (taken .answered);
+          leaves = rw (ne-eqb (answer .refusal) 0 some);
+          reports = reported ∙ ap reportOctets (taken .answered);
+          receives = subst (λ (x : Received). Receives (receiverOf state) cell indication samples ancillary marks x samples₁ ancillary₁ marks₁) (taken .answered) taken;
+        }
+
+    pub received-taken : answer .refusal ≡ 0 → {left : List ℕ} → left ≡ receiverOctets (answer .state)
+        → ReceivedOctets state cell indication samples ancillary marks 0 left samples₁ ancillary₁ marks₁ report
+    received-taken none e =
+        record {
+          refused = sym none ∙ ap (λ (x : Received). x .refusal) (taken .answered);
+          leaves = e ∙ ap (λ (x : Received). receiverOctets (x .state)) (taken .answered);
+          reports = reported ∙ ap reportOctets (taken .answered);
+          receives = subst (λ (x : Received). Receives (receiverOf state) cell indication samples ancillary marks x samples₁ ancillary₁ marks₁) (taken .answered) taken;
+        }

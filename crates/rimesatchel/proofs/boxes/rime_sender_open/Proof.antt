@@ -1,0 +1,24 @@
+-- `rimesatchel::boxes::rime_sender_open` meets its contract.
+-- Assumes nothing.
+use mathlib.Core.Path.{_∙_, ap}
+use Rattle.sender.specs.declared.Sent.{Sent}
+use Rattle.rimesatchel.specs.Boxes.{senderOctets}
+use borrow.Author.Needs.{needs}
+use Rattle.rimesatchel.proofs.boxes.rime_sender_open.Statement.{statement}
+use Rattle.rimesatchel.proofs.boxes.rime_sender_open.Tie as tie
+
+opened-requires : tie.Need-opened-requires
+opened-requires c κs = search needs
+
+sender-octets-requires : tie.Need-sender-octets-requires
+sender-octets-requires c κs = search needs
+
+returns : tie.Need-returns
+returns c =
+    record {
+      refused = ap (λ (x : Sent). x .refusal) (c .before .before .opened .ensures);
+      leaves = c .sender-octets .ensures ∙ ap (λ (x : Sent). senderOctets (x .state)) (c .before .before .opened .ensures);
+    }
+
+pub rime-sender-open-spec : {M : Type 1} → statement M
+rime-sender-open-spec = tie.close (tie.spec opened-requires sender-octets-requires returns)

@@ -1,0 +1,96 @@
+/*
+ * A reading handed over: a sender, a line that loses one cell and spoils another, and a receiver. Prints what was
+ * handed out with its marks. The examples in Rust and Python print the same.
+ */
+#include <inttypes.h>
+#include <stdio.h>
+
+#include "rimesatchel.h"
+
+enum { FORMAT = 0x56, CHANNELS = 2, TIMES = 6, ENTRIES = CHANNELS * TIMES, ROOM = 15 * ENTRIES };
+enum { CELLS = 4, LOST = 1, SPOILED = 3 };
+
+/* What each refusal number means. */
+static const char *const reasons[] = {
+    "done",
+    "the format is none of the eleven",
+    "there are no channels, or more than slots",
+    "the order is above 1",
+    "a state or start number cannot be",
+    "a cell or a run has the wrong length",
+    "a sample or an ancillary number is too large",
+    "the indication may be 1 only where the number is a multiple of 8",
+    "the cell's number is damaged",
+    "the cell has the number of the last one",
+    "the runs have too little room",
+};
+
+static const char *const marks_said[] = {"sound", "doubtful", "missing"};
+
+struct runs {
+    uint64_t samples[ROOM];
+    uint8_t ancillary[ROOM];
+    uint8_t marks[ROOM];
+};
+
+static const char *on_the_line(unsigned cell) {
+    return cell == LOST ? " The line loses it." : cell == SPOILED ? " The line turns over its first bit." : "";
+}
+
+static void say_refused(const char *what, uint8_t refusal) {
+    printf("%s: refused %u, %s.\n", what, refusal, reasons[refusal]);
+}
+
+static void print_entries(const struct runs *runs, unsigned cells) {
+    for (unsigned entry = 0; entry < cells * ENTRIES; entry += CHANNELS) {
+        for (unsigned channel = 0; channel < CHANNELS; channel++) {
+            unsigned at = entry + channel;
+            printf("%s%" PRIu64 " %s", channel == 0 ? "  " : ", ", runs->samples[at], marks_said[runs->marks[at]]);
+        }
+        printf("\n");
+    }
+}
+
+static uint8_t send(uint8_t *sender, unsigned cell, uint8_t *octets) {
+    uint64_t samples[ENTRIES];
+    uint8_t ancillary[ENTRIES] = {0};
+    for (unsigned entry = 0; entry < ENTRIES; entry++)
+        samples[entry] = 1000 * cell + 10 * (entry / CHANNELS) + entry % CHANNELS;
+    return rime_send(sender, false, samples, ENTRIES, ancillary, ENTRIES, octets, RIME_CELL_OCTETS);
+}
+
+static void receive(uint8_t *receiver, const uint8_t *octets) {
+    struct runs runs;
+    uint8_t report[RIME_REPORT];
+    uint8_t refusal = rime_receive(receiver, octets, RIME_CELL_OCTETS, false, runs.samples, ROOM, runs.ancillary, ROOM,
+                                   runs.marks, ROOM, report);
+    if (refusal != RIME_DONE) {
+        say_refused("Receiving", refusal);
+        return;
+    }
+    printf("Received number %u, %u missing before it.\n", report[RIME_REPORT_NUMBER], report[RIME_REPORT_MISSING]);
+    print_entries(&runs, report[RIME_REPORT_MISSING] + 1u);
+}
+
+int main(void) {
+    uint8_t sender[RIME_SENDER_STATE], receiver[RIME_RECEIVER_STATE], octets[RIME_CELL_OCTETS];
+    uint8_t refusal = rime_sender_open(FORMAT, 13, 0, 0, false, 0, sender);
+    if (refusal != RIME_DONE) say_refused("Opening a sender of 13 channels", refusal);
+    refusal = rime_sender_open(FORMAT, CHANNELS, 0, 0, false, 0, sender);
+    if (refusal == RIME_DONE) refusal = rime_receiver_open(FORMAT, CHANNELS, 0, receiver);
+    for (unsigned cell = 0; refusal == RIME_DONE && cell < CELLS; cell++) {
+        refusal = send(sender, cell, octets);
+        if (refusal != RIME_DONE) break;
+        printf("Sent number %u.%s\n", cell, on_the_line(cell));
+        if (cell == LOST) continue;
+        if (cell == SPOILED) octets[0] ^= 0x80;
+        receive(receiver, octets);
+    }
+    if (refusal != RIME_DONE) {
+        say_refused("The reading", refusal);
+        return 1;
+    }
+    printf("The line delivers the last cell again.\n");
+    receive(receiver, octets);
+    return 0;
+}

@@ -1,0 +1,71 @@
+//! A reading handed over: a sender, a line that loses one cell and spoils another, and a receiver. Prints what was
+//! handed out with its marks. The examples in C and Python print the same.
+
+mod rimesatchel;
+
+use rimesatchel::{Entry, Receiver, Refusal, Sender, Setup};
+
+const SETUP: Setup = Setup { format: 0x56, channels: 2, order: 0 };
+const CHANNELS: usize = 2;
+const ENTRIES: usize = CHANNELS * 6;
+const CELLS: u64 = 4;
+const LOST: u64 = 1;
+const SPOILED: u64 = 3;
+const MARKS: [&str; 3] = ["sound", "doubtful", "missing"];
+
+fn on_the_line(cell: u64) -> &'static str {
+    match cell {
+        LOST => " The line loses it.",
+        SPOILED => " The line turns over its first bit.",
+        _ => "",
+    }
+}
+
+fn samples_of(cell: u64) -> Vec<u64> {
+    (0..6).flat_map(|time| (0..2).map(move |channel| 1000 * cell + 10 * time + channel)).collect()
+}
+
+fn said(entry: &Entry) -> String {
+    format!("{} {}", entry.sample, MARKS[usize::from(entry.mark)])
+}
+
+fn receive(receiver: &mut Receiver, octets: &[u8]) {
+    match receiver.receive(octets) {
+        Err(refusal) => println!("Receiving: {refusal}"),
+        Ok(handed) => {
+            println!("Received number {}, {} missing before it.", handed.number, handed.missing);
+            for time in handed.entries.chunks(CHANNELS) {
+                println!("  {}", time.iter().map(said).collect::<Vec<_>>().join(", "));
+            }
+        }
+    }
+}
+
+fn reading() -> Result<(), Refusal> {
+    let mut sender = Sender::open(SETUP)?;
+    let mut receiver = Receiver::open(SETUP, ENTRIES)?;
+    let mut octets = [0; 48];
+    for cell in 0..CELLS {
+        octets = sender.send(&samples_of(cell), &[0; ENTRIES])?;
+        println!("Sent number {cell}.{}", on_the_line(cell));
+        if cell == SPOILED {
+            octets[0] ^= 0x80;
+        }
+        if cell != LOST {
+            receive(&mut receiver, &octets);
+        }
+    }
+    println!("The line delivers the last cell again.");
+    receive(&mut receiver, &octets);
+    Ok(())
+}
+
+fn main() {
+    if let Err(refusal) = Sender::open(Setup { channels: 13, ..SETUP }) {
+        println!("Opening a sender of 13 channels: {refusal}");
+    }
+    if let Err(refusal) = reading() {
+        println!("The reading: {refusal}");
+        std::process::exit(1);
+    }
+}

@@ -1,0 +1,207 @@
+/*
+ * Rimesatchel: a sender and a receiver of spoken-book readings over ATM cells (IEC 62365).
+ *
+ * The sender packs samples into cells of 48 octets; the receiver takes cells and writes samples, ancillary bits and
+ * marks. Nothing here allocates, keeps anything between two calls, or reads or writes anything but what it is lent:
+ * all state is the caller's, in the arrays below, and may hold any octets whatever.
+ *
+ * Every function but rime_check_character returns a refusal number, RIME_DONE (0) where there is none. A call never
+ * does half of its work. A refusal leaves every lent run and the state as they were, and fills `report`, `out`,
+ * `header` or `record` with zeros; an opening that is refused fills `state` with zeros, which is itself refused 1.
+ * Where several refusals apply, the first in the order of the list at each function is given.
+ *
+ * Lent memory: a run is a pointer and the number of its entries. A pointer is never NULL (a run of no entries may
+ * point anywhere else), and no two arguments of one call overlap.
+ */
+#ifndef RIMESATCHEL_H
+#define RIMESATCHEL_H
+
+#include <stdbool.h>
+#include <stddef.h>
+#include <stdint.h>
+
+#ifdef __cplusplus
+extern "C" {
+#endif
+
+/* Lengths, in octets or numbers. */
+enum {
+    RIME_CELL_OCTETS = 48,
+    RIME_SENDER_STATE = 7,
+    RIME_RECEIVER_STATE = 5,
+    RIME_REPORT = 4,
+    RIME_BLOCK = 25,
+    RIME_OUT = 25,
+    RIME_STATUS_OCTETS = 24,
+    RIME_HEADER = 4,
+    RIME_RECORD = 4,
+    RIME_MOST_SLOTS = 48,
+    RIME_MOST_MISSING = 14
+};
+
+/*
+ * The formats, by their subframe octet: sample bits, and S, the slots in a cell.
+ *   02, 04, 06, 08 hex   8, 16, 24, 32 bits   S = 48, 24, 16, 12   neither ancillary nor overhead
+ *   43, 45, 47 hex       12, 20, 28 bits      S = 24, 16, 12       ancillary
+ *   52, 54, 56, 5A hex   8, 16, 24, 40 bits   S = 24, 16, 12, 8    ancillary and overhead
+ *
+ * C channels (1 to S) share a cell. T = S / C, rounded down, is the number of sample times in it, and C * T the
+ * number of entries that a cell carries. A run holds time after time, channels side by side: channel c at time t is
+ * entry t * C + c in either order. The order says which slot of the cell carries it: in order 0 slot t * C + c, in
+ * order 1 slot c * T + t.
+ *
+ * A sample is the unsigned reading of its two's complement bits. An ancillary number is 0 to 15: B is worth 8, C 4,
+ * U 2 and V 1; it is 0 where the format has none.
+ */
+
+/* A mark says what an entry that the receiver wrote is worth. */
+enum {
+    RIME_MARK_SOUND = 0,    /* the sample as it was sent, as far as its protection bits tell */
+    RIME_MARK_DOUBTFUL = 1, /* the three protection bits disagree; the sample is given as it came */
+    RIME_MARK_MISSING = 2   /* an entry of a cell that did not come; sample and ancillary are 0 */
+};
+
+/* Refusal numbers. */
+enum {
+    RIME_DONE = 0,
+    RIME_REFUSED_FORMAT = 1,      /* the octet is none of the eleven */
+    RIME_REFUSED_CHANNELS = 2,    /* C is 0 or above S */
+    RIME_REFUSED_ORDER = 3,       /* order above 1 */
+    RIME_REFUSED_STATE = 4,       /* a number in a state, or a start number, that cannot be */
+    RIME_REFUSED_LENGTH = 5,      /* a cell not of 48 octets, or runs of a wrong length */
+    RIME_REFUSED_SAMPLE = 6,      /* a sample or an ancillary number too large for the format */
+    RIME_REFUSED_INDICATION = 7,  /* sending indication 1 where the number isn't a multiple of 8 */
+    RIME_REFUSED_NUMBER = 8,      /* the cell's eight number bits are in no entry of Table A.1 */
+    RIME_REFUSED_REPEAT = 9,      /* the cell has the number of the last one */
+    RIME_REFUSED_ROOM = 10,       /* too little room for the missing cells and this one */
+    RIME_REFUSED_LOG_NUMBER = 11, /* a log number not in its shortest form, too long or cut; an indication above 1 */
+    RIME_REFUSED_LOG_RECORD = 12, /* a record cut before its 48 octets end */
+    RIME_REFUSED_LOG_LENGTH = 13, /* given by the program linelist alone */
+    RIME_REFUSED_STATUS = 14      /* a channel status input that cannot be */
+};
+
+/* Places in a sender's state. The three yes-or-no octets here and below: 0 is no, any other octet is yes. */
+enum {
+    RIME_SENDER_FORMAT = 0,
+    RIME_SENDER_CHANNELS = 1,
+    RIME_SENDER_ORDER = 2,
+    RIME_SENDER_NUMBER = 3,       /* of the next cell */
+    RIME_SENDER_WANTED = 4,       /* yes: second numbers are kept */
+    RIME_SENDER_SECOND = 5,       /* the second number's last value; before the first cell, its start */
+    RIME_SENDER_SENT = 6          /* yes: a cell was sent */
+};
+
+/* Places in a receiver's state. */
+enum {
+    RIME_RECEIVER_FORMAT = 0,
+    RIME_RECEIVER_CHANNELS = 1,
+    RIME_RECEIVER_ORDER = 2,
+    RIME_RECEIVER_STARTED = 3,    /* yes: a cell was accepted */
+    RIME_RECEIVER_LAST = 4        /* number of the last accepted cell, 0 before it and without overhead */
+};
+
+/* Places in what rime_receive reports. */
+enum { RIME_REPORT_MISSING = 0, RIME_REPORT_NUMBER = 1, RIME_REPORT_SECOND = 2, RIME_REPORT_INDICATION = 3 };
+
+/* Places in a channel status block under assembly and in what rime_status_step hands out. */
+enum { RIME_BLOCK_BITS = 0, RIME_BLOCK_OCTETS = 1, RIME_OUT_ANSWER = 0, RIME_OUT_OCTETS = 1 };
+
+/* The answers of rime_status_step. */
+enum { RIME_STATUS_NONE = 0, RIME_STATUS_DOES_NOT_FIT = 1, RIME_STATUS_FITS = 2 };
+
+/* Places in what is read of a log. */
+enum { RIME_HEADER_PLACE = 0, RIME_HEADER_FORMAT = 1, RIME_HEADER_CHANNELS = 2, RIME_HEADER_ORDER = 3 };
+enum { RIME_RECORD_WHAT = 0, RIME_RECORD_INDICATION = 1, RIME_RECORD_START = 2, RIME_RECORD_NEXT = 3 };
+enum { RIME_RECORD_IS_END = 0, RIME_RECORD_IS_CELL = 1 };
+
+/*
+ * Opens a sender. Its first cell will have `number`. With `wanted` it keeps second numbers: `second` goes out in the
+ * first cell and in those after it, and each later cell with indication 1 adds 1 modulo 16. Without, it sends 0.
+ * Leaves in `state` a sender that has sent no cell. All numbers are judged as they stand, never cut: 342 (156 hex)
+ * is not 56 hex.
+ * Refused: 1, the octet is none of the eleven; 2, `channels` is 0 or above S; 3, `order` is above 1; 4, `number` or
+ * `second` is above 15, or second numbers are wanted without overhead or with S = 8, or `second` isn't 0 and they
+ * aren't wanted.
+ */
+uint8_t rime_sender_open(uint32_t format, uint32_t channels, uint32_t order, uint32_t number, bool wanted,
+                         uint32_t second, uint8_t state[RIME_SENDER_STATE]);
+
+/*
+ * Packs one cell. Reads C * T samples and as many ancillary numbers, and writes all 48 octets of `cell`: unused slots
+ * go out as zeros with their protection and sequencing bits. Leaves in `state` the number one higher modulo 16, the
+ * second number that went out, a cell sent, and the yes-or-no octets as 0 or 1.
+ * The number counts in formats without overhead too, so that the indication keeps its rule.
+ * Refused, with `state` and `cell` untouched: 1, 2, 3 and 4, as for the opening, of what stands in `state`; 5, `cell`
+ * isn't 48 octets, or `samples` or `ancillary` isn't C * T long (also where the format has no ancillary); 6, a sample
+ * too large for its bits, an ancillary number above 15, or not 0 where the format has none; 7, `indication` is true
+ * where the cell's number isn't a multiple of 8.
+ */
+uint8_t rime_send(uint8_t state[RIME_SENDER_STATE], bool indication, const uint64_t *samples, size_t samples_len,
+                  const uint8_t *ancillary, size_t ancillary_len, uint8_t *cell, size_t cell_len);
+
+/*
+ * Opens a receiver: leaves in `state` one that is not started, with last number 0. The first cell that it accepts
+ * starts it, whatever its number. Numbers are judged as they stand, never cut.
+ * Refused: 1, the octet is none of the eleven; 2, `channels` is 0 or above S; 3, `order` is above 1.
+ */
+uint8_t rime_receiver_open(uint32_t format, uint32_t channels, uint32_t order, uint8_t state[RIME_RECEIVER_STATE]);
+
+/*
+ * Takes one cell. With d the difference modulo 16 of its number and the last one, d - 1 cells are missing (none at
+ * the first cell, nor ever without overhead). Writes from the start of the three runs C * T entries of sample 0,
+ * ancillary 0 and mark 2 for each missing cell, then the cell's own C * T entries with mark 0, or 1 where the three
+ * protection bits disagree. Entries past these stay. 15 * C * T entries are always room enough. Leaves in `state` the
+ * cell's number and started as 1; in `report` the missing count, the number, the second number (each 0 where the
+ * format has none), and `indication` as it came.
+ * Refused, with `state` and the runs untouched: 1, 2 and 3 of what stands in `state`; 4, a last number above 15, or not
+ * 0 in a state not started or without overhead; 5, `cell` isn't 48 octets or the runs aren't equally long; 8, with
+ * overhead, the eight number bits are in no entry of Table A.1; 9, d is 0; 10, the runs are shorter than d * C * T
+ * (C * T at the first cell): the same cell may be given again with more room.
+ */
+uint8_t rime_receive(uint8_t state[RIME_RECEIVER_STATE], const uint8_t *cell, size_t cell_len, bool indication,
+                     uint64_t *samples, size_t samples_len, uint8_t *ancillary, size_t ancillary_len,
+                     uint8_t *marks, size_t marks_len, uint8_t report[RIME_REPORT]);
+
+/*
+ * Brings one channel's status block forward by one entry that the receiver wrote. `block` is the count of bits begun
+ * and the 24 octets under assembly, 25 zeros at first. B = 1 begins a block with the entry's C bit as bit 0, dropping
+ * an unfinished one; B = 0 adds the C bit to a begun block and otherwise changes nothing; mark 2 drops the block,
+ * whatever B. Bit k is bit k mod 8 of octet k / 8, the lowest being bit 0.
+ * Leaves in `out` an answer and 24 octets: RIME_STATUS_NONE and zeros, unless this was the 192nd bit. Then the octets
+ * are the finished block and the answer says whether octet 23 is the check character of octets 0 to 22. Dropping or
+ * finishing leaves `block` as 25 zeros.
+ * Refused, with `block` untouched and `out` zeros: 14, `mark` above 2, `ancillary` above 15 or more than 191 bits
+ * begun.
+ */
+uint8_t rime_status_step(uint8_t block[RIME_BLOCK], uint8_t ancillary, uint8_t mark, uint8_t out[RIME_OUT]);
+
+/*
+ * Returns the check character of octets 0 to 22 of a channel status block (EBU Tech 3250, Appendix 2), in the bit
+ * order of the block: a block fits where its octet 23 equals it. Octet 23 is not read. Nothing is written and nothing
+ * refused.
+ */
+uint8_t rime_check_character(const uint8_t block[RIME_STATUS_OCTETS]);
+
+/*
+ * Reads the header of a log: three numbers, each in groups of seven bits, low group first, top bit set where more
+ * follow. Leaves in `header` the place after it, where the first record starts, and the subframe octet, C and order,
+ * with which a receiver can then be opened. The log may be of any length.
+ * Refused, with `header` zeros: 11, one of the three isn't in its shortest form, has over three groups or is cut (an
+ * empty log too); then 1, 2 and 3, of the three numbers as they stand.
+ */
+uint8_t rime_log_header(const uint8_t *log, size_t log_len, uint32_t header[RIME_HEADER]);
+
+/*
+ * Reads the record at `place` of a log: an indication, then a cell. Leaves in `record` that it is a cell, its
+ * indication, the place where its 48 octets start in `log`, and the next place. A place at the log's end or past it,
+ * however large, leaves the end: 0, 0, 0 and `place` as given.
+ * Refused, with `record` zeros: 11, the indication is above 1, not in its shortest form or cut; 12, the log ends
+ * before the 48 octets do.
+ */
+uint8_t rime_log_record(const uint8_t *log, size_t log_len, size_t place, uint64_t record[RIME_RECORD]);
+
+#ifdef __cplusplus
+}
+#endif
+
+#endif

@@ -1,0 +1,134 @@
+//! A case put to the proved library through the face: nothing where a number is wider than the face's type for it, or
+//! where the part of the library isn't linked.
+
+use crate::case::{values, Answer, Case, Kind, Value};
+use crate::face::{self, Runs};
+
+pub fn by_library(case: &Case) -> Option<Answer> {
+    match case.kind {
+        Kind::SenderOpen if cfg!(feature = "boxes") => sender_open(case),
+        Kind::ReceiverOpen if cfg!(feature = "boxes") => receiver_open(case),
+        Kind::Send if cfg!(feature = "boxes") => send(case),
+        Kind::Receive if cfg!(feature = "boxes") => receive(case),
+        Kind::StatusStep if cfg!(feature = "status") => status_step(case),
+        Kind::CheckCharacter if cfg!(feature = "status") => check_character(case),
+        Kind::ReadHeader if cfg!(feature = "log") => read_header(case),
+        Kind::ReadRecord if cfg!(feature = "log") => read_record(case),
+        _ => None,
+    }
+}
+
+/// A lent run between entries that must stay: a box that writes past a run's ends breaks the fence.
+struct Fenced<T> {
+    entries: Vec<T>,
+    fence: T,
+}
+
+const FENCE_ENTRIES: usize = 3;
+
+impl<T: Copy + PartialEq> Fenced<T> {
+    fn around(content: &[T], fence: T) -> Fenced<T> {
+        let side = [fence; FENCE_ENTRIES];
+        Fenced { entries: [&side, content, &side].concat(), fence }
+    }
+
+    fn lent(&mut self) -> &mut [T] {
+        let end = self.entries.len() - FENCE_ENTRIES;
+        &mut self.entries[FENCE_ENTRIES..end]
+    }
+
+    /// The run afterwards. A broken fence comes along with it, so that the comparison shows it.
+    fn back(self) -> Vec<T> {
+        let end = self.entries.len() - FENCE_ENTRIES;
+        let fences = [&self.entries[..FENCE_ENTRIES], &self.entries[end..]].concat();
+        if fences.iter().all(|&entry| entry == self.fence) {
+            self.entries[FENCE_ENTRIES..end].to_vec()
+        } else {
+            self.entries
+        }
+    }
+}
+
+/// What arrays that a call fills hold before it: it must not show afterwards.
+const LEFT_OVER: u8 = 0xA5;
+
+fn narrow<T: TryFrom<u64>>(numbers: &[u64]) -> Option<Vec<T>> {
+    numbers.iter().map(|&number| T::try_from(number).ok()).collect()
+}
+
+fn narrow_array<T: TryFrom<u64>, const N: usize>(numbers: &[u64]) -> Option<[T; N]> {
+    narrow(numbers)?.try_into().ok()
+}
+
+fn wide<T: Copy + Into<u64>>(numbers: &[T]) -> Vec<u64> {
+    numbers.iter().map(|&number| number.into()).collect()
+}
+
+fn sender_open(case: &Case) -> Option<Answer> {
+    let numbers: Vec<u64> = case.inputs.iter().map(Value::number).collect();
+    let [format, channels, order, number, _, second] = narrow_array(&numbers)?;
+    let mut state = [LEFT_OVER; 7];
+    let refusal = face::sender_open([format, channels, order], number, case.yes(4), second, &mut state);
+    Some(values![u64::from(refusal), &wide(&state)[..]])
+}
+
+fn receiver_open(case: &Case) -> Option<Answer> {
+    let numbers: Vec<u64> = case.inputs.iter().map(Value::number).collect();
+    let mut state = [LEFT_OVER; 5];
+    let refusal = face::receiver_open(narrow_array(&numbers)?, &mut state);
+    Some(values![u64::from(refusal), &wide(&state)[..]])
+}
+
+fn send(case: &Case) -> Option<Answer> {
+    let mut state = narrow_array(case.run(0))?;
+    let ancillary: Vec<u8> = narrow(case.run(3))?;
+    let mut cell = Fenced::around(case.octets(4), LEFT_OVER);
+    let refusal = face::send(&mut state, case.yes(1), case.run(2), &ancillary, cell.lent());
+    Some(values![u64::from(refusal), &wide(&state)[..], &cell.back()[..]])
+}
+
+fn receive(case: &Case) -> Option<Answer> {
+    let mut state = narrow_array(case.run(0))?;
+    let mut samples = Fenced::around(case.run(3), u64::MAX);
+    let mut ancillary = Fenced::around(&narrow(case.run(4))?, LEFT_OVER);
+    let mut marks = Fenced::around(&narrow(case.run(5))?, LEFT_OVER);
+    let runs = Runs { samples: samples.lent(), ancillary: ancillary.lent(), marks: marks.lent() };
+    let mut report = [LEFT_OVER; 4];
+    let refusal = face::receive(&mut state, case.octets(1), case.yes(2), runs, &mut report);
+    let (ancillary, marks) = (wide(&ancillary.back()), wide(&marks.back()));
+    let mut answer = values![u64::from(refusal), &wide(&state)[..], &samples.back()[..], &ancillary[..], &marks[..]];
+    answer.extend(report.map(|number| Value::Number(number.into())));
+    Some(answer)
+}
+
+fn status_step(case: &Case) -> Option<Answer> {
+    let [bits, ancillary, mark] = narrow_array(&[case.number(0), case.number(2), case.number(3)])?;
+    let mut block = [&[bits], case.octets(1)].concat().try_into().ok()?;
+    let mut out = [LEFT_OVER; 25];
+    let refusal = face::status_step(&mut block, ancillary, mark, &mut out);
+    Some(values![u64::from(refusal), u64::from(block[0]), &block[1..], u64::from(out[0]), &out[1..]])
+}
+
+/// Octet 23 isn't read, so where a case has none it holds anything.
+fn check_character(case: &Case) -> Option<Answer> {
+    let mut block = [LEFT_OVER; 24];
+    block.get_mut(..case.octets(0).len())?.copy_from_slice(case.octets(0));
+    Some(values![u64::from(face::check_character(&block))])
+}
+
+fn read_header(case: &Case) -> Option<Answer> {
+    let mut header = [u32::MAX; 4];
+    let refusal = face::log_header(case.octets(0), &mut header);
+    let mut answer = values![u64::from(refusal)];
+    answer.extend(header.map(|number| Value::Number(number.into())));
+    Some(answer)
+}
+
+fn read_record(case: &Case) -> Option<Answer> {
+    let place = usize::try_from(case.number(1)).ok()?;
+    let mut record = [u64::MAX; 4];
+    let refusal = face::log_record(case.octets(0), place, &mut record);
+    let mut answer = values![u64::from(refusal)];
+    answer.extend(record.map(Value::Number));
+    Some(answer)
+}

@@ -1,0 +1,119 @@
+//! A case put to the plain implementation, under the rules of the face: a yes or no in a state is 0 or anything else,
+//! it comes back as 0 or 1, and a refusal leaves all that was lent as it was.
+
+use crate::case::{values, Answer, Case, Kind, Value};
+use crate::plain::{self, Block, Receiver, Record, Refusal, Sender};
+
+pub fn by_plain(case: &Case) -> Answer {
+    match case.kind {
+        Kind::SenderOpen => sender_open(case),
+        Kind::ReceiverOpen => receiver_open(case),
+        Kind::Send => send(case),
+        Kind::Receive => receive(case),
+        Kind::StatusStep => status_step(case),
+        Kind::CheckCharacter => values![u64::from(plain::check_character(&case.octets(0)[..23]))],
+        Kind::ReadHeader => read_header(case),
+        Kind::ReadRecord => read_record(case),
+        Kind::Linelist => values![plain::listing(case.octets(0)).as_bytes()],
+    }
+}
+
+fn sender_of(state: &[u64]) -> Sender {
+    let [format, channels, order, number, wanted, second, sent] = *state else {
+        panic!("a sender's state has 7 fields")
+    };
+    Sender { format, channels, order, number, wanted: wanted != 0, second, sent: sent != 0 }
+}
+
+fn sender_state(sender: &Sender) -> [u64; 7] {
+    let Sender { format, channels, order, number, wanted, second, sent } = *sender;
+    [format, channels, order, number, u64::from(wanted), second, u64::from(sent)]
+}
+
+fn receiver_of(state: &[u64]) -> Receiver {
+    let [format, channels, order, started, last] = *state else { panic!("a receiver's state has 5 fields") };
+    Receiver { format, channels, order, started: started != 0, last }
+}
+
+fn receiver_state(receiver: &Receiver) -> [u64; 5] {
+    let Receiver { format, channels, order, started, last } = *receiver;
+    [format, channels, order, u64::from(started), last]
+}
+
+/// The refusal of an opening, and its state: zeros where it was refused.
+fn opened<T>(checked: Result<T, Refusal>, state: &[u64]) -> Answer {
+    match checked {
+        Ok(_) => values![0, state],
+        Err(refusal) => values![u64::from(refusal), &vec![0u64; state.len()][..]],
+    }
+}
+
+fn sender_open(case: &Case) -> Answer {
+    let fields: Vec<u64> = case.inputs.iter().map(Value::number).chain([0]).collect();
+    let sender = sender_of(&fields);
+    opened(sender.shape(), &sender_state(&sender))
+}
+
+fn receiver_open(case: &Case) -> Answer {
+    let fields: Vec<u64> = case.inputs.iter().map(Value::number).chain([0, 0]).collect();
+    let receiver = receiver_of(&fields);
+    opened(receiver.shape(), &receiver_state(&receiver))
+}
+
+fn send(case: &Case) -> Answer {
+    let (state, cell) = (case.run(0), case.octets(4));
+    match sender_of(state).send(case.yes(1), case.run(2), case.run(3), cell.len()) {
+        Ok((after, packed)) => values![0, &sender_state(&after)[..], &packed[..]],
+        Err(refusal) => values![u64::from(refusal), state, cell],
+    }
+}
+
+fn receive(case: &Case) -> Answer {
+    let (state, indication) = (case.run(0), case.yes(2));
+    let mut runs = [3, 4, 5].map(|field| case.run(field).to_vec());
+    let (refusal, after, report) =
+        match receiver_of(state).receive(case.octets(1), [0, 1, 2].map(|run| runs[run].len())) {
+            Ok((after, received)) => {
+                for (at, entry) in received.entries.iter().enumerate() {
+                    runs[0][at] = entry.sample;
+                    runs[1][at] = entry.ancillary;
+                    runs[2][at] = entry.mark;
+                }
+                let report = [received.missing, received.number, received.second, u64::from(indication)];
+                (0, receiver_state(&after).to_vec(), report)
+            }
+            Err(refusal) => (u64::from(refusal), state.to_vec(), [0; 4]),
+        };
+    let mut answer = values![refusal, &after[..], &runs[0][..], &runs[1][..], &runs[2][..]];
+    answer.extend(report.map(Value::from));
+    answer
+}
+
+fn status_step(case: &Case) -> Answer {
+    let octets = case.octets(1).try_into().expect("a block has 24 octets");
+    let block = Block { bits: case.number(0), octets };
+    match plain::step(&block, case.number(2), case.number(3)) {
+        Ok((after, None)) => values![0, after.bits, &after.octets[..], 0, &[0u8; 24][..]],
+        Ok((after, Some(handed))) => {
+            let answer = if handed.fits { 2 } else { 1 };
+            values![0, after.bits, &after.octets[..], answer, &handed.octets[..]]
+        }
+        Err(refusal) => values![u64::from(refusal), block.bits, &block.octets[..], 0, &[0u8; 24][..]],
+    }
+}
+
+fn read_header(case: &Case) -> Answer {
+    match plain::header(case.octets(0)) {
+        Ok(header) => values![0, header.place as u64, header.format, header.channels, header.order],
+        Err(refusal) => values![u64::from(refusal), 0, 0, 0, 0],
+    }
+}
+
+fn read_record(case: &Case) -> Answer {
+    let place = case.number(1);
+    match plain::record(case.octets(0), place) {
+        Ok(Record::Cell { indication, start, next }) => values![0, 1, indication, start as u64, next as u64],
+        Ok(Record::End) => values![0, 0, 0, 0, place],
+        Err(refusal) => values![u64::from(refusal), 0, 0, 0, 0],
+    }
+}

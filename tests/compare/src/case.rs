@@ -1,0 +1,182 @@
+//! One call with all that goes in, and all that comes out, as tests/vectors/README.md writes them on a line.
+//!
+//! A case that differs is printed as such a line, so that it can be put in a file and run again by `compare vectors`.
+
+use std::fmt;
+
+#[derive(Clone, Copy, Debug, PartialEq, Eq)]
+pub enum Kind {
+    SenderOpen,
+    ReceiverOpen,
+    Send,
+    Receive,
+    StatusStep,
+    CheckCharacter,
+    ReadHeader,
+    ReadRecord,
+    Linelist,
+}
+
+impl Kind {
+    pub fn name(self) -> &'static str {
+        KINDS.iter().find(|row| row.0 == self).map_or("", |row| row.1)
+    }
+}
+
+/// Kind, name, and the fields in and out: n a number, r a run of numbers or a state, o octets.
+const KINDS: [(Kind, &str, &str, &str); 9] = [
+    (Kind::SenderOpen, "sender_open", "nnnnnn", "nr"),
+    (Kind::ReceiverOpen, "receiver_open", "nnn", "nr"),
+    (Kind::Send, "send", "rnrro", "nro"),
+    (Kind::Receive, "receive", "ronrrr", "nrrrrnnnn"),
+    (Kind::StatusStep, "status_step", "nonn", "nnono"),
+    (Kind::CheckCharacter, "check_character", "o", "n"),
+    (Kind::ReadHeader, "read_header", "o", "nnnnn"),
+    (Kind::ReadRecord, "read_record", "on", "nnnnn"),
+    (Kind::Linelist, "linelist", "o", "o"),
+];
+
+#[derive(Clone, Debug, PartialEq)]
+pub enum Value {
+    Number(u64),
+    Run(Vec<u64>),
+    Octets(Vec<u8>),
+}
+
+pub type Answer = Vec<Value>;
+
+#[derive(Clone, Debug)]
+pub struct Case {
+    pub kind: Kind,
+    pub inputs: Vec<Value>,
+}
+
+impl From<u64> for Value {
+    fn from(number: u64) -> Value {
+        Value::Number(number)
+    }
+}
+
+impl From<bool> for Value {
+    fn from(yes: bool) -> Value {
+        Value::Number(u64::from(yes))
+    }
+}
+
+impl From<&[u64]> for Value {
+    fn from(run: &[u64]) -> Value {
+        Value::Run(run.to_vec())
+    }
+}
+
+impl From<&[u8]> for Value {
+    fn from(octets: &[u8]) -> Value {
+        Value::Octets(octets.to_vec())
+    }
+}
+
+/// `values![refusal, &state[..]]`: fields of any kind as a list.
+macro_rules! values {
+    ($($field:expr),* $(,)?) => { vec![$($crate::case::Value::from($field)),*] };
+}
+pub(crate) use values;
+
+impl Value {
+    pub fn number(&self) -> u64 {
+        match self {
+            Value::Number(number) => *number,
+            _ => panic!("{self:?} isn't a number"),
+        }
+    }
+
+    pub fn run(&self) -> &[u64] {
+        match self {
+            Value::Run(run) => run,
+            _ => panic!("{self:?} isn't a run"),
+        }
+    }
+
+    pub fn octets(&self) -> &[u8] {
+        match self {
+            Value::Octets(octets) => octets,
+            _ => panic!("{self:?} aren't octets"),
+        }
+    }
+
+    fn parse(layout: char, text: &str) -> Option<Value> {
+        match layout {
+            'n' => text.parse().ok().map(Value::Number),
+            'r' if text == "-" => Some(Value::Run(vec![])),
+            'r' => text.split(',').map(|number| number.parse().ok()).collect::<Option<_>>().map(Value::Run),
+            _ if text == "-" => Some(Value::Octets(vec![])),
+            _ => octets_of_hex(text).map(Value::Octets),
+        }
+    }
+}
+
+fn octets_of_hex(text: &str) -> Option<Vec<u8>> {
+    if !text.len().is_multiple_of(2) || !text.is_ascii() {
+        return None;
+    }
+    (0..text.len()).step_by(2).map(|at| u8::from_str_radix(&text[at..at + 2], 16).ok()).collect()
+}
+
+fn parse_fields(layout: &str, text: &str) -> Option<Vec<Value>> {
+    let words: Vec<&str> = text.split_whitespace().collect();
+    if words.len() != layout.len() {
+        return None;
+    }
+    layout.chars().zip(words).map(|(letter, word)| Value::parse(letter, word)).collect()
+}
+
+impl Case {
+    pub fn new(kind: Kind, inputs: Vec<Value>) -> Case {
+        Case { kind, inputs }
+    }
+
+    pub fn number(&self, field: usize) -> u64 {
+        self.inputs[field].number()
+    }
+
+    pub fn yes(&self, field: usize) -> bool {
+        self.number(field) != 0
+    }
+
+    pub fn run(&self, field: usize) -> &[u64] {
+        self.inputs[field].run()
+    }
+
+    pub fn octets(&self, field: usize) -> &[u8] {
+        self.inputs[field].octets()
+    }
+
+    /// A line of the vectors: the case and what must come out.
+    pub fn parse(line: &str) -> Option<(Case, Answer)> {
+        let (inputs, outputs) = line.split_once(" => ")?;
+        let (name, inputs) = inputs.split_once(' ')?;
+        let (kind, _, layout_in, layout_out) = *KINDS.iter().find(|row| row.1 == name)?;
+        Some((Case::new(kind, parse_fields(layout_in, inputs)?), parse_fields(layout_out, outputs)?))
+    }
+}
+
+impl fmt::Display for Value {
+    fn fmt(&self, out: &mut fmt::Formatter) -> fmt::Result {
+        match self {
+            Value::Number(number) => write!(out, "{number}"),
+            Value::Run(run) if run.is_empty() => write!(out, "-"),
+            Value::Run(run) => write!(out, "{}", run.iter().map(u64::to_string).collect::<Vec<_>>().join(",")),
+            Value::Octets(octets) if octets.is_empty() => write!(out, "-"),
+            Value::Octets(octets) => octets.iter().try_for_each(|octet| write!(out, "{octet:02x}")),
+        }
+    }
+}
+
+pub fn fields(values: &[Value]) -> String {
+    values.iter().map(Value::to_string).collect::<Vec<_>>().join(" ")
+}
+
+impl fmt::Display for Case {
+    fn fmt(&self, out: &mut fmt::Formatter) -> fmt::Result {
+        write!(out, "{} {}", self.kind.name(), fields(&self.inputs))
+    }
+}

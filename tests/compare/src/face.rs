@@ -1,0 +1,118 @@
+//! The proved library's functions as include/rimesatchel.h declares them, and a safe call for each.
+//!
+//! A slice carries its own length and two `&mut` never overlap, which is all that the header asks of a caller.
+
+pub type SenderState = [u8; 7];
+pub type ReceiverState = [u8; 5];
+pub type Report = [u8; 4];
+pub type StatusBlock = [u8; 25];
+pub type StatusOut = [u8; 25];
+
+mod raw {
+    use super::{ReceiverState, Report, SenderState, StatusBlock, StatusOut};
+
+    extern "C" {
+        pub fn rime_sender_open(
+            format: u32,
+            channels: u32,
+            order: u32,
+            number: u32,
+            wanted: bool,
+            second: u32,
+            state: *mut SenderState,
+        ) -> u8;
+        pub fn rime_send(
+            state: *mut SenderState,
+            indication: bool,
+            samples: *const u64,
+            samples_len: usize,
+            ancillary: *const u8,
+            ancillary_len: usize,
+            cell: *mut u8,
+            cell_len: usize,
+        ) -> u8;
+        pub fn rime_receiver_open(format: u32, channels: u32, order: u32, state: *mut ReceiverState) -> u8;
+        pub fn rime_receive(
+            state: *mut ReceiverState,
+            cell: *const u8,
+            cell_len: usize,
+            indication: bool,
+            samples: *mut u64,
+            samples_len: usize,
+            ancillary: *mut u8,
+            ancillary_len: usize,
+            marks: *mut u8,
+            marks_len: usize,
+            report: *mut Report,
+        ) -> u8;
+        pub fn rime_status_step(block: *mut StatusBlock, ancillary: u8, mark: u8, out: *mut StatusOut) -> u8;
+        pub fn rime_check_character(block: *const [u8; 24]) -> u8;
+        pub fn rime_log_header(log: *const u8, log_len: usize, header: *mut [u32; 4]) -> u8;
+        pub fn rime_log_record(log: *const u8, log_len: usize, place: usize, record: *mut [u64; 4]) -> u8;
+    }
+}
+
+pub fn sender_open(
+    [format, channels, order]: [u32; 3],
+    number: u32,
+    wanted: bool,
+    second: u32,
+    state: &mut SenderState,
+) -> u8 {
+    // SAFETY: see the head of this file; so below.
+    unsafe { raw::rime_sender_open(format, channels, order, number, wanted, second, state) }
+}
+
+pub fn send(state: &mut SenderState, indication: bool, samples: &[u64], ancillary: &[u8], cell: &mut [u8]) -> u8 {
+    let (cell_at, cell_len) = (cell.as_mut_ptr(), cell.len());
+    let (samples_at, ancillary_at) = (samples.as_ptr(), ancillary.as_ptr());
+    unsafe {
+        raw::rime_send(state, indication, samples_at, samples.len(), ancillary_at, ancillary.len(), cell_at, cell_len)
+    }
+}
+
+pub fn receiver_open([format, channels, order]: [u32; 3], state: &mut ReceiverState) -> u8 {
+    unsafe { raw::rime_receiver_open(format, channels, order, state) }
+}
+
+/// The three runs that the receiver writes to.
+pub struct Runs<'a> {
+    pub samples: &'a mut [u64],
+    pub ancillary: &'a mut [u8],
+    pub marks: &'a mut [u8],
+}
+
+pub fn receive(state: &mut ReceiverState, cell: &[u8], indication: bool, runs: Runs, report: &mut Report) -> u8 {
+    let Runs { samples, ancillary, marks } = runs;
+    unsafe {
+        raw::rime_receive(
+            state,
+            cell.as_ptr(),
+            cell.len(),
+            indication,
+            samples.as_mut_ptr(),
+            samples.len(),
+            ancillary.as_mut_ptr(),
+            ancillary.len(),
+            marks.as_mut_ptr(),
+            marks.len(),
+            report,
+        )
+    }
+}
+
+pub fn status_step(block: &mut StatusBlock, ancillary: u8, mark: u8, out: &mut StatusOut) -> u8 {
+    unsafe { raw::rime_status_step(block, ancillary, mark, out) }
+}
+
+pub fn check_character(block: &[u8; 24]) -> u8 {
+    unsafe { raw::rime_check_character(block) }
+}
+
+pub fn log_header(log: &[u8], header: &mut [u32; 4]) -> u8 {
+    unsafe { raw::rime_log_header(log.as_ptr(), log.len(), header) }
+}
+
+pub fn log_record(log: &[u8], place: usize, record: &mut [u64; 4]) -> u8 {
+    unsafe { raw::rime_log_record(log.as_ptr(), log.len(), place, record) }
+}

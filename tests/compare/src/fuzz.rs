@@ -1,0 +1,121 @@
+//! The comparison: pseudo-random scenarios put to the plain implementation and the library, everything compared.
+//!
+//! A scenario is one call, or a sequence in which states are carried on. It depends on the seed and its own number
+//! alone, so one scenario can be played again without those before it.
+
+mod boxes;
+mod inputs;
+mod line;
+mod log;
+mod status;
+
+use std::collections::BTreeMap;
+use std::path::Path;
+
+use crate::answers::{by_library, by_plain};
+use crate::case::{fields, Answer, Case, Kind};
+use crate::random::Random;
+use crate::vectors::by_program;
+
+/// A case that the two answer differently.
+pub struct Difference {
+    case: Case,
+    plain: Answer,
+    other: Answer,
+}
+
+pub type Played = Result<(), Box<Difference>>;
+
+/// Puts each case to both and keeps count of what was answered, by kind and refusal.
+pub struct Referee<'a> {
+    linelist: Option<&'a Path>,
+    calls: usize,
+    not_asked: usize,
+    answered: BTreeMap<(&'static str, u64), usize>,
+}
+
+impl Referee<'_> {
+    fn new(linelist: Option<&Path>) -> Referee<'_> {
+        Referee { linelist, calls: 0, not_asked: 0, answered: BTreeMap::new() }
+    }
+
+    pub fn call(&mut self, case: Case) -> Result<Answer, Box<Difference>> {
+        self.calls += 1;
+        let plain = by_plain(&case);
+        let other = match case.kind {
+            Kind::Linelist => self.listed(&case),
+            _ => by_library(&case),
+        };
+        let numbered = !matches!(case.kind, Kind::CheckCharacter | Kind::Linelist);
+        let refusal = if numbered { plain[0].number() } else { 0 };
+        *self.answered.entry((case.kind.name(), refusal)).or_default() += 1;
+        match other {
+            None => self.not_asked += 1,
+            Some(other) if other != plain => return Err(Box::new(Difference { case, plain, other })),
+            Some(_) => {}
+        }
+        Ok(plain)
+    }
+
+    fn listed(&self, case: &Case) -> Option<Answer> {
+        self.linelist.map(|program| by_program(program, case.octets(0)).expect("linelist runs"))
+    }
+
+    fn report(&self) {
+        for (&(kind, refusal), count) in &self.answered {
+            println!("  {kind} {refusal}: {count}");
+        }
+        println!("{} calls, {} of them not asked of the library, no difference", self.calls, self.not_asked);
+    }
+}
+
+fn play(scenario: u64, seed: u64, referee: &mut Referee) -> Played {
+    let mut random = Random::for_scenario(seed, scenario);
+    match random.below(64) {
+        0..=3 => boxes::open_sender(&mut random, referee),
+        4..=6 => boxes::open_receiver(&mut random, referee),
+        7..=22 => boxes::one_send(&mut random, referee),
+        23..=42 => boxes::one_receive(&mut random, referee),
+        43..=46 => line::reading(&mut random, referee),
+        47..=55 => log::walk(&mut random, referee),
+        56..=60 => status::one_step(&mut random, referee),
+        61 if scenario.is_multiple_of(8) => status::sequence(&mut random, referee),
+        62 if scenario.is_multiple_of(8) => log::list(&mut random, referee),
+        _ => status::check(&mut random, referee),
+    }
+}
+
+fn show(difference: &Difference, scenario: u64, seed: u64) {
+    let Difference { case, plain, other } = difference;
+    println!("difference in scenario {scenario} of seed {seed}; again: compare replay {seed} {scenario}");
+    println!("as a line for compare vectors:\n{case} => {}", fields(plain));
+    println!("the other gives:\n{}", fields(other));
+}
+
+/// True where `calls` calls, or somewhat more to end the last scenario, show no difference.
+pub fn run(calls: usize, seed: u64, linelist: Option<&Path>) -> bool {
+    let mut referee = Referee::new(linelist);
+    for scenario in 0.. {
+        if referee.calls >= calls {
+            break;
+        }
+        if let Err(difference) = play(scenario, seed, &mut referee) {
+            show(&difference, scenario, seed);
+            return false;
+        }
+    }
+    println!("fuzz, seed {seed}: calls by kind and refusal");
+    referee.report();
+    true
+}
+
+/// Plays one scenario again.
+pub fn replay(seed: u64, scenario: u64, linelist: Option<&Path>) -> bool {
+    let mut referee = Referee::new(linelist);
+    let played = play(scenario, seed, &mut referee);
+    match &played {
+        Ok(()) => referee.report(),
+        Err(difference) => show(difference, scenario, seed),
+    }
+    played.is_ok()
+}

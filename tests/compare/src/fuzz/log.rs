@@ -1,0 +1,88 @@
+//! Logs, whole and damaged: the header, then record after record, and places anywhere.
+
+use super::inputs::{alter, cell, setup, wrong_number};
+use super::{Played, Referee};
+use crate::case::{values, Case, Kind};
+use crate::plain::Shape;
+use crate::random::Random;
+
+/// A log number, one time in twelve longer than its shortest form.
+fn put_number(log: &mut Vec<u8>, mut number: u64, random: &mut Random) {
+    let longer = random.one_in(12);
+    while number >= 128 {
+        log.push((number % 128) as u8 + 128);
+        number /= 128;
+    }
+    match longer {
+        true => log.extend([number as u8 + 128, 0]),
+        false => log.push(number as u8),
+    }
+}
+
+fn header(random: &mut Random) -> (Vec<u8>, [u64; 3]) {
+    let mut numbers = setup(random);
+    if random.one_in(5) {
+        let field = random.place(3);
+        numbers[field] = wrong_number(numbers[field], random);
+    }
+    let mut log = vec![];
+    numbers.iter().for_each(|&number| put_number(&mut log, number, random));
+    (log, numbers)
+}
+
+fn log(random: &mut Random) -> Vec<u8> {
+    let (mut log, [format, channels, order]) = header(random);
+    let Ok(shape) = Shape::new(format, channels, order) else { return log };
+    let mut number = random.below(16);
+    let records = if random.one_in(50) { 200 } else { random.below(12) };
+    for _ in 0..records {
+        log.push(if random.one_in(40) { random.below(256) as u8 } else { random.below(2) as u8 });
+        let mut octets = cell(&shape, number, random);
+        alter(&mut octets, &shape, random);
+        log.extend(octets);
+        number = (number + random.pick(&[0, 1, 1, 1, 1, 2, 14, 15])) % 16;
+    }
+    damage(&mut log, random);
+    log
+}
+
+fn damage(log: &mut Vec<u8>, random: &mut Random) {
+    let place = random.place(log.len());
+    match random.below(8) {
+        0 => log.truncate(place),
+        1 => log[place] = random.number() as u8,
+        2 => log.insert(place, random.number() as u8),
+        3 => log.truncate(log.len() - 1),
+        _ => {}
+    }
+}
+
+fn read_record(log: &[u8], place: u64, referee: &mut Referee) -> Result<Option<u64>, Box<super::Difference>> {
+    let answer = referee.call(Case::new(Kind::ReadRecord, values![log, place]))?;
+    let is_cell = answer[1].number() == 1;
+    Ok(is_cell.then(|| answer[4].number()))
+}
+
+pub fn walk(random: &mut Random, referee: &mut Referee) -> Played {
+    let log = log(random);
+    let answer = referee.call(Case::new(Kind::ReadHeader, values![&log[..]]))?;
+    let mut next = Some(answer[1].number());
+    while let Some(place) = next {
+        next = read_record(&log, place, referee)?;
+    }
+    let length = log.len() as u64;
+    let past = [length, length + 1, u64::MAX, u64::MAX - 48, 1 << 63, 1 << 32];
+    read_record(&log, random.below(length + 2), referee)?;
+    read_record(&log, random.pick(&past), referee)?;
+    Ok(())
+}
+
+/// Now and then the log is as long as `linelist` takes, or one octet longer.
+pub fn list(random: &mut Random, referee: &mut Referee) -> Played {
+    let mut log = log(random);
+    if random.one_in(8) {
+        let whole = log.clone();
+        log = whole.iter().copied().chain(std::iter::repeat(0)).take(random.pick(&[65_535, 65_536, 65_537])).collect();
+    }
+    referee.call(Case::new(Kind::Linelist, values![&log[..]])).map(|_| ())
+}

@@ -1,0 +1,58 @@
+//! compare: the proved library held against a plain implementation of document 01. See `USAGE`.
+
+mod answers;
+mod case;
+mod face;
+mod fuzz;
+mod plain;
+mod random;
+mod story;
+mod vectors;
+
+use std::error::Error;
+use std::path::Path;
+use std::process::ExitCode;
+
+const DEFAULT_SEED: u64 = 1;
+const USAGE: &str = "\
+compare vectors DIR [LINELIST]   run the lines of DIR, and those of linelist by the program LINELIST too
+compare fuzz COUNT [SEED [LINELIST]]
+                                 compare COUNT pseudo-random calls, and listings with those of LINELIST
+compare replay SEED SCENARIO [LINELIST]
+                                 play one scenario of a fuzz run again
+compare story                    play demand 3: a sender, a line that drops and spoils, a receiver";
+
+/// The program, if it stands there: while the crates grow it may not be built yet.
+fn built(program: &str) -> Option<&Path> {
+    let path = Path::new(program);
+    if !path.exists() {
+        println!("{program} does not exist: no listing is compared with it");
+    }
+    Some(path).filter(|path| path.exists())
+}
+
+fn run(words: &[&str]) -> Result<bool, Box<dyn Error>> {
+    match words {
+        ["vectors", folder] => vectors::run(Path::new(folder), None),
+        ["vectors", folder, program] => vectors::run(Path::new(folder), built(program)),
+        ["fuzz", count] => Ok(fuzz::run(count.parse()?, DEFAULT_SEED, None)),
+        ["fuzz", count, seed] => Ok(fuzz::run(count.parse()?, seed.parse()?, None)),
+        ["fuzz", count, seed, program] => Ok(fuzz::run(count.parse()?, seed.parse()?, built(program))),
+        ["replay", seed, scenario] => Ok(fuzz::replay(seed.parse()?, scenario.parse()?, None)),
+        ["replay", seed, scenario, program] => Ok(fuzz::replay(seed.parse()?, scenario.parse()?, built(program))),
+        ["story"] => Ok(story::run()),
+        _ => Err(USAGE.into()),
+    }
+}
+
+fn main() -> ExitCode {
+    let words: Vec<String> = std::env::args().skip(1).collect();
+    match run(&words.iter().map(String::as_str).collect::<Vec<_>>()) {
+        Ok(true) => ExitCode::SUCCESS,
+        Ok(false) => ExitCode::FAILURE,
+        Err(fault) => {
+            eprintln!("{fault}");
+            ExitCode::from(2)
+        }
+    }
+}

@@ -1,0 +1,108 @@
+//! The log: its numbers, the header, a record, and the lines that `linelist` prints.
+
+use super::boxes::Receiver;
+use super::cells::{Shape, CELL_OCTETS};
+use super::{refuse_if, Refusal};
+
+const MOST_GROUPS: usize = 3;
+const MOST_LISTED: usize = 65_536;
+/// The most that one cell brings: fourteen missing and its own, at 48 entries each.
+const AMPLE_ROOM: usize = 15 * 48;
+
+/// A log number at `place` and the place after it.
+fn log_number(log: &[u8], place: usize) -> Result<(u64, usize), Refusal> {
+    let rest = &log[place.min(log.len())..];
+    let groups = 1 + rest.iter().position(|&octet| octet < 128).ok_or(11)?;
+    refuse_if(groups > MOST_GROUPS, 11)?;
+    refuse_if(groups > 1 && rest[groups - 1] == 0, 11)?;
+    let number = rest[..groups].iter().rev().fold(0, |number, &octet| number * 128 + u64::from(octet % 128));
+    Ok((number, place + groups))
+}
+
+pub struct Header {
+    pub place: usize,
+    pub format: u64,
+    pub channels: u64,
+    pub order: u64,
+}
+
+/// "11 as met, then 1 to 3".
+pub fn header(log: &[u8]) -> Result<Header, Refusal> {
+    let (format, place) = log_number(log, 0)?;
+    let (channels, place) = log_number(log, place)?;
+    let (order, place) = log_number(log, place)?;
+    Shape::new(format, channels, order)?;
+    Ok(Header { place, format, channels, order })
+}
+
+pub enum Record {
+    End,
+    Cell { indication: bool, start: usize, next: usize },
+}
+
+/// "A place at the log's end or past it answers the end."
+pub fn record(log: &[u8], place: u64) -> Result<Record, Refusal> {
+    if place >= log.len() as u64 {
+        return Ok(Record::End);
+    }
+    let (indication, start) = log_number(log, place as usize)?;
+    refuse_if(indication > 1, 11)?;
+    refuse_if(log.len() - start < CELL_OCTETS, 12)?;
+    Ok(Record::Cell { indication: indication == 1, start, next: start + CELL_OCTETS })
+}
+
+/// What `linelist` prints for a log.
+pub fn listing(log: &[u8]) -> String {
+    let judged = refuse_if(log.len() > MOST_LISTED, 13).and_then(|()| header(log));
+    match judged {
+        Err(refusal) => format!("log refused {refusal}\n"),
+        Ok(header) => records_listed(log, &header),
+    }
+}
+
+/// Cells that a listing counts.
+#[derive(Default)]
+struct Tally {
+    sound: u64,
+    missing: u64,
+    refused: u64,
+}
+
+fn records_listed(log: &[u8], header: &Header) -> String {
+    let Header { format, channels, order, .. } = *header;
+    let mut text = format!("format {format} {channels} {order}\n");
+    let mut receiver = Receiver { format, channels, order, started: false, last: 0 };
+    let mut tally = Tally::default();
+    let mut place = header.place as u64;
+    for index in 0.. {
+        let line = match record(log, place) {
+            Ok(Record::End) => break,
+            Ok(Record::Cell { start, next, .. }) => {
+                place = next as u64;
+                cell_line(&mut receiver, &mut tally, &log[start..next])
+            }
+            Err(refusal) => {
+                text += &format!("{index} broken {refusal}\n");
+                break;
+            }
+        };
+        text += &format!("{index} {line}\n");
+    }
+    let Tally { sound, missing, refused } = tally;
+    text + &format!("end {sound} sound {missing} missing {refused} refused\n")
+}
+
+fn cell_line(receiver: &mut Receiver, tally: &mut Tally, cell: &[u8]) -> String {
+    match receiver.receive(cell, [AMPLE_ROOM; 3]) {
+        Ok((after, received)) => {
+            *receiver = after;
+            tally.sound += 1;
+            tally.missing += received.missing;
+            format!("sound {} number {}", received.missing, received.number)
+        }
+        Err(refusal) => {
+            tally.refused += 1;
+            format!("refused {refusal}")
+        }
+    }
+}
