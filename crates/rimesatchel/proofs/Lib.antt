@@ -1,3 +1,4 @@
+pub mod BoxesOne
 pub mod Copies
 pub mod Leaves
 pub mod LogsOne
