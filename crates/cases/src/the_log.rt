@@ -1,15 +1,7 @@
 // Document 01, "The log": 128 is 80 01; 80 00 is refused 11; an empty log is refused 11.
+use super::say;
+use super::wide;
 use libc::STDOUT_FILENO;
-
-fn wide(octet: u8) -> u64 {
-    octet as u64
-}
-
-fn say(what: &[u8], refusal: u8) {
-    io::write_all(STDOUT_FILENO, what);
-    io::print_decimal(STDOUT_FILENO, wide(refusal));
-    io::write_all(STDOUT_FILENO, b"\n");
-}
 
 pub fn cases() {
     let mut run = [0u8; 2];
