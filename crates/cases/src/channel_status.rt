@@ -9,7 +9,7 @@ fn tell(what: &[u8], character: u8) {
     io::write_all(STDOUT_FILENO, b"\n");
 }
 
-pub fn cases() {
+pub(crate) fn cases() {
     let mut first = [0u8; 24];
     first[0] = 0b11_1101;
     first[1] = 0b10;

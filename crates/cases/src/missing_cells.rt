@@ -36,7 +36,7 @@ fn taken(last: u8, next: u8) -> receiver::Received {
     )
 }
 
-pub fn cases() {
+pub(crate) fn cases() {
     say(b"last 15, next 0: missing ", taken(15, 0).missing);
     say(b"last 3, next 2: missing ", taken(3, 2).missing);
     say(b"last 3, next 3: refused ", taken(3, 3).refusal);

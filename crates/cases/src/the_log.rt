@@ -3,7 +3,7 @@ use super::say;
 use super::wide;
 use libc::STDOUT_FILENO;
 
-pub fn cases() {
+pub(crate) fn cases() {
     let mut run = [0u8; 2];
     log::keep::write_number(&mut run, 0, 128);
     io::write_all(STDOUT_FILENO, b"log number 128: ");
