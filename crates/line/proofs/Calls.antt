@@ -7,6 +7,7 @@ use Prim.Native.Nat.{ℕ, _*_, _-_}
 use borrow.Author.Tests.{ne-eqb}
 use lib.ListN.{length, replicate}
 use Rattle.runs.specs.Runs.{over}
+use Rattle.formats.specs.Formats.{formatOf}
 use Rattle.sender.specs.Sender as S
 use Rattle.receiver.specs.Receiver as R
 use Rattle.line.specs.Demands.{
@@ -18,6 +19,7 @@ use Rattle.line.specs.Demands.{
   ReceivedNothing,
   InSettings,
   GivesBack,
+  Tells,
 }
 use Rattle.line.proofs.Cells.{
   sent-refusal,
@@ -26,6 +28,9 @@ use Rattle.line.proofs.Cells.{
   ancillary-there,
   marks-there,
   unused-there,
+  cell-number,
+  cell-second,
+  cell-no-second,
 }
 
 pub sends-or-nothing : (c : SendCall) → Sends c
@@ -90,4 +95,25 @@ gives-back s r sends sent same unaltered receives received =
           (ap (R.marksNow (r .state)) arrived ∙ marks-there (s .state) (s .indication) (s .samples) (s .ancillary) room none same));
       unused-zero =
           λ past h. rw written (unused-there (s .state) (s .indication) (s .samples) (s .ancillary) room none past h);
+    }
+
+pub tells : (s : SendCall) (r : ReceiveCall) → Sends s → s .answer .refusal ≡ 0 → InSettings (s .state) (r .state)
+    → (formatOf (s .state .format) .overhead ≡ 0 → ⊥) → r .cell ≡ s .written → Receives r → r .answer .refusal ≡ 0 → Tells s r
+unfolding R.receivedOf S.cellAfter
+tells s r sends sent same over unaltered receives received =
+    let none = sym (sent-refusal s sends) ∙ sent in
+    let taken = sym (received-refusal r receives) ∙ received in
+    let arrived : r .cell ≡ S.cellNow (s .state) (s .indication) (s .samples) (s .ancillary) = unaltered ∙ sends .cell-after ∙ rw none in
+    let second : r .answer .second
+    ≡ R.secondNow (formatOf (s .state .format)) (S.cellNow (s .state) (s .indication) (s .samples) (s .ancillary))
+    = ap (λ x. x .second) (receives .answered) ∙ (rw taken) ∙ (λ i. R.secondNow (formatOf (same .format i)) (arrived i)) in
+    let room = length (s .cell) in
+    record {
+      number-told =
+          ap (λ x. x .number) (receives .answered)
+          ∙ (rw taken)
+          ∙ (λ i. R.numberNow (formatOf (same .format i)) (arrived i))
+          ∙ cell-number (s .state) (s .indication) (s .samples) (s .ancillary) room none over;
+      second-told = λ enough. second ∙ cell-second (s .state) (s .indication) (s .samples) (s .ancillary) room none over enough;
+      no-second-told = λ less. second ∙ cell-no-second (s .state) (s .indication) (s .samples) (s .ancillary) room none over less;
     }

@@ -1,23 +1,26 @@
 -- A cell that a sender wrote, at a receiver in its settings: what it takes off it.
 -- Assumes nothing.
-use mathlib.Core.Bool.{Bool, cond}
+use mathlib.Core.Bool.{Bool, true, false, cond, _&&_}
 use mathlib.Core.List.{List, _++_}
 use mathlib.Core.Path.{_≡_, refl, sym, _∙_, ap, ap₂}
 use Prim.Native.Nat.{ℕ, zero, _+_, _*_, _-_, _≤_, _<_}
+use native.Mathlib.Nat.{mod-lt}
 use native.Mathlib.Omega.{arith}
-use borrow.Author.Tests.{eqb-true}
+use borrow.Author.Tests.{ne-eqb, eqb-true}
 use lib.Dec.{eqb}
 use lib.ListN.{length, replicate}
 use Rattle.runs.specs.Runs.{over}
 use Rattle.runs.proofs.Laws.{split}
 use Rattle.formats.specs.declared.Format.{Format}
 use Rattle.formats.specs.Formats.{formatOf, timesOf, settled}
+use Rattle.numbers.specs.Numbers.{numberIn}
+use Rattle.numbers.proofs.Laws.{entry-lt, number-entry}
 use Rattle.cells.specs.Cells.{subframeAt, sampleIn, ancillaryIn, markIn, entriesOf}
-use Rattle.cells.proofs.Whole.{cell-length, samples-back, ancillaries-back, marks-back, unused-zero}
+use Rattle.cells.proofs.Whole.{cell-length, eight-in-back, second-in-back, second-in-none, samples-back, ancillaries-back, marks-back, unused-zero}
 use Rattle.sender.specs.declared.Sender.{Sender}
 use Rattle.sender.specs.Packing.{Packable}
 use Rattle.sender.specs.Sender as S
-use Rattle.sender.proofs.Laws.{packable}
+use Rattle.sender.proofs.Laws.{packable, passes}
 use Rattle.receiver.specs.declared.Receiver.{Receiver}
 use Rattle.receiver.specs.Receiver as R
 use Rattle.line.specs.Demands.{SendCall, Sends, ReceiveCall, Receives, InSettings}
@@ -53,6 +56,40 @@ module _ (st : Sender) (indication : Bool) (samples ancillary : List ℕ) (room 
     pub cell-48 : length (S.cellNow st indication samples ancillary) ≡ 48
     unfolding S.cellNow
     cell-48 = cell-length (fits .limits .sound) _ (st .channels) (S.timesNow st) _ _ samples ancillary
+
+    pub cell-number : (formatOf (st .format) .overhead ≡ 0 → ⊥) → R.numberNow (formatOf (st .format)) (S.cellNow st indication samples ancillary) ≡ st .number
+    unfolding S.cellNow R.numberNow
+    cell-number over =
+        let less : st .number < 16 = omega (arith, passes st indication samples ancillary room none .number-to) in
+        rw (ne-eqb _ 0 over)
+        (ap numberIn
+        (eight-in-back (fits .limits .sound) _ (st .channels) (S.timesNow st) _ _ samples ancillary (fits .small) (fits .few) over (entry-lt less))
+        ∙ number-entry less)
+
+    second-small : S.secondNow st indication < 16
+    unfolding S.secondNow
+    second-small =
+        either (st .wanted && (indication && st .sent)) (mod-lt _ (omega arith))
+        (omega (arith, passes st indication samples ancillary room none .second-to))
+      where
+        either : (b : Bool) {x y : ℕ} → x < 16 → y < 16 → cond b x y < 16
+        either true hx hy = hx
+        either false hx hy = hy
+
+    pub cell-second : (formatOf (st .format) .overhead ≡ 0 → ⊥) → 12 ≤ formatOf (st .format) .slots
+        → R.secondNow (formatOf (st .format)) (S.cellNow st indication samples ancillary) ≡ S.secondNow st indication
+    unfolding S.cellNow R.secondNow
+    cell-second over enough =
+        rw (ne-eqb _ 0 over)
+        (second-in-back (fits .limits .sound) _ (st .channels) (S.timesNow st) _ _ samples ancillary (fits .small) (fits .few) over enough
+        second-small)
+
+    pub cell-no-second : (formatOf (st .format) .overhead ≡ 0 → ⊥) → formatOf (st .format) .slots < 12
+        → R.secondNow (formatOf (st .format)) (S.cellNow st indication samples ancillary) ≡ 0
+    unfolding S.cellNow R.secondNow
+    cell-no-second over less =
+        rw (ne-eqb _ 0 over)
+        (second-in-none (fits .limits .sound) _ (st .channels) (S.timesNow st) _ _ samples ancillary (fits .small) (fits .few) over less)
 
     pub unused-there : {k : ℕ} → S.usedNow st ≤ k → k < formatOf (st .format) .slots
         → (sampleIn (formatOf (st .format)) (subframeAt (formatOf (st .format)) (S.cellNow st indication samples ancillary) k) ≡ 0)

@@ -18,6 +18,7 @@ use Rattle.line.specs.Demands.{
   ReceivedNothing,
   InSettings,
   GivesBack,
+  Tells,
 }
 use Rattle.line.specs.Line.{
   Trip,
@@ -36,7 +37,7 @@ use Rattle.line.specs.Line.{
   Demand3,
   Demanded,
 }
-use Rattle.line.proofs.Calls.{sends-or-nothing, receives-or-nothing, gives-back}
+use Rattle.line.proofs.Calls.{sends-or-nothing, receives-or-nothing, gives-back, tells}
 use Rattle.line.proofs.Places.{due-places, between, longest-inside}
 use Rattle.line.proofs.Rows.{never, hands-out}
 
@@ -58,6 +59,11 @@ demand-1-receive = receives-or-nothing
 pub demand-2 : (s : SendCall) (r : ReceiveCall) → Sends s → s .answer .refusal ≡ 0 → InSettings (s .state) (r .state)
     → r .cell ≡ s .written → Receives r → r .answer .refusal ≡ 0 → GivesBack s r
 demand-2 = gives-back
+
+-- Beside it, with overhead: the numbers that the cell carries are reported.
+pub demand-2-numbers : (s : SendCall) (r : ReceiveCall) → Sends s → s .answer .refusal ≡ 0 → InSettings (s .state) (r .state)
+    → (formatOf (s .state .format) .overhead ≡ 0 → ⊥) → r .cell ≡ s .written → Receives r → r .answer .refusal ≡ 0 → Tells s r
+demand-2-numbers = tells
 
 -- What demand 3 says and a little more: cells lost before the first unaltered one and after the last may be more than fourteen.
 pub demand-3-inside : (st : Sender) (trips : List Trip) (calls : List ReceiveCall) (column : Column)

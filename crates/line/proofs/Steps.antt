@@ -19,7 +19,7 @@ use Rattle.runs.proofs.Laws.{split, then-later}
 use Rattle.formats.specs.declared.Format.{Format}
 use Rattle.formats.specs.Formats.{formatOf, settingsRefusal, settled}
 use Rattle.numbers.specs.Numbers.{entryOf, numberIn, differenceOf}
-use Rattle.numbers.proofs.Laws.{entry-lt, number-entry, entry-number-in, table-apart}
+use Rattle.numbers.proofs.Laws.{entry-lt, entry-number-in, table-apart}
 use Rattle.cells.specs.Cells.{eightIn}
 use Rattle.cells.proofs.Whole.{eight-in-back}
 use Rattle.sender.specs.declared.Sender.{Sender}
@@ -32,7 +32,7 @@ use Rattle.receiver.proofs.Laws as RL
 use Rattle.line.specs.Demands.{SendCall, Sends, ReceiveCall, Receives, InSettings, GivesBack}
 use Rattle.line.specs.Line.{Trip, cellOn, alteredIn, Roomy, Column, theSamples, theAncillary, theMarks, runAfter, said}
 use Rattle.line.proofs.Calls.{gives-back}
-use Rattle.line.proofs.Cells.{received-refusal, cell-48}
+use Rattle.line.proofs.Cells.{received-refusal, cell-48, cell-number}
 
 -- what stands in the place of a lost cell, and of one that was not lost
 abbrev pub lostValue : Column → ℕ
@@ -84,8 +84,7 @@ module _ (st : Sender) (t : Trip) (with-overhead : formatOf (st .format) .overhe
         with-overhead (entry-lt number-lt)
 
     pub number-sent : R.numberNow f (cellOn st t) ≡ st .number
-    unfolding R.numberNow
-    number-sent = rw (ne-eqb _ 0 with-overhead) (ap numberIn eight-sent ∙ number-entry number-lt)
+    number-sent = cell-number st (t .indication) (t .samples) (t .ancillary) 48 sent with-overhead
 
     -- one, two or three altered bits lead off the table
     pub off-table : (came : List ℕ) → 1 ≤ alteredIn f (cellOn st t) came → alteredIn f (cellOn st t) came ≤ 3

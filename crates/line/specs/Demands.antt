@@ -75,3 +75,9 @@ pub record GivesBack (s : SendCall) (r : ReceiveCall) : Type 0 where
   pub unused-zero : {k : ℕ} → S.usedNow (s .state) ≤ k → k < formatOf (s .state .format) .slots
       → (sampleIn (formatOf (s .state .format)) (subframeAt (formatOf (s .state .format)) (s .written) k) ≡ 0)
       × (ancillaryIn (formatOf (s .state .format)) (subframeAt (formatOf (s .state .format)) (s .written) k) ≡ 0)
+
+-- beside it, of a format with overhead: the receiver reports the cell's number and its second number
+pub record Tells (s : SendCall) (r : ReceiveCall) : Type 0 where
+  pub number-told : r .answer .number ≡ s .state .number
+  pub second-told : 12 ≤ formatOf (s .state .format) .slots → r .answer .second ≡ S.secondNow (s .state) (s .indication)
+  pub no-second-told : formatOf (s .state .format) .slots < 12 → r .answer .second ≡ 0
