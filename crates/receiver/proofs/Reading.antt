@@ -126,6 +126,24 @@ four-turned a b c d ha hb hc hd =
     weights : (a b c d : ℕ) → a * 16777216 + b * 65536 + c * 256 + d ≡ (a * 256 + b) * 65536 + (c * 256 + d)
     weights a b c d = omega arith
 
+pub three-turned : (a b c : ℕ) → a < 256 → b < 256 → c < 256
+    → ((a + b * 256 + c * 65536) % 256 * 16777216
+    + (a + b * 256 + c * 65536) / 256 % 256 * 65536
+    + (a + b * 256 + c * 65536) / 65536 % 256 * 256
+    + (a + b * 256 + c * 65536) / 16777216 % 256)
+    / 256
+    ≡ (a * 256 + b) * 256 + c
+three-turned a b c ha hb hc =
+    let none : a + b * 256 + c * 65536 ≡ a + b * 256 + c * 65536 + 0 * 16777216 = omega arith in
+    ap
+    (λ (x : ℕ). (x % 256 * 16777216 + x / 256 % 256 * 65536 + x / 65536 % 256 * 256 + x / 16777216 % 256) / 256)
+    none
+    ∙ ap (λ (n : ℕ). n / 256) (four-turned a b c 0 ha hb hc (omega arith))
+    ∙ weights a b c
+  where
+    weights : (a b c : ℕ) → ((a * 256 + b) * 65536 + (c * 256 + 0)) / 256 ≡ (a * 256 + b) * 256 + c
+    weights a b c = omega arith
+
 -- bits gathered one more
 module _ (bit : ℕ → ℕ) where
   pub record Gathers (number n : ℕ) : Type 0 where

@@ -3,7 +3,7 @@ ghost use mathlib.Core.Bool.{true, false};
 ghost use mathlib.Core.List.{_++_};
 ghost use mathlib.Core.Path.{_≡_};
 ghost use Prim.Native.Nat.{_+_, _*_, _/_, _%_, _≤_, _<_};
-ghost use lib.ListN.{length, replicate};
+ghost use lib.ListN.{length, getD, replicate};
 ghost use Rattle.runs.specs.Runs.{over};
 ghost use Rattle.formats.specs.Sound.{Sound, Limits};
 ghost use Rattle.cells.specs.Cells.{subframeAt, bitIn, eightIn};
@@ -40,6 +40,14 @@ fn turned2(x: u64) -> u64
     x % 256 * 256 + x / 256 % 256
 }
 
+// Three octets likewise, as the highest of four.
+fn in3(octets: &[u8], at: usize) -> u64
+    requires { ⌜ at + 3 ≤ length (now octets) ⌝ }
+    ensures { λ r. ⌜ r ≡ twoAt (now (octets .entry)) at * 256 + getD (now (octets .entry)) (at + 2) 0 ⌝ }
+{
+    turned4(octets[at] as u64 + octets[at + 1] as u64 * 256 + octets[at + 2] as u64 * 65536) / 256
+}
+
 // Four octets likewise.
 fn in4(octets: &[u8], at: usize) -> u64
     requires { ⌜ at + 4 ≤ length (now octets) ⌝ }
@@ -69,7 +77,7 @@ fn subframe_in(format: Format, cell: &[u8], slot: usize) -> u64
         return in4(cell, slot * 4);
     }
     if width == 3 {
-        return in2(cell, slot * 3) * 256 + cell[slot * 3 + 2] as u64;
+        return in3(cell, slot * 3);
     }
     if width == 2 {
         return in2(cell, slot * 2);

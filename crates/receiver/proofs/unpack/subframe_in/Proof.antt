@@ -2,10 +2,10 @@
 -- Assumes nothing.
 use native.Mathlib.Omega.{arith}
 use denote.Ref.{now}
-use mathlib.Core.Path.{_≡_, sym, _∙_, ap, ap₂}
-use Prim.Native.Nat.{ℕ, _+_, _*_, _<_}
+use mathlib.Core.Path.{sym, _∙_, ap, ap₂}
+use Prim.Native.Nat.{ℕ, _+_, _*_}
 use native.Mathlib.Nat.{mul-one}
-use lib.ListN.{getD, take, drop}
+use lib.ListN.{take, drop}
 use Rattle.runs.specs.Runs.{numberOf}
 use Rattle.receiver.proofs.Reading.{one-read, two-read, three-read, four-read, six-read, by-width, slot-at, one-left}
 use borrow.Author.Needs.{needs}
@@ -23,45 +23,27 @@ returns c =
     let s = c .before .before .before in
     by-width (s .args .format) (now (s .args .cell)) (s .args .slot) (c .before .if1 .taken) (c .in4 .ensures .0 ∙ four-read (now (s .args .cell)) (s .args .slot * 4) (slot-at (c .before .before .before .pre .0) (now (c .before .before .before .args .cell)) (c .before .before .before .pre .1) (c .before .before .before .pre .2) (c .before .if1 .taken)))
 
-mul-in2 : tie.Need-mul-in2
-mul-in2 c = omega (arith, slot-at (c .before .before .before .pre .0) (now (c .before .before .before .args .cell)) (c .before .before .before .pre .1) (c .before .before .before .pre .2) (c .if2 .taken))
+mul-in3 : tie.Need-mul-in3
+mul-in3 c = omega (arith, slot-at (c .before .before .before .pre .0) (now (c .before .before .before .args .cell)) (c .before .before .before .pre .1) (c .before .before .before .pre .2) (c .if2 .taken))
 
-in2-requires : tie.Need-in2-requires
-in2-requires c κs = omega (arith, slot-at (c .before .before .before .pre .0) (now (c .before .before .before .args .cell)) (c .before .before .before .pre .1) (c .before .before .before .pre .2) (c .if2 .taken))
-
-mul-result : tie.Need-mul-result
-mul-result c = omega (arith, c .in2 .ensures .1)
-
-mul-result-2 : tie.Need-mul-result-2
-mul-result-2 c = omega (arith, slot-at (c .before .before .before .before .pre .0) (now (c .before .before .before .before .args .cell)) (c .before .before .before .before .pre .1) (c .before .before .before .before .pre .2) (c .before .if2 .taken))
-
-add-result : tie.Need-add-result
-add-result c = omega (arith, slot-at (c .before .before .before .before .pre .0) (now (c .before .before .before .before .args .cell)) (c .before .before .before .before .pre .1) (c .before .before .before .before .pre .2) (c .before .if2 .taken))
-
-shared-slice-read-result : tie.Need-shared-slice-read-result
-shared-slice-read-result c = omega (arith, slot-at (c .before .before .before .before .before .pre .0) (now (c .before .before .before .before .before .args .cell)) (c .before .before .before .before .before .pre .1) (c .before .before .before .before .before .pre .2) (c .before .before .if2 .taken))
-
-cast-result : tie.Need-cast-result
-cast-result c = omega (arith, c .shared-slice-known2 .given (c .before .before .before .before .before .args .slot * 3 + 2))
-
-add-result-2 : tie.Need-add-result-2
-add-result-2 c = omega (arith, c .shared-slice-known2 .given (c .before .before .before .before .before .args .slot * 3 + 2), c .before .in2 .ensures .1)
+in3-requires : tie.Need-in3-requires
+in3-requires c κs = slot-at (c .before .before .before .pre .0) (now (c .before .before .before .args .cell)) (c .before .before .before .pre .1) (c .before .before .before .pre .2) (c .if2 .taken)
 
 returns-2 : tie.Need-returns-2
 returns-2 c =
-    let s = c .before .before .before .before .before in
-    by-width (s .args .format) (now (s .args .cell)) (s .args .slot) (c .before .before .if2 .taken) (ap (λ (n : ℕ). n * 256 + getD (now (s .args .cell)) (s .args .slot * 3 + 2) 0) (c .before .in2 .ensures .0) ∙ three-read (now (s .args .cell)) (s .args .slot * 3) (slot-at (c .before .before .before .before .before .pre .0) (now (c .before .before .before .before .before .args .cell)) (c .before .before .before .before .before .pre .1) (c .before .before .before .before .before .pre .2) (c .before .before .if2 .taken)))
+    let s = c .before .before .before .before in
+    by-width (s .args .format) (now (s .args .cell)) (s .args .slot) (c .before .if2 .taken) (c .in3 .ensures ∙ three-read (now (s .args .cell)) (s .args .slot * 3) (slot-at (c .before .before .before .before .pre .0) (now (c .before .before .before .before .args .cell)) (c .before .before .before .before .pre .1) (c .before .before .before .before .pre .2) (c .before .if2 .taken)))
 
-mul-in2-2 : tie.Need-mul-in2-2
-mul-in2-2 c = omega (arith, slot-at (c .before .before .before .before .pre .0) (now (c .before .before .before .before .args .cell)) (c .before .before .before .before .pre .1) (c .before .before .before .before .pre .2) (c .if3 .taken))
+mul-in2 : tie.Need-mul-in2
+mul-in2 c = omega (arith, slot-at (c .before .before .before .before .pre .0) (now (c .before .before .before .before .args .cell)) (c .before .before .before .before .pre .1) (c .before .before .before .before .pre .2) (c .if3 .taken))
 
-in2-requires-2 : tie.Need-in2-requires-2
-in2-requires-2 c κs = slot-at (c .before .before .before .before .pre .0) (now (c .before .before .before .before .args .cell)) (c .before .before .before .before .pre .1) (c .before .before .before .before .pre .2) (c .if3 .taken)
+in2-requires : tie.Need-in2-requires
+in2-requires c κs = slot-at (c .before .before .before .before .pre .0) (now (c .before .before .before .before .args .cell)) (c .before .before .before .before .pre .1) (c .before .before .before .before .pre .2) (c .if3 .taken)
 
 returns-3 : tie.Need-returns-3
 returns-3 c =
     let s = c .before .before .before .before .before in
-    by-width (s .args .format) (now (s .args .cell)) (s .args .slot) (c .before .if3 .taken) (c .in22 .ensures .0 ∙ two-read (now (s .args .cell)) (s .args .slot * 2) (slot-at (c .before .before .before .before .before .pre .0) (now (c .before .before .before .before .before .args .cell)) (c .before .before .before .before .before .pre .1) (c .before .before .before .before .before .pre .2) (c .before .if3 .taken)))
+    by-width (s .args .format) (now (s .args .cell)) (s .args .slot) (c .before .if3 .taken) (c .in2 .ensures .0 ∙ two-read (now (s .args .cell)) (s .args .slot * 2) (slot-at (c .before .before .before .before .before .pre .0) (now (c .before .before .before .before .before .args .cell)) (c .before .before .before .before .before .pre .1) (c .before .before .before .before .before .pre .2) (c .before .if3 .taken)))
 
 mul-in4-2 : tie.Need-mul-in4-2
 mul-in4-2 c = omega (arith, slot-at (c .before .before .before .before .before .pre .0) (now (c .before .before .before .before .before .args .cell)) (c .before .before .before .before .before .pre .1) (c .before .before .before .before .before .pre .2) (c .if4 .taken))
@@ -69,31 +51,31 @@ mul-in4-2 c = omega (arith, slot-at (c .before .before .before .before .before .
 in4-requires-2 : tie.Need-in4-requires-2
 in4-requires-2 c κs = omega (arith, slot-at (c .before .before .before .before .before .pre .0) (now (c .before .before .before .before .before .args .cell)) (c .before .before .before .before .before .pre .1) (c .before .before .before .before .before .pre .2) (c .if4 .taken))
 
-mul-result-3 : tie.Need-mul-result-3
-mul-result-3 c = omega (arith, c .in42 .ensures .1)
+mul-result : tie.Need-mul-result
+mul-result c = omega (arith, c .in42 .ensures .1)
 
-mul-in2-3 : tie.Need-mul-in2-3
-mul-in2-3 c = omega (arith, slot-at (c .before .before .before .before .before .before .pre .0) (now (c .before .before .before .before .before .before .args .cell)) (c .before .before .before .before .before .before .pre .1) (c .before .before .before .before .before .before .pre .2) (c .before .if4 .taken))
+mul-in2-2 : tie.Need-mul-in2-2
+mul-in2-2 c = omega (arith, slot-at (c .before .before .before .before .before .before .pre .0) (now (c .before .before .before .before .before .before .args .cell)) (c .before .before .before .before .before .before .pre .1) (c .before .before .before .before .before .before .pre .2) (c .before .if4 .taken))
 
 add-in2 : tie.Need-add-in2
 add-in2 c = omega (arith, slot-at (c .before .before .before .before .before .before .pre .0) (now (c .before .before .before .before .before .before .args .cell)) (c .before .before .before .before .before .before .pre .1) (c .before .before .before .before .before .before .pre .2) (c .before .if4 .taken))
 
-in2-requires-3 : tie.Need-in2-requires-3
-in2-requires-3 c κs = omega (arith, slot-at (c .before .before .before .before .before .before .pre .0) (now (c .before .before .before .before .before .before .args .cell)) (c .before .before .before .before .before .before .pre .1) (c .before .before .before .before .before .before .pre .2) (c .before .if4 .taken))
+in2-requires-2 : tie.Need-in2-requires-2
+in2-requires-2 c κs = omega (arith, slot-at (c .before .before .before .before .before .before .pre .0) (now (c .before .before .before .before .before .before .args .cell)) (c .before .before .before .before .before .before .pre .1) (c .before .before .before .before .before .before .pre .2) (c .before .if4 .taken))
 
-add-result-3 : tie.Need-add-result-3
-add-result-3 c = omega (arith, c .in23 .ensures .1, c .before .in42 .ensures .1)
+add-result : tie.Need-add-result
+add-result c = omega (arith, c .in22 .ensures .1, c .before .in42 .ensures .1)
 
 returns-4 : tie.Need-returns-4
 returns-4 c =
     let s = c .before .before .before .before .before .before .before in
-    by-width (s .args .format) (now (s .args .cell)) (s .args .slot) (c .before .before .if4 .taken) (ap₂ (λ (m n : ℕ). m * 65536 + n) (c .before .in42 .ensures .0) (c .in23 .ensures .0) ∙ six-read (now (s .args .cell)) (s .args .slot * 6) (slot-at (c .before .before .before .before .before .before .before .pre .0) (now (c .before .before .before .before .before .before .before .args .cell)) (c .before .before .before .before .before .before .before .pre .1) (c .before .before .before .before .before .before .before .pre .2) (c .before .before .if4 .taken)))
+    by-width (s .args .format) (now (s .args .cell)) (s .args .slot) (c .before .before .if4 .taken) (ap₂ (λ (m n : ℕ). m * 65536 + n) (c .before .in42 .ensures .0) (c .in22 .ensures .0) ∙ six-read (now (s .args .cell)) (s .args .slot * 6) (slot-at (c .before .before .before .before .before .before .before .pre .0) (now (c .before .before .before .before .before .before .before .args .cell)) (c .before .before .before .before .before .before .before .pre .1) (c .before .before .before .before .before .before .before .pre .2) (c .before .before .if4 .taken)))
 
-shared-slice-read-result-2 : tie.Need-shared-slice-read-result-2
-shared-slice-read-result-2 c = omega (arith, slot-at (c .before .before .before .before .before .before .pre .0) (now (c .before .before .before .before .before .before .args .cell)) (c .before .before .before .before .before .before .pre .1) (c .before .before .before .before .before .before .pre .2) (one-left (c .before .before .before .before .before .before .pre .0) (c .before .before .before .before .if1 .left) (c .before .before .before .if2 .left) (c .before .before .if3 .left) (c .before .if4 .left)))
+shared-slice-read-result : tie.Need-shared-slice-read-result
+shared-slice-read-result c = omega (arith, slot-at (c .before .before .before .before .before .before .pre .0) (now (c .before .before .before .before .before .before .args .cell)) (c .before .before .before .before .before .before .pre .1) (c .before .before .before .before .before .before .pre .2) (one-left (c .before .before .before .before .before .before .pre .0) (c .before .before .before .before .if1 .left) (c .before .before .before .if2 .left) (c .before .before .if3 .left) (c .before .if4 .left)))
 
-cast-result-2 : tie.Need-cast-result-2
-cast-result-2 c = omega (arith, c .shared-slice-known3 .given (c .before .before .before .before .before .before .args .slot))
+cast-result : tie.Need-cast-result
+cast-result c = omega (arith, c .shared-slice-known2 .given (c .before .before .before .before .before .before .args .slot))
 
 returns-5 : tie.Need-returns-5
 returns-5 c =
@@ -107,26 +89,20 @@ subframe-in-spec =
     mul-in4
     in4-requires
     returns
+    mul-in3
+    in3-requires
+    returns-2
     mul-in2
     in2-requires
-    mul-result
-    mul-result-2
-    add-result
-    shared-slice-read-result
-    cast-result
-    add-result-2
-    returns-2
-    mul-in2-2
-    in2-requires-2
     returns-3
     mul-in4-2
     in4-requires-2
-    mul-result-3
-    mul-in2-3
+    mul-result
+    mul-in2-2
     add-in2
-    in2-requires-3
-    add-result-3
+    in2-requires-2
+    add-result
     returns-4
-    shared-slice-read-result-2
-    cast-result-2
+    shared-slice-read-result
+    cast-result
     returns-5)
