@@ -1,11 +1,12 @@
 -- Laws of the protection bits: the nine top bits at every sample length, and the fold to seven bits by one test over all tens.
 -- Assumes nothing.
-use mathlib.Core.Path.{_≡_, sym, _∙_, ap}
+use mathlib.Core.Path.{_≡_, sym, _∙_, ap, ap₂}
 use Prim.Native.Nat.{ℕ, _+_, _*_, _/_, _%_, _-_, _^_, _≤_, _<_}
 use native.Mathlib.Nat.{
   mod-lt,
   mod-eq-of-lt,
   div-eq-of-lt,
+  div-lt-iff-lt-mul,
   mul-div-cancel,
   mul-div-mul-right,
   add-mul-mod-self-right,
@@ -16,11 +17,13 @@ use native.Mathlib.Nat.{
 use native.Mathlib.Omega.{arith}
 use lib.Bits.{bitXor}
 use lib.Dec.{eqb, leb, eqb→eq, leb→le}
+use lib.ListN.{getD}
 use lib.Pow.{pow-add, pow-pos, pow-mono, shl-exact}
 use Rattle.runs.specs.Division.{coefficients, divided, takenDown}
+use Rattle.runs.specs.Runs.{tab}
 use Rattle.runs.specs.Test.{every}
 use Rattle.runs.proofs.Laws.{every-at}
-use Rattle.guards.specs.Guards.{nineOf, tenGuard, guardOf}
+use Rattle.guards.specs.Guards.{nineOf, tenGuard, sevenGuards, guardOf}
 
 -- powers that make up 512 and more
 nine-parts : {length : ℕ} → length < 9 → 2 ^ (9 - length) * 2 ^ length ≡ 512
@@ -85,3 +88,29 @@ unfolding guardOf
 guard-ten length sample v e =
     ap (λ (n : ℕ). tenGuard ((n * 2 + v % 2) % 1024)) e
     ∙ ap tenGuard (mod-eq-of-lt (omega (arith, nine-lt length sample)))
+
+-- the nine top bits by one shift, where a sample has no bits above its length
+pub nine-top : (length : ℕ) {sample : ℕ} → 8 ≤ length → sample < 2 ^ length → sample * 2 / 2 ^ (length - 8) ≡ nineOf length sample
+unfolding nineOf
+nine-top length {sample} long small =
+    let parts : 2 ^ (length - 8) * 256 ≡ 2 ^ length
+    = sym (pow-add 2 (length - 8) 8) ∙ ap (λ (k : ℕ). 2 ^ k) (let whole : length - 8 + 8 ≡ length = omega arith in whole) in
+    let shifted : sample * 2 / 2 ^ (length - 8) ≡ sample * 512 / 2 ^ length
+    = sym (mul-div-mul-right {m = 256} (sample * 2) (2 ^ (length - 8)) (omega arith))
+    ∙ ap₂ (λ (n d : ℕ). n / d) (let e : sample * 2 * 256 ≡ sample * 512 = omega arith in e) parts in
+    let below : sample * 2 / 2 ^ (length - 8) < 512
+    = div-lt-iff-lt-mul (pow-pos (length - 8)) .1 (omega (arith, parts)) in
+    shifted ∙ sym (mod-eq-of-lt (rw shifted at below))
+
+fold-right : {ten : ℕ} → ten < 1024 → getD sevenGuards (bitXor ten (ten / 128) % 128) 0 ≡ tenGuard ten
+unfolding every sevenGuards tab tenGuard coefficients divided takenDown
+fold-right {ten} h =
+    eqb→eq (getD sevenGuards (bitXor ten (ten / 128) % 128) 0) (tenGuard ten)
+    (every-at (λ k. eqb (getD sevenGuards (bitXor k (k / 128) % 128) 0) (tenGuard k)) 1024 tt ten h)
+
+-- ten bits have the guard of the seven that they are folded to
+pub seven-guard : {ten : ℕ} (length sample v : ℕ) → ten ≡ nineOf length sample * 2 + v % 2
+    → getD sevenGuards (bitXor ten (ten / 128) % 128) 0 ≡ guardOf length sample v
+unfolding guardOf
+seven-guard {ten} length sample v e =
+    fold-right (omega (arith, e, nine-lt length sample)) ∙ ap tenGuard e

@@ -4,15 +4,16 @@
 use mathlib.Core.Bool.{Bool, true, false, cond, _||_}
 use mathlib.Core.List.{List, [], _∷_}
 use mathlib.Core.Path.{_≡_, refl, sym, _∙_, ap, ap₂, subst}
-use Prim.Native.Nat.{ℕ, zero, suc, _+_, _*_, _/_, _%_, _-_, _≤_, _<_}
-use native.Mathlib.Nat.{le-step, le-refl, mod-lt, not-suc-le-zero, le-of-suc-le-suc, div-add-mod', add-mul-mod-self-right, mod-add-mod}
+use Prim.Native.Nat.{ℕ, zero, suc, _+_, _*_, _/_, _%_, _-_, _^_, _≤_, _<_}
+use native.Mathlib.Nat.{le-step, le-refl, mod-lt, not-suc-le-zero, le-of-suc-le-suc, div-eq-of-lt, div-add-mod', add-mul-mod-self-right, mod-add-mod}
 use native.Mathlib.Omega.{arith}
-use borrow.Author.Tests.{lt-ltb, eq-eqb, ne-eqb, eqb-true, ltb-false}
+use borrow.Author.Tests.{lt-ltb, le-ltb, eq-eqb, ne-eqb, eqb-true, ltb-true, ltb-false}
 use lib.Arith.{digits-div, digits-mod, digits-lt}
 use lib.Bits.{bitXor}
 use lib.Count.{ones, onesIn}
 use lib.Dec.{T, eqb, leb, ltb, leb→le, eqb→eq}
 use lib.ListN.{length, getD}
+use lib.Pow.{pow-mono}
 use Rattle.runs.specs.Division.{coefficients, divided, takenDown}
 use Rattle.runs.specs.Test.{every}
 use Rattle.runs.proofs.Laws.{every-at, split}
@@ -29,6 +30,7 @@ use Rattle.numbers.specs.Numbers.{
   numberIn,
   foundOf,
   wordBit,
+  sequenceOf,
   gathered,
   eightOf,
   secondOf,
@@ -146,6 +148,44 @@ bit-lt word second slot =
     either : (b : Bool) {x y : ℕ} → x < 2 → y < 2 → cond b x y < 2
     either true hx hy = hx
     either false hx hy = hy
+
+sequence-lt : (word : ℕ) {second : ℕ} → second < 16 → sequenceOf word second < 2 ^ 12
+unfolding sequenceOf
+sequence-lt word {second} h = omega (arith, turned-lt (word / 16), turned-lt (word % 16))
+
+-- the bits of a sequence are those of its slots
+early : ℕ → ℕ → Bool
+early slot pair = eqb (sequenceOf (pair / 16) (pair % 16) / 2 ^ slot % 2) (wordBit (pair / 16) (pair % 16) slot)
+
+early-right : {slot word second : ℕ} → slot < 12 → word < 256 → second < 16
+    → sequenceOf word second / 2 ^ slot % 2 ≡ wordBit word second slot
+unfolding every early sequenceOf turned wordBit
+early-right {slot} {word} {second} hk hw hs =
+    let high : (word * 16 + second) / 16 ≡ word = digits-div word hs in
+    let low : (word * 16 + second) % 16 ≡ second = digits-mod word hs in
+    let tested : T (every (early slot) 4096) = every-at (λ k. every (early k) 4096) 12 tt slot hk in
+    let told : T (early slot (word * 16 + second)) = every-at (early slot) 4096 tested (word * 16 + second) (digits-lt hw hs) in
+    let same : sequenceOf ((word * 16 + second) / 16) ((word * 16 + second) % 16) / 2 ^ slot % 2
+    ≡ wordBit ((word * 16 + second) / 16) ((word * 16 + second) % 16) slot
+    = eqb→eq _ _ told in
+    rw (high, low) at same
+
+pub sequence-bit : {word second : ℕ} (slot : ℕ) → word < 256 → second < 16
+    → sequenceOf word second / 2 ^ slot % 2 ≡ wordBit word second slot
+unfolding wordBit
+sequence-bit {word} {second} slot hw hs =
+    split (ltb slot 12)
+    (λ t. early-right (ltb-true slot 12 t) hw hs)
+    (λ t.
+    let far = ltb-false slot 12 t in
+    let less : sequenceOf word second < 2 ^ slot = late far in
+    ap (λ (n : ℕ). n % 2) (div-eq-of-lt less) ∙ sym (rw (le-ltb slot 8 (omega arith), t)))
+  where
+    late : 12 ≤ slot → sequenceOf word second < 2 ^ slot
+    late far =
+        let high : 2 ^ 12 ≤ 2 ^ slot = pow-mono {i = 12} {j = slot} far in
+        let small : sequenceOf word second < 2 ^ 12 = sequence-lt word hs in
+        omega arith
 
 -- what wraps modulo 256 is, modulo 16, the difference
 pub wraps-difference : (r number last : ℕ) → (r + last) % 256 ≡ number → r % 16 ≡ differenceOf number last

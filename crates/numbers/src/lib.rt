@@ -1,7 +1,7 @@
 // The sequencing word, document 01: the cell number and its protection, the second number, and the difference of numbers.
 ghost use mathlib.Core.Path.{_≡_};
 ghost use Prim.Native.Nat.{_%_};
-ghost use Rattle.numbers.specs.Numbers.{turned, entryOf, foundOf, wordBit, differenceOf};
+ghost use Rattle.numbers.specs.Numbers.{turned, entryOf, foundOf, wordBit, sequenceOf, differenceOf};
 
 // Table A.1: the first eight sequencing bits for numbers 0 to 15, the first bit sent being the top one.
 const TABLE: [u8; 16] = [
@@ -70,6 +70,15 @@ pub fn bit_of(word: u8, second: u8, slot: usize) -> u8
         return (second >> (slot - 8)) % 2;
     }
     0
+}
+
+// The same bits of all slots at once, slot k's worth 2^k.
+pub fn sequence_of(word: u8, second: u8) -> u64
+    ensures { λ r. ⌜ r ≡ sequenceOf word second ⌝ }
+{
+    let first = turned_round(word / 16) as u64;
+    let next = turned_round(word % 16) as u64;
+    first + next * 16 + second as u64 * 256
 }
 
 // The difference of two numbers modulo 16.

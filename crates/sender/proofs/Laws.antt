@@ -4,7 +4,7 @@ use mathlib.Core.Bool.{Bool, true, false, cond, not, _&&_, _||_}
 use mathlib.Core.List.{List, [], _∷_}
 use mathlib.Core.Path.{_≡_, refl, sym, _∙_, ap, ap₂}
 use Prim.Native.Nat.{ℕ, zero, suc, _+_, _*_, _/_, _%_, _^_, _≤_, _<_}
-use native.Mathlib.Nat.{suc-ne-zero, mod-eq-of-lt, mul-div-le, le-div-iff-mul-le}
+use native.Mathlib.Nat.{suc-ne-zero, mod-lt, mod-eq-of-lt, mul-div-le, le-div-iff-mul-le}
 use native.Mathlib.Omega.{arith}
 use borrow.Author.Tests.{lt-ltb, le-ltb, eq-eqb, ne-eqb, ltb-true, ltb-false, eqb-true, not-false}
 use lib.Dec.{eqb, ltb}
@@ -241,6 +241,14 @@ module _ (st : Sender) (indication : Bool) (samples ancillary : List ℕ) (room 
           few = below-each (2 ^ f .ancillary) ancillary (pow-pos (f .ancillary)) (not-false _ (values .1));
         }
 
+second-lt : (st : Sender) (indication : Bool) → st .second ≤ 15 → secondNow st indication < 16
+unfolding secondNow
+second-lt st indication to = either (st .wanted && (indication && st .sent))
+  where
+    either : (counts : Bool) → cond counts ((st .second + 1) % 16) (st .second) < 16
+    either true = mod-lt (st .second + 1) (omega arith)
+    either false = omega arith
+
 -- a call of `send`, refused and taken
 module _ (st : Sender) (indication : Bool) (samples ancillary cell : List ℕ) where
   pub sends-refused : {n : ℕ} → (n ≡ 0 → ⊥) → n ≡ sendRefusal st indication samples ancillary (length cell)
@@ -258,9 +266,11 @@ module _ (st : Sender) (indication : Bool) (samples ancillary cell : List ℕ) w
           ∙ settled-of (st .format) (st .channels) (st .order)
           (settings-none st indication samples ancillary (length cell) (sym none))
 
-      pub can-pack : Packable set samples ancillary × (length cell ≡ 48)
-      can-pack = (
+      pub can-pack : {second : ℕ} → second ≡ secondNow st indication
+          → Packable set samples ancillary × (second < 16) × (length cell ≡ 48)
+      can-pack second-is = (
         rw set-is (packable st indication samples ancillary (length cell) (sym none)),
+        rw second-is (second-lt st indication (passes st indication samples ancillary (length cell) (sym none) .second-to)),
         room-is st indication samples ancillary (length cell) (sym none),
       )
 

@@ -85,7 +85,7 @@ pub(crate) fn octets_below(run: &[u8], bound: u64) -> bool
     true
 }
 
-fn wide(octet: u8) -> u64
+pub(crate) fn wide(octet: u8) -> u64
     ensures { λ r. ⌜ r ≡ octet ⌝ }
 {
     octet as u64

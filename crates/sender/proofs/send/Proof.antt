@@ -40,7 +40,7 @@ none : (c : tie.Else1)
 none c = sym (c .if1 .left) ∙ c .before .send-refusal .ensures
 
 pack-requires : tie.Need-pack-requires
-pack-requires c κs = can-pack (c .before .before .before .before .before .before .before .before .before .before .before .before .args .state) (c .before .before .before .before .before .before .before .before .before .before .before .before .args .indication) (now (c .before .before .before .before .before .before .before .before .before .before .before .before .args .samples)) (now (c .before .before .before .before .before .before .before .before .before .before .before .before .args .ancillary)) (now (c .before .before .before .before .before .before .before .before .before .before .before .before .args .cell)) (c .before .before .before .before .before .settings .ensures) (none (c .before .before .before))
+pack-requires c κs = can-pack (c .before .before .before .before .before .before .before .before .before .before .before .before .args .state) (c .before .before .before .before .before .before .before .before .before .before .before .before .args .indication) (now (c .before .before .before .before .before .before .before .before .before .before .before .before .args .samples)) (now (c .before .before .before .before .before .before .before .before .before .before .before .before .args .ancillary)) (now (c .before .before .before .before .before .before .before .before .before .before .before .before .args .cell)) (c .before .before .before .before .before .settings .ensures) (none (c .before .before .before)) (c .before .before .second-now .ensures)
 
 add-t15 : tie.Need-add-t15
 add-t15 c =
