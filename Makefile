@@ -9,3 +9,7 @@ test:
 	.ci/run
 
 include tests/face.mk
+
+demo:
+	rt check linelist
+	target/bin/linelist < examples/reading.log

@@ -11,7 +11,7 @@ use Rattle.numbers.specs.Numbers.{wordBit, eightOf, secondOf}
 use Rattle.guards.specs.Guards.{guardOf}
 use Rattle.cells.specs.Placement.{slotOfEntry, carried}
 
--- "then a sequencing bit and three protection bits", where the format has overhead
+-- "then a sequencing bit and three protection bits", where the format has overhead; V is the ancillary number's lowest bit
 unfoldable pub overheadOf : Format → ℕ → ℕ → ℕ → ℕ
 overheadOf f sample ancillary bit = cond (eqb (f .overhead) 0) 0 (bit * 8 + guardOf (f .sample) sample ancillary)
 
@@ -38,6 +38,7 @@ cellOf f byChannel channels times word second samples ancillary =
 unfoldable pub subframeAt : Format → List ℕ → ℕ → ℕ
 subframeAt f cell k = numberOf (take (f .width) (drop (k * f .width) cell))
 
+-- its sample and its ancillary number
 unfoldable pub sampleIn : Format → ℕ → ℕ
 sampleIn f subframe = subframe / 2 ^ (f .ancillary + f .overhead)
 

@@ -27,10 +27,12 @@ overheadBits octet = octet / 16 % 4 * 4
 unfoldable pub eleven : List ℕ
 eleven = 0x02 ∷ 0x04 ∷ 0x06 ∷ 0x08 ∷ 0x43 ∷ 0x45 ∷ 0x47 ∷ 0x52 ∷ 0x54 ∷ 0x56 ∷ 0x5A ∷ []
 
+-- n is one of the numbers
 unfoldable pub isAmong : ℕ → List ℕ → Bool
 isAmong n [] = false
 isAmong n (x ∷ xs) = eqb x n || isAmong n xs
 
+-- not refused 1: "the octet is none of the eleven"
 unfoldable pub isBase : ℕ → Bool
 isBase octet = isAmong octet eleven
 
@@ -78,9 +80,11 @@ settled octet channels order =
       «by_channel» = eqb order 1;
     }
 
+-- "Every refusal returns its number .. with any other reported number 0"
 abbrev pub unsettledBy : ℕ → Settled
 unsettledBy refusal = record { refusal = refusal; format = noFormat; channels = 0; times = 0; «by_channel» = false }
 
+-- what an octet, C and an order settle, or their refusal
 unfoldable pub settingsOf : ℕ → ℕ → ℕ → Settled
 settingsOf octet channels order =
     cond (eqb (settingsRefusal octet channels order) 0)

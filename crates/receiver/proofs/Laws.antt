@@ -1,22 +1,37 @@
 -- Laws of the receiver's refusals: what each check gives in its turn, what is known where none refuses, and what a call leaves.
 -- Assumes nothing.
-use mathlib.Core.Bool.{Bool, true, false, cond, not, _||_}
+use mathlib.Core.Bool.{Bool, true, false, true≢false, cond, not, _||_}
 use mathlib.Core.List.{List, [], _++_, append-assoc}
-use mathlib.Core.Path.{_≡_, refl, sym, _∙_, ap, ap₂}
+use mathlib.Core.Path.{_≡_, refl, sym, _∙_, ap, ap₂, subst}
 use Prim.Native.Nat.{ℕ, zero, suc, _+_, _*_, _-_, _%_, _≤_, _<_}
 use native.Mathlib.Nat.{suc-ne-zero, pos-of-ne-zero, suc-mul, mod-lt, le-of-suc-le-suc}
 use native.Mathlib.Omega.{arith}
 use borrow.Author.Tests.{lt-ltb, le-ltb, eq-eqb, ne-eqb, ltb-false, eqb-true, eqb-false, not-false}
-use lib.Dec.{eqb, ltb}
+use lib.Dec.{T, eqb, ltb, eqb→eq}
 use lib.ListN.{length, drop, replicate}
 use Rattle.runs.specs.Refusals.{orElse}
 use Rattle.runs.specs.Runs.{over}
-use Rattle.runs.proofs.Laws.{first-refuses, then-later, past, past-both, neither}
+use Rattle.runs.specs.Test.{every}
+use Rattle.runs.proofs.Laws.{every-at, first-refuses, then-later, past, past-both, neither}
 use Rattle.formats.specs.declared.Format.{Format}
 use Rattle.formats.specs.declared.Settled.{Settled}
-use Rattle.formats.specs.Formats.{formatOf, settingsOf, settingsRefusal, settled}
+use Rattle.formats.specs.Formats.{
+  lengthOf,
+  sampleBits,
+  ancillaryBits,
+  overheadBits,
+  eleven,
+  isAmong,
+  isBase,
+  widthOf,
+  slotsOf,
+  formatOf,
+  settingsOf,
+  settingsRefusal,
+  settled,
+}
 use Rattle.formats.specs.Sound.{Limits}
-use Rattle.formats.proofs.Laws.{settled-of, settled-limits, given-refusal, given-refuses, given-none, given-settled, given-later}
+use Rattle.formats.proofs.Laws.{base-octet, base-format, settles-all, settled-of, settled-limits, given-refusal, given-refuses, given-none, given-settled, given-later}
 use Rattle.numbers.specs.Numbers.{differenceOf}
 use Rattle.cells.specs.Cells.{sampleIn, ancillaryIn, markIn}
 use Rattle.receiver.specs.declared.Receiver.{Receiver}
@@ -39,7 +54,7 @@ use Rattle.receiver.specs.Receiver.{
   given,
   Receives,
 }
-use Rattle.receiver.specs.Unpacking.{ownEntries, Writes, Roomy}
+use Rattle.receiver.specs.Unpacking.{ownEntries, Writes, Roomy, Together}
 
 -- an opening, refused and taken
 module _ {set : Settled} (octet channels order : ℕ) (settles : set ≡ settingsOf octet channels order) where
@@ -173,6 +188,21 @@ passes st cell samples ancillary marks e =
       room = ltb-false samples _ (tenth .0);
     }
 
+-- overhead comes with ancillary bits in each of the eleven
+base-together : (octet : ℕ) → isBase octet ≡ true → Together (formatOf octet)
+unfolding every isBase isAmong eleven sampleBits lengthOf ancillaryBits overheadBits widthOf slotsOf
+base-together octet h some =
+    ap (λ (f : Format). f .ancillary) (base-format octet h)
+    ∙ eqb→eq _ _
+    (third (isBase octet) (eqb (overheadBits octet) 0) (eqb (ancillaryBits octet) 4) h
+    (ne-eqb _ _ (λ e. some (ap (λ (f : Format). f .overhead) (base-format octet h) ∙ e)))
+    (every-at (λ k. not (isBase k) || (eqb (overheadBits k) 0 || eqb (ancillaryBits k) 4)) 256 tt octet (base-octet octet h)))
+  where
+    third : (a b c : Bool) → a ≡ true → b ≡ false → T (not a || (b || c)) → T c
+    third true true c ha hb t = absurd (true≢false hb)
+    third true false c ha hb t = t
+    third false b c ha hb t = absurd (true≢false (sym ha))
+
 -- a call of `receive`, refused and taken
 module _ (st : Receiver) (cell : List ℕ) (indication : Bool) (samples ancillary marks : List ℕ) where
   pub receives-refused : {n : ℕ} → (n ≡ 0 → ⊥) → n ≡ receiveRefusal st cell (length samples) (length ancillary) (length marks)
@@ -199,6 +229,14 @@ module _ (st : Receiver) (cell : List ℕ) (indication : Bool) (samples ancillar
 
       pub set-limits : Limits set
       set-limits = settled-limits (st .format) (st .channels) (st .order) set-is (passed .settings)
+
+      pub set-together : Together (set .format)
+      set-together =
+          subst (λ (x : Settled). Together (x .format)) (sym set-is)
+          (base-together (st .format) (settles-all (st .format) (st .channels) (st .order) (passed .settings) .base))
+
+      pub set-taken : set .refusal ≡ 0
+      set-taken = ap (λ (x : Settled). x .refusal) set-is
 
       pub cell-whole : length cell ≡ 48
       cell-whole = passed .whole

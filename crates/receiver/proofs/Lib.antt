@@ -1,2 +1,5 @@
 pub mod Laws
+pub mod Marking
+pub mod One
+pub mod Reading
 pub mod Unpacking

@@ -1,126 +1,157 @@
--- Laws of unpacking: octets read into a number, bits gathered, one subframe's parts as the code makes them, and runs that are
--- filled with a cell's entries.
+-- Laws of unpacking: runs that are filled with entries, taken apart in place, and filled with a cell's own.
 -- Assumes nothing.
-use mathlib.Core.Bool.{Bool, cond}
+use mathlib.Core.Bool.{Bool, true, false, cond}
 use mathlib.Core.List.{List, _++_}
 use mathlib.Core.Path.{_≡_, refl, sym, _∙_, ap, ap₂}
 use Prim.Native.Nat.{ℕ, zero, suc, _+_, _*_, _/_, _%_, _^_, _≤_, _<_}
-use native.Mathlib.Nat.{pow-suc, pow-le-pow-right, mod-lt, mod-eq-of-lt, suc-mul, mul-le-mul-right, le-of-suc-le-suc}
-use native.Mathlib.Numerals.{add-one}
+use native.Mathlib.Nat.{div-add-mod', zero-add, add-zero}
 use native.Mathlib.Omega.{arith}
-use borrow.Author.Tests.{eq-eqb, ne-eqb}
-use lib.Arith.{digits-lt}
+use borrow.Author.Tests.{eq-eqb}
 use lib.ListN as L
-use lib.ListN.{length, getD, take, drop, replicate, length-drop, length-append, length-replicate}
-use lib.Pow.{pow-pos, pow-mono}
-use lib.Seq.{take-suc, getD-drop, take-at, drop-append-add, drop-drop}
-use Rattle.runs.specs.Runs.{readOn, numberOf, over}
-use Rattle.runs.proofs.Filling.{Filled, begun, turned, done}
-use Rattle.runs.proofs.Laws.{read-snoc, one-shifted, length-tab, getD-tab}
+use lib.ListN.{length, getD, take, drop, replicate, length-drop, length-append, length-replicate, getD-replicate, List·getD-append, take-append-drop}
+use lib.Seq.{take-at, drop-at, drop-append-add, drop-drop, take-append-le, take-add, length-take-le, getD-drop, getD-take, getD-append-add, drop-paste}
+use Rattle.runs.specs.Runs.{over}
+use Rattle.runs.proofs.Filling.{Filled, turned, done}
+use Rattle.runs.proofs.Laws.{length-tab, getD-tab, tab-is}
 use Rattle.formats.specs.declared.Format.{Format}
 use Rattle.formats.specs.declared.Settled.{Settled}
 use Rattle.formats.specs.Sound.{Sound, Limits}
-use Rattle.numbers.specs.Numbers.{gathered}
-use Rattle.guards.specs.Guards.{guardOf}
 use Rattle.cells.specs.Cells.{subframeAt, sampleIn, ancillaryIn, markIn, entriesOf}
-use Rattle.cells.specs.Placement.{slotOfEntry}
+use Rattle.cells.specs.Placement.{slotOf, slotOfEntry}
 use Rattle.cells.proofs.Placement.{slot-lt}
-use Rattle.receiver.specs.Unpacking.{usedIn, ownEntries, written, Unpacks, Writes, Roomy}
+use Rattle.receiver.specs.Unpacking.{usedIn, ownEntries, written, Unpacks, Writes, Room, Roomy, held, Splits}
 
--- the octets from `at` on, read into a number
-module _ (octets : List ℕ) (at : ℕ) where
-  pub record Reads (number i : ℕ) : Type 0 where
-    pub is : number ≡ readOn 0 (take i (drop at octets))
-    pub below : number < 256 ^ i
+-- a run that a loop fills with as many entries as it counts
+module _ (d₀ : List ℕ) (at : ℕ) (vs : List ℕ) {used : ℕ} (long : length vs ≡ used) (room : at + used ≤ length d₀) where
+  pub fill-on : {d : List ℕ} {i v : ℕ} → Filled d d₀ at vs i → i < used → v ≡ getD vs i 0 → Filled (L.set d (at + i) v) d₀ at vs (i + 1)
+  fill-on so-far less e = turned d₀ at vs so-far (omega arith) (omega arith) e
 
-  pub reads-begun : Reads 0 0
-  unfolding readOn
-  reads-begun = record { is = refl; below = omega arith }
+  pub fill-done : {d : List ℕ} {i : ℕ} → Filled d d₀ at vs i → used ≤ i → d ≡ written d₀ at vs
+  fill-done so-far all = done d₀ at vs so-far (omega arith)
 
-  -- up to six octets fit
-  pub reads-fit : {number i : ℕ} → Reads number i → i ≤ 5 → number < 2 ^ 40
-  reads-fit so-far h =
-      let far = pow-le-pow-right {n = 256} (omega arith) h in
-      let less = so-far .below in
-      omega arith
+  -- what stands ahead of the loop is as it was
+  pub fill-ahead : {d : List ℕ} {i : ℕ} → Filled d d₀ at vs i → getD d (at + i) 0 ≡ getD d₀ (at + i) 0
+  fill-ahead {d} {i} so-far =
+      let same : getD d (at + i + 0) 0 ≡ getD d₀ (at + i + 0) 0
+      = sym (getD-drop (at + i) d 0 0)
+      ∙ ap (λ (l : List ℕ). getD l 0 0) (ap (drop (at + i)) (so-far .is) ∙ drop-paste d₀ at vs i (omega arith) (so-far .within))
+      ∙ getD-drop (at + i) d₀ 0 0 in
+      rw (add-zero (at + i)) at same
 
-  pub reads-on : {number i : ℕ} → Reads number i → at + i < length octets → getD octets (at + i) 0 < 256
-      → Reads (number * 256 + getD octets (at + i) 0) (i + 1)
-  reads-on {number} {i} so-far within octet =
-      record {
-        is =
-            ap₂ (λ (n x : ℕ). n * 256 + x) (so-far .is) (sym (getD-drop at octets i 0))
-            ∙ sym (read-snoc 0 (take i (drop at octets)) (getD (drop at octets) i 0))
-            ∙ ap (readOn 0) (sym (take-suc (drop at octets) i 0 (omega (arith, length-drop at octets))))
-            ∙ ap (λ (n : ℕ). readOn 0 (take n (drop at octets))) (sym (add-one i));
-        below = rw (add-one i, pow-suc) (digits-lt (so-far .below) octet);
-      }
+-- entries read off those that a run holds
+module _ (read : ℕ → ℕ) (run : List ℕ) (at used : ℕ) where
+  pub held-length : length (held read run at used) ≡ used
+  unfolding held
+  held-length = length-tab _ used
 
--- bits gathered one more
-module _ (bit : ℕ → ℕ) where
-  pub record Gathers (number n : ℕ) : Type 0 where
-    pub within : n ≤ 8
-    pub is : number ≡ gathered bit n
-    pub below : number < 2 ^ n
+  pub held-at : {i : ℕ} → i < used → read (getD run (at + i) 0) ≡ getD (held read run at used) i 0
+  unfolding held
+  held-at less = sym (getD-tab _ used less)
 
-  pub gathers-begun : Gathers 0 0
-  unfolding gathered
-  gathers-begun = record { within = omega arith; is = refl; below = omega arith }
+  pub held-is : {vs : List ℕ} → length vs ≡ used → ((i : ℕ) → i < used → read (getD run (at + i) 0) ≡ getD vs i 0)
+      → held read run at used ≡ vs
+  unfolding held
+  held-is {vs} len each = tab-is _ used vs len each
 
-  pub gathers-low : {number n : ℕ} → Gathers number n → n < 8 → number % 128 ≡ number
-  gathers-low so-far h =
-      let far : 2 ^ _ ≤ 2 ^ 7 = pow-mono {j = 7} (le-of-suc-le-suc h) in
-      let less = so-far .below in
-      mod-eq-of-lt (omega arith)
+  pub held-same : {other : ℕ → ℕ} → ((x : ℕ) → read x ≡ other x) → held read run at used ≡ held other run at used
+  unfolding held
+  held-same {other} each = held-is (length-tab _ used) (λ i h. each (getD run (at + i) 0) ∙ sym (getD-tab _ used h))
 
-  pub gathers-on : {number n new : ℕ} → Gathers number n → n < 8 → new ≡ bit n → new < 2
-      → Gathers (number % 128 * 2 + new) (n + 1)
-  unfolding gathered
-  gathers-on {number} {n} {new} so-far h e small =
-      let low : number % 128 * 2 + new ≡ number * 2 + new = ap (λ (x : ℕ). x * 2 + new) (gathers-low so-far h) in
-      record {
-        within = omega arith;
-        is = low ∙ ap₂ (λ (x y : ℕ). x * 2 + y) (so-far .is) e ∙ ap (gathered bit) (sym (add-one n));
-        below = rw (low, add-one n, pow-suc) (digits-lt (so-far .below) small);
-      }
+  pub held-all : {v : ℕ} → ((x : ℕ) → read x ≡ v) → held read run at used ≡ replicate used v
+  held-all {v} each =
+      held-is (length-replicate used v) (λ i h. each (getD run (at + i) 0) ∙ sym (getD-replicate used i v 0 h))
 
-module _ {f : Format} (s : Sound f) (subframe : ℕ) where
-  abbrev masked : ℕ
-  masked = subframe / 2 ^ f .overhead % ((1 * 2 ^ f .ancillary) % 2 ^ 64)
+-- entries written stand in the run, and others written over them take their place
+module _ (run : List ℕ) (at : ℕ) (ws : List ℕ) (room : at + length ws ≤ length run) where
+  head : length (take at run) ≡ at
+  head = length-take-le at run (omega arith)
 
-  pub mask-is : (1 * 2 ^ f .ancillary) % 2 ^ 64 ≡ 2 ^ f .ancillary
-  mask-is = one-shifted (omega (arith, s .ancillary-to))
+  front : length (take at run ++ ws) ≡ at + length ws
+  front = length-append (take at run) ws ∙ omega (arith, head)
 
-  pub mask-pos : zero < (1 * 2 ^ f .ancillary) % 2 ^ 64
-  mask-pos = rw mask-is (pow-pos (f .ancillary))
+  pub written-at : {i : ℕ} → i < length ws → getD (written run at ws) (at + i) 0 ≡ getD ws i 0
+  written-at {i} less =
+      List·getD-append (take at run ++ ws) (drop (at + length ws) run) 0 (at + i) (omega (arith, front))
+      ∙ ap (λ (n : ℕ). getD (take at run ++ ws) (n + i) 0) (sym head)
+      ∙ getD-append-add (take at run) ws i 0
 
-  pub masked-is : masked ≡ ancillaryIn f subframe
-  unfolding ancillaryIn
-  masked-is = ap (λ (m : ℕ). subframe / 2 ^ f .overhead % m) mask-is
+  pub written-over : (vs : List ℕ) → length vs ≡ length ws → written (written run at ws) at vs ≡ written run at vs
+  written-over vs same =
+      ap₂ (λ (a b : List ℕ). a ++ vs ++ b)
+      (take-append-le at (take at run ++ ws) (drop (at + length ws) run) (omega (arith, front)) ∙ take-at (take at run) ws at head)
+      (ap (λ (n : ℕ). drop (at + n) (written run at ws)) same
+      ∙ drop-at (take at run ++ ws) (drop (at + length ws) run) (at + length ws) front
+      ∙ ap (λ (n : ℕ). drop (at + n) run) (sym same))
 
-  pub masked-fits : masked < 2 ^ 8
-  masked-fits =
-      let less : masked < (1 * 2 ^ f .ancillary) % 2 ^ 64 = mod-lt _ mask-pos in
-      let far : 2 ^ f .ancillary ≤ 2 ^ 4 = pow-mono {i = f .ancillary} {j = 4} (s .ancillary-to) in
-      omega (arith, mask-is)
+-- what a run holds, written again, leaves it
+pub written-again : (read : ℕ → ℕ) (run : List ℕ) (at used : ℕ) → ((x : ℕ) → read x ≡ x) → at + used ≤ length run
+    → run ≡ written run at (held read run at used)
+written-again read run at used each room =
+    let len : length (take used (drop at run)) ≡ used = length-take-le used (drop at run) (omega (arith, length-drop at run)) in
+    let part : held read run at used ≡ take used (drop at run)
+    = held-is read run at used len
+    (λ i h. each (getD run (at + i) 0) ∙ sym (getD-drop at run i 0) ∙ sym (getD-take used (drop at run) i 0 h)) in
+    sym (take-append-drop (at + used) run)
+    ∙ ap₂ (λ (a b : List ℕ). a ++ b)
+    (take-add at used run ∙ ap (λ (l : List ℕ). take at run ++ l) (sym part))
+    (ap (λ (n : ℕ). drop (at + n) run) (sym (held-length read run at used)))
 
-  pub mark-none : f .overhead ≡ 0 → 0 ≡ markIn f subframe
+-- ancillary bits are four or none
+pub four-bits : {f : Format} → Sound f → (f .ancillary ≡ 0 → ⊥) → f .ancillary ≡ 4
+four-bits {f} s some = four-of (f .ancillary) (s .ancillary-fours) (s .ancillary-to) some
+  where
+    four-of : (n : ℕ) → n % 4 ≡ 0 → n ≤ 4 → (n ≡ 0 → ⊥) → n ≡ 4
+    four-of n e h some = omega arith
+
+-- formats without overhead: the parts of a subframe
+module _ (f : Format) (none : f .overhead ≡ 0) where
+  mark-none : (x : ℕ) → markIn f x ≡ 0
   unfolding markIn
-  mark-none e = rw (eq-eqb _ _ e)
+  mark-none x = rw (eq-eqb _ _ none)
 
-  module _ (some : f .overhead ≡ 0 → ⊥) {ancillary guard : ℕ} (ancillary-is : ancillary ≡ ancillaryIn f subframe)
-      (guard-is : guard ≡ guardOf (f .sample) (sampleIn f subframe) ancillary)
+  module _ (bare : f .ancillary ≡ 0) where
+    sample-bare : (x : ℕ) → sampleIn f x ≡ x
+    unfolding sampleIn
+    sample-bare x = rw (none, bare) (omega arith)
+
+    ancillary-bare : (x : ℕ) → ancillaryIn f x ≡ 0
+    unfolding ancillaryIn
+    ancillary-bare x = rw (none, bare) (omega arith)
+
+  module _ (bits : f .ancillary ≡ 4) where
+    sample-four : (x : ℕ) → sampleIn f x ≡ x / 16
+    unfolding sampleIn
+    sample-four x = rw (none, bits)
+
+    ancillary-four : (x : ℕ) → ancillaryIn f x ≡ x % 16
+    unfolding ancillaryIn
+    ancillary-four x = rw (none, bits) (omega arith)
+
+  module _ (at used : ℕ) (samples ancillary marks : List ℕ) {marks₁ : List ℕ}
+      (room : Room at used samples ancillary marks) (marks-zero : marks₁ ≡ written marks at (replicate used 0))
     where
-      there : guard ≡ guardOf (f .sample) (sampleIn f subframe) (ancillaryIn f subframe)
-      there = guard-is ∙ ap (guardOf (f .sample) (sampleIn f subframe)) ancillary-is
+      marks-none : marks₁ ≡ written marks at (held (markIn f) samples at used)
+      marks-none = marks-zero ∙ ap (written marks at) (sym (held-all (markIn f) samples at used mark-none))
 
-      pub mark-sound : subframe % 8 ≡ guard → 0 ≡ markIn f subframe
-      unfolding markIn
-      mark-sound e = rw (ne-eqb _ _ some, eq-eqb _ _ (e ∙ there))
+      pub splits-plain : f .ancillary ≡ 0 → {ancillary₁ : List ℕ} → ancillary₁ ≡ written ancillary at (replicate used 0)
+          → Splits f at used samples ancillary marks samples ancillary₁ marks₁
+      splits-plain bare e =
+          record {
+            samples-are = written-again (sampleIn f) samples at used (sample-bare bare) (room .samples-room);
+            ancillary-is = e ∙ ap (written ancillary at) (sym (held-all (ancillaryIn f) samples at used (ancillary-bare bare)));
+            marks-are = marks-none;
+          }
 
-      pub mark-unsound : (subframe % 8 ≡ guard → ⊥) → 1 ≡ markIn f subframe
-      unfolding markIn
-      mark-unsound other = rw (ne-eqb _ _ some, ne-eqb _ _ (λ e. other (e ∙ sym there)))
+      pub splits-bare : f .ancillary ≡ 4 → {samples₁ ancillary₁ : List ℕ}
+          → samples₁ ≡ written samples at (held (λ x. x / 16) samples at used)
+          → ancillary₁ ≡ written ancillary at (held (λ x. x % 16) samples at used)
+          → Splits f at used samples ancillary marks samples₁ ancillary₁ marks₁
+      splits-bare four s a =
+          record {
+            samples-are = s ∙ ap (written samples at) (sym (held-same (sampleIn f) samples at used (sample-four four)));
+            ancillary-is = a ∙ ap (written ancillary at) (sym (held-same (ancillaryIn f) samples at used (ancillary-four four)));
+            marks-are = marks-none;
+          }
 
 -- a cell's own entries
 module _ (set : Settled) (cell : List ℕ) where
@@ -128,21 +159,11 @@ module _ (set : Settled) (cell : List ℕ) where
   unfolding entriesOf
   own-length read = length-tab _ (usedIn set)
 
-  own-at : (read : ℕ → ℕ) {i : ℕ} → i < usedIn set
+  pub own-at : (read : ℕ → ℕ) {i : ℕ} → i < usedIn set
       → read (subframeAt (set .format) cell (slotOfEntry (set .«by_channel») (set .channels) (set .times) i))
       ≡ getD (ownEntries read set cell) i 0
   unfolding entriesOf
   own-at read less = sym (getD-tab _ (usedIn set) less)
-
-  module _ {slot subframe i : ℕ} (less : i < usedIn set)
-      (slot-is : slot ≡ slotOfEntry (set .«by_channel») (set .channels) (set .times) i)
-      (subframe-is : subframe ≡ numberOf (take (set .format .width) (drop (slot * set .format .width) cell)))
-    where
-      -- what is read off the subframe is the entry
-      pub entry-is : (read : ℕ → ℕ) {v : ℕ} → v ≡ read subframe → v ≡ getD (ownEntries read set cell) i 0
-      unfolding subframeAt
-      entry-is read e =
-          e ∙ ap read (subframe-is ∙ ap (subframeAt (set .format) cell) slot-is) ∙ own-at read less
 
   pub slot-in : Limits set → {slot i : ℕ} → i < usedIn set → slot ≡ slotOfEntry (set .«by_channel») (set .channels) (set .times) i
       → slot < set .format .slots
@@ -151,43 +172,36 @@ module _ (set : Settled) (cell : List ℕ) where
       let used = limits .used-in in
       rw e (omega arith)
 
--- the invariant of the loop over the entries
-module _ (set : Settled) (cell : List ℕ) (at : ℕ) (samples₀ ancillary₀ marks₀ : List ℕ) where
-  pub record Fills (samples ancillary marks : List ℕ) (i : ℕ) : Type 0 where
-    pub samples-so-far : Filled samples samples₀ at (ownEntries (sampleIn (set .format)) set cell) i
-    pub ancillary-so-far : Filled ancillary ancillary₀ at (ownEntries (ancillaryIn (set .format)) set cell) i
-    pub marks-so-far : Filled marks marks₀ at (ownEntries (markIn (set .format)) set cell) i
+  -- order 0: an entry's slot is the entry
+  pub straight : set .«by_channel» ≡ false → (i : ℕ) → i ≡ slotOfEntry (set .«by_channel») (set .channels) (set .times) i
+  unfolding slotOfEntry slotOf
+  straight e i = rw e (sym (div-add-mod' i (set .channels)))
 
-  pub fills-begun : Fills samples₀ ancillary₀ marks₀ 0
-  fills-begun = record { samples-so-far = begun _ _ _; ancillary-so-far = begun _ _ _; marks-so-far = begun _ _ _ }
-
-  fill-one : (read : ℕ → ℕ) {d d₀ : List ℕ} {i v : ℕ} → Filled d d₀ at (ownEntries read set cell) i → at + usedIn set ≤ length d₀
-      → i < usedIn set → v ≡ getD (ownEntries read set cell) i 0 → Filled (L.set d (at + i) v) d₀ at (ownEntries read set cell) (i + 1)
-  fill-one read {d₀ = d₀} so-far room less e =
-      turned d₀ at (ownEntries read set cell) so-far
-      (omega (arith, own-length set cell read)) (omega (arith, own-length set cell read)) e
-
-  pub fills-on : Roomy set at samples₀ ancillary₀ marks₀ → {samples ancillary marks : List ℕ} {i sample number mark : ℕ}
-      → Fills samples ancillary marks i → i < usedIn set
-      → sample ≡ getD (ownEntries (sampleIn (set .format)) set cell) i 0
-      → number ≡ getD (ownEntries (ancillaryIn (set .format)) set cell) i 0
-      → mark ≡ getD (ownEntries (markIn (set .format)) set cell) i 0
-      → Fills (L.set samples (at + i) sample) (L.set ancillary (at + i) number) (L.set marks (at + i) mark) (i + 1)
-  fills-on roomy so-far less s a m =
+  -- subframes put into the first run, and taken apart there
+  pub unpacks : (at : ℕ) (samples ancillary marks : List ℕ) {samples₁ samples₂ ancillary₂ marks₂ : List ℕ}
+      → Roomy set at samples ancillary marks → samples₁ ≡ written samples at (ownEntries (λ x. x) set cell)
+      → Splits (set .format) at (usedIn set) samples₁ ancillary marks samples₂ ancillary₂ marks₂
+      → Unpacks set cell at samples ancillary marks samples₂ ancillary₂ marks₂
+  unpacks at samples ancillary marks {samples₁} {samples₂} {ancillary₂} {marks₂} room e parts =
       record {
-        samples-so-far = fill-one (sampleIn (set .format)) (so-far .samples-so-far) (roomy .samples-room) less s;
-        ancillary-so-far = fill-one (ancillaryIn (set .format)) (so-far .ancillary-so-far) (roomy .ancillary-room) less a;
-        marks-so-far = fill-one (markIn (set .format)) (so-far .marks-so-far) (roomy .marks-room) less m;
+        samples-are =
+            parts .samples-are
+            ∙ ap₂ (λ (run new : List ℕ). written run at new) e (read-off (sampleIn (set .format)))
+            ∙ written-over samples at (ownEntries (λ x. x) set cell) fit _ (own-length (sampleIn (set .format)) ∙ sym (own-length (λ x. x)));
+        ancillary-is = parts .ancillary-is ∙ ap (written ancillary at) (read-off (ancillaryIn (set .format)));
+        marks-are = parts .marks-are ∙ ap (written marks at) (read-off (markIn (set .format)));
       }
+    where
+      fit : at + length (ownEntries (λ x. x) set cell) ≤ length samples
+      fit = omega (arith, room .samples-room, own-length (λ x. x))
 
-  pub fills-done : {samples ancillary marks : List ℕ} {i : ℕ} → Fills samples ancillary marks i → usedIn set ≤ i
-      → Unpacks set cell at samples₀ ancillary₀ marks₀ samples ancillary marks
-  fills-done {i = i} so-far all =
-      record {
-        samples-are = done samples₀ at _ (so-far .samples-so-far) (omega (arith, own-length set cell (sampleIn (set .format))));
-        ancillary-is = done ancillary₀ at _ (so-far .ancillary-so-far) (omega (arith, own-length set cell (ancillaryIn (set .format))));
-        marks-are = done marks₀ at _ (so-far .marks-so-far) (omega (arith, own-length set cell (markIn (set .format))));
-      }
+      read-off : (read : ℕ → ℕ) → held read samples₁ at (usedIn set) ≡ ownEntries read set cell
+      read-off read =
+          held-is read samples₁ at (usedIn set) (own-length read)
+          (λ i h.
+          ap (λ (l : List ℕ). read (getD l (at + i) 0)) e
+          ∙ ap read (written-at samples at (ownEntries (λ x. x) set cell) fit (omega (arith, own-length (λ x. x))) ∙ sym (own-at (λ x. x) h))
+          ∙ own-at read h)
 
 -- entries written after others from the start are all of them written from the start
 pub over-then : (first next run : List ℕ) {missing : ℕ} {run₁ run₂ : List ℕ} → length first ≡ missing → missing ≤ length run
@@ -203,12 +217,16 @@ over-then first next run {missing} {run₁} {run₂} len room e₁ e₂ =
     ∙ drop-drop (length next) (length first) run
     ∙ ap (λ (n : ℕ). drop n run) (sym (length-append first next)))
 
+pub from-front : (run new : List ℕ) → written run 0 new ≡ over new run
+unfolding over
+from-front run new = rw (zero-add (length new))
+
 -- missing entries and then the cell's own
 pub writes : (set : Settled) (cell : List ℕ) (missing : ℕ) (samples ancillary marks : List ℕ)
     {samples₁ ancillary₁ marks₁ samples₂ ancillary₂ marks₂ : List ℕ}
     → Roomy set missing samples ancillary marks
-    → samples₁ ≡ over (replicate missing 0) samples → ancillary₁ ≡ over (replicate missing 0) ancillary
-    → marks₁ ≡ over (replicate missing 2) marks
+    → samples₁ ≡ over (replicate missing 0) samples → ancillary₁ ≡ written ancillary 0 (replicate missing 0)
+    → marks₁ ≡ written marks 0 (replicate missing 2)
     → Unpacks set cell missing samples₁ ancillary₁ marks₁ samples₂ ancillary₂ marks₂
     → Writes set cell missing samples ancillary marks samples₂ ancillary₂ marks₂
 writes set cell missing samples ancillary marks roomy s a m own =
@@ -217,9 +235,9 @@ writes set cell missing samples ancillary marks roomy s a m own =
           over-then (replicate missing 0) _ samples (length-replicate missing 0) (omega (arith, roomy .samples-room)) s
           (own .samples-are);
       ancillary-is =
-          over-then (replicate missing 0) _ ancillary (length-replicate missing 0) (omega (arith, roomy .ancillary-room)) a
+          over-then (replicate missing 0) _ ancillary (length-replicate missing 0) (omega (arith, roomy .ancillary-room)) (a ∙ from-front ancillary _)
           (own .ancillary-is);
       marks-are =
-          over-then (replicate missing 2) _ marks (length-replicate missing 2) (omega (arith, roomy .marks-room)) m
+          over-then (replicate missing 2) _ marks (length-replicate missing 2) (omega (arith, roomy .marks-room)) (m ∙ from-front marks _)
           (own .marks-are);
     }

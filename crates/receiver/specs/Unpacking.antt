@@ -1,11 +1,15 @@
 -- What unpacking asks and leaves, told of the settings.
 -- Assumes nothing.
+use mathlib.Core.Bool.{cond}
 use mathlib.Core.List.{List, _++_}
 use mathlib.Core.Path.{_≡_}
-use Prim.Native.Nat.{ℕ, _+_, _*_, _≤_}
-use lib.ListN.{length, take, drop, replicate}
-use Rattle.runs.specs.Runs.{over}
+use Prim.Native.Nat.{ℕ, _+_, _*_, _/_, _%_, _-_, _^_, _≤_, _<_}
+use lib.Dec.{eqb, ltb}
+use lib.ListN.{length, getD, take, drop, replicate}
+use Rattle.runs.specs.Runs.{tab, over}
+use Rattle.formats.specs.declared.Format.{Format}
 use Rattle.formats.specs.declared.Settled.{Settled}
+use Rattle.guards.specs.Guards.{tenGuard}
 use Rattle.cells.specs.Cells.{sampleIn, ancillaryIn, markIn, entriesOf}
 
 -- C×T of the settings
@@ -32,8 +36,41 @@ pub record Writes (set : Settled) (cell : List ℕ) (missing : ℕ) (samples anc
   pub ancillary-is : ancillary₁ ≡ over (replicate missing 0 ++ ownEntries (ancillaryIn (set .format)) set cell) ancillary
   pub marks-are : marks₁ ≡ over (replicate missing 2 ++ ownEntries (markIn (set .format)) set cell) marks
 
--- the three runs have room
-pub record Roomy (set : Settled) (at : ℕ) (samples ancillary marks : List ℕ) : Type 0 where
-  pub samples-room : at + usedIn set ≤ length samples
-  pub ancillary-room : at + usedIn set ≤ length ancillary
-  pub marks-room : at + usedIn set ≤ length marks
+-- the three runs have room for as many entries from `at` on
+pub record Room (at used : ℕ) (samples ancillary marks : List ℕ) : Type 0 where
+  pub samples-room : at + used ≤ length samples
+  pub ancillary-room : at + used ≤ length ancillary
+  pub marks-room : at + used ≤ length marks
+
+abbrev pub Roomy : Settled → ℕ → List ℕ → List ℕ → List ℕ → Type 0
+Roomy set at samples ancillary marks = Room at (usedIn set) samples ancillary marks
+
+-- overhead alone is "not yet in the base"
+abbrev pub Together : Format → Type 0
+Together f = (f .overhead ≡ 0 → ⊥) → f .ancillary ≡ 4
+
+-- the number of two octets
+abbrev pub twoAt : List ℕ → ℕ → ℕ
+twoAt octets at = getD octets at 0 * 256 + getD octets (at + 1) 0
+
+-- the slot after this one, where entries go by channel
+unfoldable pub nextSlot : ℕ → ℕ → ℕ → ℕ
+nextSlot times used slot = cond (ltb (slot + times) used) (slot + times) (slot + times - (used - 1))
+
+-- the mark of a subframe with these nine top sample bits and these five low bits: V, the sequencing bit, three protection bits
+unfoldable pub markBit : ℕ → ℕ → ℕ
+markBit nine low = cond (eqb (low % 8) (tenGuard (nine * 2 + low / 16))) 0 1
+
+-- a number whose bits are the marks of all five low bits
+abbrev pub MarksOf : ℕ → ℕ → Type 0
+MarksOf nine bits = (low : ℕ) → low < 32 → bits / 2 ^ low % 2 ≡ markBit nine low
+
+-- what is read off the entries that a run holds from `at` on
+unfoldable pub held : (ℕ → ℕ) → List ℕ → ℕ → ℕ → List ℕ
+held read run at used = tab (λ i. read (getD run (at + i) 0)) used
+
+-- three runs after the subframes that the first held from `at` on were taken apart
+pub record Splits (f : Format) (at used : ℕ) (samples ancillary marks samples₁ ancillary₁ marks₁ : List ℕ) : Type 0 where
+  pub samples-are : samples₁ ≡ written samples at (held (sampleIn f) samples at used)
+  pub ancillary-is : ancillary₁ ≡ written ancillary at (held (ancillaryIn f) samples at used)
+  pub marks-are : marks₁ ≡ written marks at (held (markIn f) samples at used)

@@ -2,7 +2,7 @@
 ghost use mathlib.Core.Path.{_≡_};
 ghost use lib.ListN.{length};
 ghost use Rattle.formats.specs.Formats.{settingsOf};
-ghost use Rattle.receiver.specs.Receiver.{lastRefused, lengthsRefused, gapNow, receiveRefusal};
+ghost use Rattle.receiver.specs.Receiver.{numberNow, lastRefused, lengthsRefused, gapNow, receiveRefusal};
 use crate::Receiver;
 use formats::Format;
 use formats::Settled;
@@ -54,11 +54,12 @@ pub(crate) fn receive_refusal(
     set: Settled,
     state: Receiver,
     cell: &[u8],
+    number: u8,
     samples: usize,
     ancillary: usize,
     marks: usize,
 ) -> u8
-    requires { ⌜ set ≡ settingsOf (state .format) (state .channels) (state .order) ⌝ }
+    requires { ⌜ (set ≡ settingsOf (state .format) (state .channels) (state .order)) × (set .refusal ≡ 0 → length (now cell) ≡ 48 → number ≡ numberNow (set .format) (now cell)) ⌝ }
     ensures { λ r. ⌜ r ≡ receiveRefusal state (now (cell .entry)) samples ancillary marks ⌝ }
 {
     let refusal = set.refusal;
@@ -72,7 +73,6 @@ pub(crate) fn receive_refusal(
     if lengths_refused(cell.len(), samples, ancillary, marks) {
         return 5;
     }
-    let number = crate::unpack::number_now(format, cell);
     if 15 < number {
         return 8;
     }

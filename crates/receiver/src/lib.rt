@@ -79,10 +79,12 @@ pub fn receive(
         state.order as u32,
     );
     let format = set.format;
+    let number = unpack::number_now(set, cell);
     let refusal = judge::receive_refusal(
         set,
         state,
         cell,
+        number,
         samples.len(),
         ancillary.len(),
         marks.len(),
@@ -97,7 +99,6 @@ pub fn receive(
             indication: false,
         };
     }
-    let number = unpack::number_now(format, cell);
     let missing = judge::gap_now(format, state.started, state.last, number) - 1;
     let place = missing as usize * (set.channels * set.times);
     unpack::write(set, cell, place, samples, ancillary, marks);

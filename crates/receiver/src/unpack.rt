@@ -1,30 +1,91 @@
 // Unpacking a cell: its numbers, its entries, and the entries of missing cells.
+ghost use mathlib.Core.Bool.{true, false};
 ghost use mathlib.Core.List.{_++_};
 ghost use mathlib.Core.Path.{_≡_};
-ghost use Prim.Native.Nat.{_+_, _*_, _^_, _≤_, _<_};
-ghost use lib.ListN.{length, take, drop, replicate};
-ghost use Rattle.runs.specs.Runs.{numberOf, over};
+ghost use Prim.Native.Nat.{_+_, _*_, _/_, _%_, _≤_, _<_};
+ghost use lib.ListN.{length, getD, replicate};
+ghost use Rattle.runs.specs.Runs.{over};
 ghost use Rattle.formats.specs.Sound.{Sound, Limits};
-ghost use Rattle.cells.specs.Cells.{subframeAt, bitIn, eightIn, secondIn, ancillaryIn, markIn};
-ghost use Rattle.cells.specs.Placement.{slotOfEntry};
+ghost use Rattle.cells.specs.Cells.{subframeAt, bitIn, eightIn};
 ghost use Rattle.receiver.specs.Receiver.{numberNow, secondNow};
-ghost use Rattle.receiver.specs.Unpacking.{Unpacks, Writes, Roomy};
+ghost use Rattle.receiver.specs.Unpacking.{
+  usedIn,
+  ownEntries,
+  written,
+  Unpacks,
+  Writes,
+  Room,
+  Together,
+  twoAt,
+  nextSlot,
+  MarksOf,
+  held,
+  Splits,
+};
 use formats::Format;
 use formats::Settled;
 use numbers::Found;
 
-// The number that `width` octets make, the highest first.
-fn number_at(octets: &[u8], at: usize, width: usize) -> u64
-    requires { ⌜ (at + width ≤ length (now octets)) × (width ≤ 6) ⌝ }
-    ensures { λ r. ⌜ (r ≡ numberOf (take width (drop at (now (octets .entry))))) × (r < 256 ^ width) ⌝ }
+// Two octets read low end first and turned round: so they stay one load, where the highest first would be taken apart again.
+fn in2(octets: &[u8], at: usize) -> u64
+    requires { ⌜ at + 2 ≤ length (now octets) ⌝ }
+    ensures { λ r. ⌜ (r ≡ twoAt (now (octets .entry)) at) × (r < 65536) ⌝ }
 {
-    let mut number: u64 = 0;
-    let mut i = 0;
-    while i < width {
-        number = number * 256 + octets[at + i] as u64;
-        i += 1;
+    turned2(octets[at] as u64 + octets[at + 1] as u64 * 256)
+}
+
+fn turned2(x: u64) -> u64
+    ensures { λ r. ⌜ r ≡ x % 256 * 256 + x / 256 % 256 ⌝ }
+{
+    x % 256 * 256 + x / 256 % 256
+}
+
+// Three octets likewise, as the highest of four.
+fn in3(octets: &[u8], at: usize) -> u64
+    requires { ⌜ at + 3 ≤ length (now octets) ⌝ }
+    ensures { λ r. ⌜ r ≡ twoAt (now (octets .entry)) at * 256 + getD (now (octets .entry)) (at + 2) 0 ⌝ }
+{
+    turned4(octets[at] as u64 + octets[at + 1] as u64 * 256 + octets[at + 2] as u64 * 65536) / 256
+}
+
+// Four octets likewise.
+fn in4(octets: &[u8], at: usize) -> u64
+    requires { ⌜ at + 4 ≤ length (now octets) ⌝ }
+    ensures { λ r. ⌜ (r ≡ twoAt (now (octets .entry)) at * 65536 + twoAt (now (octets .entry)) (at + 2)) × (r < 4294967296) ⌝ }
+{
+    turned4(
+        octets[at] as u64
+            + octets[at + 1] as u64 * 256
+            + octets[at + 2] as u64 * 65536
+            + octets[at + 3] as u64 * 16777216,
+    )
+}
+
+fn turned4(x: u64) -> u64
+    ensures { λ r. ⌜ r ≡ x % 256 * 16777216 + x / 256 % 256 * 65536 + x / 65536 % 256 * 256 + x / 16777216 % 256 ⌝ }
+{
+    x % 256 * 16777216 + x / 256 % 256 * 65536 + x / 65536 % 256 * 256 + x / 16777216 % 256
+}
+
+// The subframe of a slot. A loop over slots is compiled once for each width, since these are ifs and no match.
+fn subframe_in(format: Format, cell: &[u8], slot: usize) -> u64
+    requires { ⌜ Sound format × (length (now cell) ≡ 48) × (slot < format .slots) ⌝ }
+    ensures { λ r. ⌜ r ≡ subframeAt format (now (cell .entry)) slot ⌝ }
+{
+    let width = format.width;
+    if width == 4 {
+        return in4(cell, slot * 4);
     }
-    number
+    if width == 3 {
+        return in3(cell, slot * 3);
+    }
+    if width == 2 {
+        return in2(cell, slot * 2);
+    }
+    if width == 6 {
+        return in4(cell, slot * 6) * 65536 + in2(cell, slot * 6 + 4);
+    }
+    cell[slot] as u64
 }
 
 // The sequencing bit of a slot.
@@ -33,7 +94,7 @@ fn bit_in(format: Format, cell: &[u8], slot: usize) -> u8
     ensures { λ r. ⌜ (r ≡ bitIn format (now (cell .entry)) slot) × (r < 2) ⌝ }
 {
     let width = format.width;
-    (number_at(cell, slot * width, width) / 8 % 2) as u8
+    cell[slot * width + (width - 1)] / 8 % 2
 }
 
 // The first eight sequencing bits.
@@ -50,11 +111,19 @@ fn eight_in(format: Format, cell: &[u8]) -> u8
     eight
 }
 
-// The cell's number: 16 where its eight bits are none, 0 where the format has no overhead.
-pub(crate) fn number_now(format: Format, cell: &[u8]) -> u8
-    requires { ⌜ Sound format × (length (now cell) ≡ 48) ⌝ }
-    ensures { λ r. ⌜ r ≡ numberNow format (now (cell .entry)) ⌝ }
+// The cell's number: 16 where its eight bits are none, 0 where the format has no overhead; any number where checks 1 to 3 or the
+// cell's length refuse.
+pub(crate) fn number_now(set: Settled, cell: &[u8]) -> u8
+    requires { ⌜ (set .refusal ≡ 0 → Sound (set .format)) ⌝ }
+    ensures { λ r. ⌜ (set .refusal ≡ 0 → length (now (cell .entry)) ≡ 48 → r ≡ numberNow (set .format) (now (cell .entry))) ⌝ }
 {
+    if set.refusal != 0 {
+        return 0;
+    }
+    if cell.len() != 48 {
+        return 0;
+    }
+    let format = set.format;
     if format.overhead == 0 {
         return 0;
     }
@@ -82,39 +151,41 @@ pub(crate) fn second_now(format: Format, cell: &[u8]) -> u8
         + bit_in(format, cell, 11) * 8
 }
 
-// The slot of a run's entry.
-fn slot_of_entry(by_channel: bool, channels: usize, times: usize, entry: usize) -> usize
-    requires { ⌜ (entry < channels * times) × (channels * times ≤ 48) × (1 ≤ channels) ⌝ }
-    ensures { λ r. ⌜ r ≡ slotOfEntry «by_channel» channels times entry ⌝ }
+// The slot of the next entry in order 1.
+fn next_slot(times: usize, used: usize, slot: usize) -> usize
+    requires { ⌜ (slot < used) × (used ≤ 48) × (times ≤ 48) ⌝ }
+    ensures { λ r. ⌜ r ≡ nextSlot times used slot ⌝ }
 {
-    if by_channel {
-        return entry % channels * times + entry / channels;
+    let next = slot + times;
+    if next < used {
+        return next;
     }
-    entry
+    next - (used - 1)
 }
 
-// The ancillary number of a subframe.
-fn ancillary_in(format: Format, subframe: u64) -> u8
-    requires { ⌜ Sound format ⌝ }
-    ensures { λ r. ⌜ r ≡ ancillaryIn format subframe ⌝ }
+// For nine sample bits folded to seven, the mark of each five low bits of a subframe, as a bit of the answer. It is one load where
+// the program has one call of it.
+fn marks_of(seven: u64) -> u64
+    ensures { λ r. ⌜ MarksOf (seven % 128) r ⌝ }
 {
-    ((subframe >> format.overhead) % (1 << format.ancillary)) as u8
-}
-
-// The mark of a subframe: 1 where the three protection bits disagree.
-fn mark_in(format: Format, subframe: u64) -> u8
-    requires { ⌜ Sound format ⌝ }
-    ensures { λ r. ⌜ r ≡ markIn format subframe ⌝ }
-{
-    if format.overhead == 0 {
-        return 0;
+    let key = seven % 128;
+    match key {
+        0 | 11 | 22 | 29 | 39 | 44 | 49 | 58 | 69 | 78 | 83 | 88 | 98 | 105 | 116 | 127 =>
+            0xEFEF7F7F,
+        1 | 10 | 23 | 28 | 38 | 45 | 48 | 59 | 68 | 79 | 82 | 89 | 99 | 104 | 117 | 126 =>
+            0xFBFBFDFD,
+        2 | 9 | 20 | 31 | 37 | 46 | 51 | 56 | 71 | 76 | 81 | 90 | 96 | 107 | 118 | 125 =>
+            0xF7F7FEFE,
+        3 | 8 | 21 | 30 | 36 | 47 | 50 | 57 | 70 | 77 | 80 | 91 | 97 | 106 | 119 | 124 =>
+            0xDFDFBFBF,
+        4 | 15 | 18 | 25 | 35 | 40 | 53 | 62 | 65 | 74 | 87 | 92 | 102 | 109 | 112 | 123 =>
+            0xFDFDFBFB,
+        5 | 14 | 19 | 24 | 34 | 41 | 52 | 63 | 75 | 86 | 93 | 103 | 108 | 113 | 122 => 0x7F7FEFEF,
+        64 => 0x7F7FEFEF,
+        6 | 13 | 16 | 27 | 33 | 42 | 55 | 60 | 67 | 72 | 85 | 94 | 100 | 111 | 114 | 121 =>
+            0xBFBFDFDF,
+        _ => 0xFEFEF7F7,
     }
-    let sample = subframe >> (format.ancillary + format.overhead);
-    let ancillary = ancillary_in(format, subframe) as u64;
-    if subframe % 8 == guards::guard_of(format.sample, sample, ancillary) {
-        return 0;
-    }
-    1
 }
 
 // Writes zeros to a run's first `count` entries.
@@ -129,16 +200,118 @@ fn zeros(run: &mut [u64], count: usize)
     }
 }
 
-// Writes one octet to a run's first `count` entries.
-fn octets(run: &mut [u8], count: usize, value: u8)
-    requires { ⌜ count ≤ length (now run) ⌝ }
-    ensures { λ r. ⌜ now (run .exit) ≡ over (replicate count value) (now (run .entry)) ⌝ }
+// Writes one octet to `count` entries of a run from `at` on.
+fn octets(run: &mut [u8], at: usize, count: usize, value: u8)
+    requires { ⌜ at + count ≤ length (now run) ⌝ }
+    ensures { λ r. ⌜ now (run .exit) ≡ written (now (run .entry)) at (replicate count value) ⌝ }
 {
     let mut i = 0;
     while i < count {
-        run[i] = value;
+        run[at + i] = value;
         i += 1;
     }
+}
+
+// The subframes of the used slots, in order 0.
+fn subframes_by_time(set: Settled, cell: &[u8], at: usize, run: &mut [u64])
+    requires { ⌜ Limits set × (length (now cell) ≡ 48) × (at + usedIn set ≤ length (now run)) × (set .«by_channel» ≡ false) ⌝ }
+    ensures { λ r. ⌜ now (run .exit) ≡ written (now (run .entry)) at (ownEntries (λ x. x) set (now (cell .entry))) ⌝ }
+{
+    let used = set.channels * set.times;
+    let mut i = 0;
+    while i < used {
+        run[at + i] = subframe_in(set.format, cell, i);
+        i += 1;
+    }
+}
+
+// The same in order 1: no division by C, which would cost as much as the rest of the loop.
+fn subframes_by_channel(set: Settled, cell: &[u8], at: usize, run: &mut [u64])
+    requires { ⌜ Limits set × (length (now cell) ≡ 48) × (at + usedIn set ≤ length (now run)) × (set .«by_channel» ≡ true) ⌝ }
+    ensures { λ r. ⌜ now (run .exit) ≡ written (now (run .entry)) at (ownEntries (λ x. x) set (now (cell .entry))) ⌝ }
+{
+    let used = set.channels * set.times;
+    let mut slot = 0;
+    let mut i = 0;
+    while i < used {
+        run[at + i] = subframe_in(set.format, cell, slot);
+        slot = next_slot(set.times, used, slot);
+        i += 1;
+    }
+}
+
+// Writes the subframes of the used slots to a run from `at` on, in the order of the entries.
+fn subframes(set: Settled, cell: &[u8], at: usize, run: &mut [u64])
+    requires { ⌜ Limits set × (length (now cell) ≡ 48) × (at + usedIn set ≤ length (now run)) ⌝ }
+    ensures { λ r. ⌜ now (run .exit) ≡ written (now (run .entry)) at (ownEntries (λ x. x) set (now (cell .entry))) ⌝ }
+{
+    if set.by_channel {
+        subframes_by_channel(set, cell, at, run);
+        return;
+    }
+    subframes_by_time(set, cell, at, run);
+}
+
+// Takes subframes with overhead apart, in place.
+fn split(
+    format: Format,
+    at: usize,
+    used: usize,
+    samples: &mut [u64],
+    ancillary: &mut [u8],
+    marks: &mut [u8],
+)
+    requires { ⌜ (format .ancillary ≡ 4) × (format .overhead ≡ 4) × Room at used (now samples) (now ancillary) (now marks) ⌝ }
+    ensures { λ r. ⌜ Splits format at used (now (samples .entry)) (now (ancillary .entry)) (now (marks .entry)) (now (samples .exit)) (now (ancillary .exit)) (now (marks .exit)) ⌝ }
+{
+    let mut i = 0;
+    while i < used {
+        let subframe = samples[at + i];
+        let sample = subframe / 256;
+        samples[at + i] = sample;
+        ancillary[at + i] = (subframe / 16 % 16) as u8;
+        let nine = guards::nine_bits(format.sample, sample);
+        marks[at + i] = ((marks_of(nine ^ (nine / 128)) >> (subframe % 32)) % 2) as u8;
+        i += 1;
+    }
+}
+
+// Takes subframes with ancillary bits and no overhead apart, in place.
+fn split_bare(at: usize, used: usize, samples: &mut [u64], ancillary: &mut [u8])
+    requires { ⌜ (at + used ≤ length (now samples)) × (at + used ≤ length (now ancillary)) ⌝ }
+    ensures { λ r. ⌜ (now (samples .exit) ≡ written (now (samples .entry)) at (held (λ x. x / 16) (now (samples .entry)) at used)) × (now (ancillary .exit) ≡ written (now (ancillary .entry)) at (held (λ x. x % 16) (now (samples .entry)) at used)) ⌝ }
+{
+    let mut i = 0;
+    while i < used {
+        let subframe = samples[at + i];
+        samples[at + i] = subframe / 16;
+        ancillary[at + i] = (subframe % 16) as u8;
+        i += 1;
+    }
+}
+
+// Takes subframes apart, in place.
+fn parts(
+    format: Format,
+    at: usize,
+    used: usize,
+    samples: &mut [u64],
+    ancillary: &mut [u8],
+    marks: &mut [u8],
+)
+    requires { ⌜ Sound format × Together format × Room at used (now samples) (now ancillary) (now marks) ⌝ }
+    ensures { λ r. ⌜ Splits format at used (now (samples .entry)) (now (ancillary .entry)) (now (marks .entry)) (now (samples .exit)) (now (ancillary .exit)) (now (marks .exit)) ⌝ }
+{
+    if format.overhead != 0 {
+        split(format, at, used, samples, ancillary, marks);
+        return;
+    }
+    octets(marks, at, used, 0);
+    if format.ancillary == 0 {
+        octets(ancillary, at, used, 0);
+        return;
+    }
+    split_bare(at, used, samples, ancillary);
 }
 
 // Writes the cell's own entries to the three runs from `at` on.
@@ -150,21 +323,13 @@ fn own_entries(
     ancillary: &mut [u8],
     marks: &mut [u8],
 )
-    requires { ⌜ Limits set × (length (now cell) ≡ 48) × Roomy set at (now samples) (now ancillary) (now marks) ⌝ }
+    requires { ⌜ Limits set × Together (set .format) × (length (now cell) ≡ 48) × Room at (usedIn set) (now samples) (now ancillary) (now marks) ⌝ }
     ensures { λ r. ⌜ Unpacks set (now (cell .entry)) at (now (samples .entry)) (now (ancillary .entry)) (now (marks .entry)) (now (samples .exit)) (now (ancillary .exit)) (now (marks .exit)) ⌝ }
 {
     let format = set.format;
-    let width = format.width;
     let used = set.channels * set.times;
-    let mut i = 0;
-    while i < used {
-        let slot = slot_of_entry(set.by_channel, set.channels, set.times, i);
-        let subframe = number_at(cell, slot * width, width);
-        samples[at + i] = subframe >> (format.ancillary + format.overhead);
-        ancillary[at + i] = ancillary_in(format, subframe);
-        marks[at + i] = mark_in(format, subframe);
-        i += 1;
-    }
+    subframes(set, cell, at, samples);
+    parts(format, at, used, samples, ancillary, marks);
 }
 
 // Writes `missing` entries of zero with mark 2 to the three runs, and the cell's own entries after them.
@@ -176,11 +341,11 @@ pub(crate) fn write(
     ancillary: &mut [u8],
     marks: &mut [u8],
 )
-    requires { ⌜ Limits set × (length (now cell) ≡ 48) × Roomy set missing (now samples) (now ancillary) (now marks) ⌝ }
+    requires { ⌜ Limits set × Together (set .format) × (length (now cell) ≡ 48) × Room missing (usedIn set) (now samples) (now ancillary) (now marks) ⌝ }
     ensures { λ r. ⌜ Writes set (now (cell .entry)) missing (now (samples .entry)) (now (ancillary .entry)) (now (marks .entry)) (now (samples .exit)) (now (ancillary .exit)) (now (marks .exit)) ⌝ }
 {
     zeros(samples, missing);
-    octets(ancillary, missing, 0);
-    octets(marks, missing, 2);
+    octets(ancillary, 0, missing, 0);
+    octets(marks, 0, missing, 2);
     own_entries(set, cell, missing, samples, ancillary, marks);
 }

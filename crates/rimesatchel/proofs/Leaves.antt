@@ -24,6 +24,12 @@ use Rattle.rimesatchel.specs.Boxes.{
   ReceivedOctets,
 }
 
+after-refused : {a r : ℕ} (new old : List ℕ) → a ≡ r → (a ≡ 0 → ⊥) → old ≡ stateAfter r new old
+after-refused new old is some = rw (ne-eqb _ 0 (λ e. some (is ∙ e)))
+
+after-taken : {a r : ℕ} (new old : List ℕ) {left : List ℕ} → a ≡ r → a ≡ 0 → left ≡ new → left ≡ stateAfter r new old
+after-taken new old is none e = rw (sym is ∙ none) e
+
 module _ (state : List ℕ) (indication : Bool) (samples ancillary cell : List ℕ) {st : Sender} {answer : Sent} {cell₁ : List ℕ}
     (is : st ≡ senderOf state) (sends : Sends st indication samples ancillary cell answer cell₁)
   where
@@ -34,7 +40,7 @@ module _ (state : List ℕ) (indication : Bool) (samples ancillary cell : List �
     sent-refused some =
         record {
           refused = ap (λ (x : Sent). x .refusal) (here .answered);
-          leaves = rw (ne-eqb (answer .refusal) 0 some);
+          leaves = after-refused _ state (ap (λ (x : Sent). x .refusal) (here .answered)) some;
           writes = here .cell-after;
         }
 
@@ -43,7 +49,9 @@ module _ (state : List ℕ) (indication : Bool) (samples ancillary cell : List �
     sent-taken none e =
         record {
           refused = sym none ∙ ap (λ (x : Sent). x .refusal) (here .answered);
-          leaves = e ∙ ap (λ (x : Sent). senderOctets (x .state)) (here .answered);
+          leaves =
+              after-taken _ state (ap (λ (x : Sent). x .refusal) (here .answered)) none
+              (e ∙ ap (λ (x : Sent). senderOctets (x .state)) (here .answered));
           writes = here .cell-after;
         }
 
@@ -67,7 +75,7 @@ module _ (state cell : List ℕ) (indication : Bool) (samples ancillary marks : 
     received-refused some =
         record {
           refused = ap (λ (x : Received). x .refusal) (taken .answered);
-          leaves = rw (ne-eqb (answer .refusal) 0 some);
+          leaves = after-refused _ state (ap (λ (x : Received). x .refusal) (taken .answered)) some;
           reports = reported ∙ ap reportOctets (taken .answered);
           receives = subst (λ (x : Received). Receives (receiverOf state) cell indication samples ancillary marks x samples₁ ancillary₁ marks₁) (taken .answered) taken;
         }
@@ -77,7 +85,9 @@ module _ (state cell : List ℕ) (indication : Bool) (samples ancillary marks : 
     received-taken none e =
         record {
           refused = sym none ∙ ap (λ (x : Received). x .refusal) (taken .answered);
-          leaves = e ∙ ap (λ (x : Received). receiverOctets (x .state)) (taken .answered);
+          leaves =
+              after-taken _ state (ap (λ (x : Received). x .refusal) (taken .answered)) none
+              (e ∙ ap (λ (x : Received). receiverOctets (x .state)) (taken .answered));
           reports = reported ∙ ap reportOctets (taken .answered);
           receives = subst (λ (x : Received). Receives (receiverOf state) cell indication samples ancillary marks x samples₁ ancillary₁ marks₁) (taken .answered) taken;
         }

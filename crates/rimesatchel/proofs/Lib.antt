@@ -1,3 +1,5 @@
+pub mod BoxesOne
 pub mod Copies
 pub mod Leaves
+pub mod LogsOne
 pub mod StatusesOne

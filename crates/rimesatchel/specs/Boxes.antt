@@ -73,7 +73,8 @@ sentHere state indication samples ancillary cell = S.sentOf (senderOf state) ind
 
 pub record SentOctets (state : List ℕ) (indication : Bool) (samples ancillary cell : List ℕ) (refusal : ℕ) (left written : List ℕ) : Type 0 where
   pub refused : refusal ≡ sentHere state indication samples ancillary cell .refusal
-  pub leaves : left ≡ stateAfter refusal (senderOctets (sentHere state indication samples ancillary cell .state)) state
+  pub leaves : left
+      ≡ stateAfter (sentHere state indication samples ancillary cell .refusal) (senderOctets (sentHere state indication samples ancillary cell .state)) state
   pub writes : written ≡ S.cellAfter (senderOf state) indication samples ancillary cell
 
 abbrev pub receivedHere : List ℕ → List ℕ → Bool → List ℕ → List ℕ → List ℕ → Received
@@ -83,7 +84,9 @@ receivedHere state cell indication samples ancillary marks =
 pub record ReceivedOctets (state cell : List ℕ) (indication : Bool) (samples ancillary marks : List ℕ)
     (refusal : ℕ) (left samples₁ ancillary₁ marks₁ report : List ℕ) : Type 0 where
   pub refused : refusal ≡ receivedHere state cell indication samples ancillary marks .refusal
-  pub leaves : left ≡ stateAfter refusal (receiverOctets (receivedHere state cell indication samples ancillary marks .state)) state
+  pub leaves : left
+      ≡ stateAfter (receivedHere state cell indication samples ancillary marks .refusal)
+      (receiverOctets (receivedHere state cell indication samples ancillary marks .state)) state
   pub reports : report ≡ reportOctets (receivedHere state cell indication samples ancillary marks)
   pub receives : R.Receives (receiverOf state) cell indication samples ancillary marks
       (receivedHere state cell indication samples ancillary marks) samples₁ ancillary₁ marks₁

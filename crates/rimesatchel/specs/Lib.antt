@@ -1,2 +1,3 @@
 pub mod Boxes
+pub mod Logs
 pub mod Statuses

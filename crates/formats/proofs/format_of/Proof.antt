@@ -17,7 +17,8 @@ is-base-requires c κs = search needs
 returns : tie.Need-returns
 unfolding formatOf
 returns c =
-    sym (ap (λ (b : Bool). cond b (fieldsOf (c .before .before .args .octet)) noFormat) (sym (c .before .is-base .ensures) ∙ not-true _ (c .if1 .taken)))
+    sym
+    (ap (λ (b : Bool). cond b (fieldsOf (c .before .before .args .octet)) noFormat) (sym (c .before .is-base .ensures) ∙ not-true _ (c .if1 .taken)))
 
 sample-bits-requires : tie.Need-sample-bits-requires
 sample-bits-requires c κs = search needs

@@ -14,35 +14,47 @@ unsettled-requires c κs = search needs
 
 returns : tie.Need-returns
 returns c =
-    c .unsettled .ensures ∙ refuses-1 (c .before .before .before .args .octet) (c .before .before .before .args .channels) (c .before .before .before .args .order) (c .before .before .format-of .ensures) (c .before .if1 .taken)
+    let a = c .before .before .before .args in
+    c .unsettled .ensures ∙ refuses-1 (a .octet) (a .channels) (a .order) (c .before .before .format-of .ensures)
+    (c .before .if1 .taken)
 
 unsettled-requires-2 : tie.Need-unsettled-requires-2
 unsettled-requires-2 c κs = search needs
 
 returns-2 : tie.Need-returns-2
 returns-2 c =
-    c .unsettled2 .ensures ∙ refuses-2 (c .before .before .before .before .args .octet) (c .before .before .before .before .args .channels) (c .before .before .before .before .args .order) (c .before .before .before .format-of .ensures) (c .before .before .if1 .left) (c .before .if2 .taken)
+    let a = c .before .before .before .before .args in
+    c .unsettled2 .ensures ∙ refuses-2 (a .octet) (a .channels) (a .order) (c .before .before .before .format-of .ensures)
+    (c .before .before .if1 .left) (c .before .if2 .taken)
 
 unsettled-requires-3 : tie.Need-unsettled-requires-3
 unsettled-requires-3 c κs = search needs
 
 returns-3 : tie.Need-returns-3
 returns-3 c =
-    c .unsettled3 .ensures ∙ refuses-2-above (c .before .before .before .before .before .args .octet) (c .before .before .before .before .before .args .channels) (c .before .before .before .before .before .args .order) (c .before .before .before .before .format-of .ensures) (c .before .before .before .if1 .left) (c .before .before .if2 .left) (c .before .if3 .taken)
+    let a = c .before .before .before .before .before .args in
+    c .unsettled3 .ensures ∙ refuses-2-above (a .octet) (a .channels) (a .order)
+    (c .before .before .before .before .format-of .ensures) (c .before .before .before .if1 .left) (c .before .before .if2 .left)
+    (c .before .if3 .taken)
 
 unsettled-requires-4 : tie.Need-unsettled-requires-4
 unsettled-requires-4 c κs = search needs
 
 returns-4 : tie.Need-returns-4
 returns-4 c =
-    c .unsettled4 .ensures ∙ refuses-3 (c .before .before .before .before .before .before .args .octet) (c .before .before .before .before .before .before .args .channels) (c .before .before .before .before .before .before .args .order) (c .before .before .before .before .before .format-of .ensures) (c .before .before .before .before .if1 .left) (c .before .before .before .if2 .left) (c .before .before .if3 .left) (c .before .if4 .taken)
+    let a = c .before .before .before .before .before .before .args in
+    c .unsettled4 .ensures ∙ refuses-3 (a .octet) (a .channels) (a .order)
+    (c .before .before .before .before .before .format-of .ensures) (c .before .before .before .before .if1 .left)
+    (c .before .before .before .if2 .left) (c .before .before .if3 .left) (c .before .if4 .taken)
 
 div-t8 : tie.Need-div-t8
 div-t8 c = search needs
 
 returns-5 : tie.Need-returns-5
 returns-5 c =
-    settles (c .before .before .before .before .before .args .octet) (c .before .before .before .before .before .args .channels) (c .before .before .before .before .before .args .order) (c .before .before .before .before .format-of .ensures) (c .before .before .before .if1 .left) (c .before .before .if2 .left) (c .before .if3 .left) (c .if4 .left)
+    let a = c .before .before .before .before .before .args in
+    settles (a .octet) (a .channels) (a .order) (c .before .before .before .before .format-of .ensures)
+    (c .before .before .before .if1 .left) (c .before .before .if2 .left) (c .before .if3 .left) (c .if4 .left)
 
 pub settings-spec : {M : Type 1} → statement M
 settings-spec =

@@ -7,20 +7,20 @@ use native.Mathlib.Nat.{mul-le-mul}
 use native.Mathlib.Omega.{arith}
 use denote.Ref.{now}
 use lib.ListN.{length}
-use Rattle.receiver.specs.Receiver.{lastRefused, lengthsRefused}
+use Rattle.receiver.specs.Receiver.{numberNow, lastRefused, lengthsRefused}
 use Rattle.receiver.proofs.Laws.{gap-to, limits, whole, receives-settings, receives-4, receives-5, receives-8, receives-9, receives-10, receives-0}
 use borrow.Author.Needs.{needs}
 use Rattle.receiver.proofs.judge.receive_refusal.Statement.{statement}
 use Rattle.receiver.proofs.judge.receive_refusal.Tie as tie
 
 returns : tie.Need-returns
-returns c = receives-settings (c .before .before .args .state) (now (c .before .before .args .cell)) (c .before .before .args .samples) (c .before .before .args .ancillary) (c .before .before .args .marks) (c .before .before .pre) (c .if1 .taken)
+returns c = receives-settings (c .before .before .args .state) (now (c .before .before .args .cell)) (c .before .before .args .samples) (c .before .before .args .ancillary) (c .before .before .args .marks) (c .before .before .pre .0) (c .if1 .taken)
 
 last-refused-requires : tie.Need-last-refused-requires
 last-refused-requires c κs = search needs
 
 returns-2 : tie.Need-returns-2
-returns-2 c = receives-4 (c .before .before .before .before .before .args .state) (now (c .before .before .before .before .before .args .cell)) (c .before .before .before .before .before .args .samples) (c .before .before .before .before .before .args .ancillary) (c .before .before .before .before .before .args .marks) (c .before .before .before .before .before .pre) (c .before .before .before .if1 .left) (sym (c .if2 .taken) ∙ c .before .last-refused .ensures)
+returns-2 c = receives-4 (c .before .before .before .before .before .args .state) (now (c .before .before .before .before .before .args .cell)) (c .before .before .before .before .before .args .samples) (c .before .before .before .before .before .args .ancillary) (c .before .before .before .before .before .args .marks) (c .before .before .before .before .before .pre .0) (c .before .before .before .if1 .left) (sym (c .if2 .taken) ∙ c .before .last-refused .ensures)
 
 lengths-refused-requires : tie.Need-lengths-refused-requires
 lengths-refused-requires c κs = search needs
@@ -32,32 +32,32 @@ fifth : (c : tie.Else3) → false ≡ lengthsRefused (length (now (c .before .be
 fifth c = sym (c .if3 .left) ∙ c .before .lengths-refused .ensures
 
 returns-3 : tie.Need-returns-3
-returns-3 c = receives-5 (c .before .before .before .before .before .before .before .args .state) (now (c .before .before .before .before .before .before .before .args .cell)) (c .before .before .before .before .before .before .before .args .samples) (c .before .before .before .before .before .before .before .args .ancillary) (c .before .before .before .before .before .before .before .args .marks) (c .before .before .before .before .before .before .before .pre) (c .before .before .before .before .before .if1 .left) (fourth (c .before .before)) (sym (c .if3 .taken) ∙ c .before .lengths-refused .ensures)
+returns-3 c = receives-5 (c .before .before .before .before .before .before .before .args .state) (now (c .before .before .before .before .before .before .before .args .cell)) (c .before .before .before .before .before .before .before .args .samples) (c .before .before .before .before .before .before .before .args .ancillary) (c .before .before .before .before .before .before .before .args .marks) (c .before .before .before .before .before .before .before .pre .0) (c .before .before .before .before .before .if1 .left) (fourth (c .before .before)) (sym (c .if3 .taken) ∙ c .before .lengths-refused .ensures)
 
-number-now-requires : tie.Need-number-now-requires
-number-now-requires c κs = (limits (c .before .before .before .before .before .before .before .args .state) (now (c .before .before .before .before .before .before .before .args .cell)) (c .before .before .before .before .before .before .before .args .samples) (c .before .before .before .before .before .before .before .args .ancillary) (c .before .before .before .before .before .before .before .args .marks) (c .before .before .before .before .before .before .before .pre) (c .before .before .before .before .before .if1 .left) .sound, whole (c .before .before .before .before .before .before .before .args .state) (now (c .before .before .before .before .before .before .before .args .cell)) (c .before .before .before .before .before .before .before .args .samples) (c .before .before .before .before .before .before .before .args .ancillary) (c .before .before .before .before .before .before .before .args .marks) (c .before .before .before .before .before .before .before .pre) (c .before .before .before .before .before .if1 .left) (fourth (c .before .before)) (fifth c))
+number-is : (c : tie.Else3) → c .before .before .before .before .before .before .before .args .number ≡ numberNow (c .before .before .before .before .before .before .before .args .set .format) (now (c .before .before .before .before .before .before .before .args .cell))
+number-is c = c .before .before .before .before .before .before .before .pre .1 (c .before .before .before .before .before .if1 .left) (whole (c .before .before .before .before .before .before .before .args .state) (now (c .before .before .before .before .before .before .before .args .cell)) (c .before .before .before .before .before .before .before .args .samples) (c .before .before .before .before .before .before .before .args .ancillary) (c .before .before .before .before .before .before .before .args .marks) (c .before .before .before .before .before .before .before .pre .0) (c .before .before .before .before .before .if1 .left) (fourth (c .before .before)) (fifth c))
 
 returns-4 : tie.Need-returns-4
-returns-4 c = receives-8 (c .before .before .before .before .before .before .before .before .before .args .state) (now (c .before .before .before .before .before .before .before .before .before .args .cell)) (c .before .before .before .before .before .before .before .before .before .args .samples) (c .before .before .before .before .before .before .before .before .before .args .ancillary) (c .before .before .before .before .before .before .before .before .before .args .marks) (c .before .before .before .before .before .before .before .before .before .pre) (c .before .before .before .before .before .before .before .if1 .left) (fourth (c .before .before .before .before)) (fifth (c .before .before)) (c .before .number-now .ensures) (c .if4 .taken)
+returns-4 c = receives-8 (c .before .before .before .before .before .before .before .before .args .state) (now (c .before .before .before .before .before .before .before .before .args .cell)) (c .before .before .before .before .before .before .before .before .args .samples) (c .before .before .before .before .before .before .before .before .args .ancillary) (c .before .before .before .before .before .before .before .before .args .marks) (c .before .before .before .before .before .before .before .before .pre .0) (c .before .before .before .before .before .before .if1 .left) (fourth (c .before .before .before)) (fifth (c .before)) (number-is (c .before)) (c .if4 .taken)
 
 gap-now-requires : tie.Need-gap-now-requires
 gap-now-requires c κs = search needs
 
 returns-5 : tie.Need-returns-5
-returns-5 c = receives-9 (c .before .before .before .before .before .before .before .before .before .before .before .args .state) (now (c .before .before .before .before .before .before .before .before .before .before .before .args .cell)) (c .before .before .before .before .before .before .before .before .before .before .before .args .samples) (c .before .before .before .before .before .before .before .before .before .before .before .args .ancillary) (c .before .before .before .before .before .before .before .before .before .before .before .args .marks) (c .before .before .before .before .before .before .before .before .before .before .before .pre) (c .before .before .before .before .before .before .before .before .before .if1 .left) (fourth (c .before .before .before .before .before .before)) (fifth (c .before .before .before .before)) (c .before .before .before .number-now .ensures) (c .before .before .if4 .left) (c .before .gap-now .ensures) (c .if5 .taken)
+returns-5 c = receives-9 (c .before .before .before .before .before .before .before .before .before .before .args .state) (now (c .before .before .before .before .before .before .before .before .before .before .args .cell)) (c .before .before .before .before .before .before .before .before .before .before .args .samples) (c .before .before .before .before .before .before .before .before .before .before .args .ancillary) (c .before .before .before .before .before .before .before .before .before .before .args .marks) (c .before .before .before .before .before .before .before .before .before .before .pre .0) (c .before .before .before .before .before .before .before .before .if1 .left) (fourth (c .before .before .before .before .before)) (fifth (c .before .before .before)) (number-is (c .before .before .before)) (c .before .before .if4 .left) (c .before .gap-now .ensures) (c .if5 .taken)
 
 cast-if6 : tie.Need-cast-if6
 cast-if6 c = search needs
 
 mul-if6 : tie.Need-mul-if6
-mul-if6 c = omega (arith, limits (c .before .before .before .before .before .before .before .before .before .before .before .before .args .state) (now (c .before .before .before .before .before .before .before .before .before .before .before .before .args .cell)) (c .before .before .before .before .before .before .before .before .before .before .before .before .args .samples) (c .before .before .before .before .before .before .before .before .before .before .before .before .args .ancillary) (c .before .before .before .before .before .before .before .before .before .before .before .before .args .marks) (c .before .before .before .before .before .before .before .before .before .before .before .before .pre) (c .before .before .before .before .before .before .before .before .before .before .if1 .left) .used-to)
+mul-if6 c = omega (arith, limits (c .before .before .before .before .before .before .before .before .before .before .before .args .state) (now (c .before .before .before .before .before .before .before .before .before .before .before .args .cell)) (c .before .before .before .before .before .before .before .before .before .before .before .args .samples) (c .before .before .before .before .before .before .before .before .before .before .before .args .ancillary) (c .before .before .before .before .before .before .before .before .before .before .before .args .marks) (c .before .before .before .before .before .before .before .before .before .before .before .pre .0) (c .before .before .before .before .before .before .before .before .before .if1 .left) .used-to)
 
 gap-room : (c : tie.After-struct-known)
-    → c .before .before .gap-now .result * (c .before .before .before .before .before .before .before .before .before .before .before .before .args .set .channels * c .before .before .before .before .before .before .before .before .before .before .before .before .args .set .times) < 2 ^ 64
+    → c .before .before .gap-now .result * (c .before .before .before .before .before .before .before .before .before .before .before .args .set .channels * c .before .before .before .before .before .before .before .before .before .before .before .args .set .times) < 2 ^ 64
 gap-room c =
     let gap : c .before .before .gap-now .result ≤ 15
-    = rw (c .before .before .gap-now .ensures) (gap-to (c .before .before .before .before .before .before .before .before .before .before .before .before .args .set .format) (c .before .before .before .before .before .before .before .before .before .before .before .before .args .state .started) (c .before .before .before .before .before .before .before .before .before .before .before .before .args .state .last) (c .before .before .before .before .number-now .result)) in
-    let used = limits (c .before .before .before .before .before .before .before .before .before .before .before .before .args .state) (now (c .before .before .before .before .before .before .before .before .before .before .before .before .args .cell)) (c .before .before .before .before .before .before .before .before .before .before .before .before .args .samples) (c .before .before .before .before .before .before .before .before .before .before .before .before .args .ancillary) (c .before .before .before .before .before .before .before .before .before .before .before .before .args .marks) (c .before .before .before .before .before .before .before .before .before .before .before .before .pre) (c .before .before .before .before .before .before .before .before .before .before .if1 .left) .used-to in
+    = rw (c .before .before .gap-now .ensures) (gap-to (c .before .before .before .before .before .before .before .before .before .before .before .args .set .format) (c .before .before .before .before .before .before .before .before .before .before .before .args .state .started) (c .before .before .before .before .before .before .before .before .before .before .before .args .state .last) (c .before .before .before .before .before .before .before .before .before .before .before .args .number)) in
+    let used = limits (c .before .before .before .before .before .before .before .before .before .before .before .args .state) (now (c .before .before .before .before .before .before .before .before .before .before .before .args .cell)) (c .before .before .before .before .before .before .before .before .before .before .before .args .samples) (c .before .before .before .before .before .before .before .before .before .before .before .args .ancillary) (c .before .before .before .before .before .before .before .before .before .before .before .args .marks) (c .before .before .before .before .before .before .before .before .before .before .before .pre .0) (c .before .before .before .before .before .before .before .before .before .if1 .left) .used-to in
     let product = mul-le-mul gap used in
     omega arith
 
@@ -65,10 +65,10 @@ mul-if6-2 : tie.Need-mul-if6-2
 mul-if6-2 c = record { fits = gap-room c }
 
 returns-6 : tie.Need-returns-6
-returns-6 c = receives-10 (c .before .before .before .before .before .before .before .before .before .before .before .before .before .args .state) (now (c .before .before .before .before .before .before .before .before .before .before .before .before .before .args .cell)) (c .before .before .before .before .before .before .before .before .before .before .before .before .before .args .samples) (c .before .before .before .before .before .before .before .before .before .before .before .before .before .args .ancillary) (c .before .before .before .before .before .before .before .before .before .before .before .before .before .args .marks) (c .before .before .before .before .before .before .before .before .before .before .before .before .before .pre) (c .before .before .before .before .before .before .before .before .before .before .before .if1 .left) (fourth (c .before .before .before .before .before .before .before .before)) (fifth (c .before .before .before .before .before .before)) (c .before .before .before .before .before .number-now .ensures) (c .before .before .before .before .if4 .left) (c .before .before .before .gap-now .ensures) (c .before .before .if5 .left) (c .if6 .taken)
+returns-6 c = receives-10 (c .before .before .before .before .before .before .before .before .before .before .before .before .args .state) (now (c .before .before .before .before .before .before .before .before .before .before .before .before .args .cell)) (c .before .before .before .before .before .before .before .before .before .before .before .before .args .samples) (c .before .before .before .before .before .before .before .before .before .before .before .before .args .ancillary) (c .before .before .before .before .before .before .before .before .before .before .before .before .args .marks) (c .before .before .before .before .before .before .before .before .before .before .before .before .pre .0) (c .before .before .before .before .before .before .before .before .before .before .if1 .left) (fourth (c .before .before .before .before .before .before .before)) (fifth (c .before .before .before .before .before)) (number-is (c .before .before .before .before .before)) (c .before .before .before .before .if4 .left) (c .before .before .before .gap-now .ensures) (c .before .before .if5 .left) (c .if6 .taken)
 
 returns-7 : tie.Need-returns-7
-returns-7 c = receives-0 (c .before .before .before .before .before .before .before .before .before .before .before .before .before .args .state) (now (c .before .before .before .before .before .before .before .before .before .before .before .before .before .args .cell)) (c .before .before .before .before .before .before .before .before .before .before .before .before .before .args .samples) (c .before .before .before .before .before .before .before .before .before .before .before .before .before .args .ancillary) (c .before .before .before .before .before .before .before .before .before .before .before .before .before .args .marks) (c .before .before .before .before .before .before .before .before .before .before .before .before .before .pre) (c .before .before .before .before .before .before .before .before .before .before .before .if1 .left) (fourth (c .before .before .before .before .before .before .before .before)) (fifth (c .before .before .before .before .before .before)) (c .before .before .before .before .before .number-now .ensures) (c .before .before .before .before .if4 .left) (c .before .before .before .gap-now .ensures) (c .before .before .if5 .left) (c .if6 .left)
+returns-7 c = receives-0 (c .before .before .before .before .before .before .before .before .before .before .before .before .args .state) (now (c .before .before .before .before .before .before .before .before .before .before .before .before .args .cell)) (c .before .before .before .before .before .before .before .before .before .before .before .before .args .samples) (c .before .before .before .before .before .before .before .before .before .before .before .before .args .ancillary) (c .before .before .before .before .before .before .before .before .before .before .before .before .args .marks) (c .before .before .before .before .before .before .before .before .before .before .before .before .pre .0) (c .before .before .before .before .before .before .before .before .before .before .if1 .left) (fourth (c .before .before .before .before .before .before .before)) (fifth (c .before .before .before .before .before)) (number-is (c .before .before .before .before .before)) (c .before .before .before .before .if4 .left) (c .before .before .before .gap-now .ensures) (c .before .before .if5 .left) (c .if6 .left)
 
 pub receive-refusal-spec : {M : Type 1} → statement M
 receive-refusal-spec =
@@ -79,7 +79,6 @@ receive-refusal-spec =
     returns-2
     lengths-refused-requires
     returns-3
-    number-now-requires
     returns-4
     gap-now-requires
     returns-5

@@ -1,27 +1,32 @@
--- `receiver::unpack::bit_in` meets its contract.
+-- `receiver::unpack::bit_in` meets its contract: the slot's last octet has the bit.
 -- Assumes nothing.
-use mathlib.Core.Path.{ap}
-use Prim.Native.Nat.{ℕ, _/_, _%_}
-use native.Mathlib.Nat.{mod-lt}
 use native.Mathlib.Omega.{arith}
+use denote.Ref.{now}
+use native.Mathlib.Nat.{mod-lt}
 use Rattle.cells.specs.Cells.{subframeAt, bitIn}
 use Rattle.cells.proofs.Subframes.{slot-room}
+use Prim.Native.Nat.{_*_}
+use Rattle.receiver.proofs.Reading.{last-bit}
 use borrow.Author.Needs.{needs}
 use Rattle.receiver.proofs.unpack.bit_in.Statement.{statement}
 use Rattle.receiver.proofs.unpack.bit_in.Tie as tie
 
-mul-number-at : tie.Need-mul-number-at
-mul-number-at c = omega (arith, slot-room (c .before .pre .0) (c .before .pre .2))
+mul-result : tie.Need-mul-result
+mul-result c = omega (arith, slot-room (c .pre .0) (c .pre .2))
 
-number-at-requires : tie.Need-number-at-requires
-number-at-requires c κs = (omega (arith, slot-room (c .before .pre .0) (c .before .pre .2), c .before .pre .1), c .before .pre .0 .width-to)
+sub-result : tie.Need-sub-result
+sub-result c = c .pre .0 .width-from
 
-cast-result : tie.Need-cast-result
-cast-result c = search needs
+add-result : tie.Need-add-result
+add-result c = omega (arith, slot-room (c .pre .0) (c .pre .2), c .pre .0 .width-from)
+
+shared-slice-read-result : tie.Need-shared-slice-read-result
+shared-slice-read-result c = omega (arith, slot-room (c .before .pre .0) (c .before .pre .2), c .before .pre .1, c .before .pre .0 .width-from)
 
 returns : tie.Need-returns
 unfolding subframeAt bitIn
-returns c = (ap (λ (n : ℕ). n / 8 % 2) (c .number-at .ensures .0), mod-lt _ (omega arith))
+returns c = let s = c .before in (last-bit (now (s .args .cell)) (s .args .slot * s .args .format .width) (s .pre .0 .width-from) (omega (arith, slot-room (s .pre .0) (s .pre .2), s .pre .1)), mod-lt _ (omega arith))
 
 pub bit-in-spec : {M : Type 1} → statement M
-bit-in-spec = tie.close (tie.spec mul-number-at number-at-requires cast-result returns)
+bit-in-spec =
+    tie.close (tie.spec mul-result sub-result add-result shared-slice-read-result returns)

@@ -7,7 +7,7 @@ use denote.Ref.{now}
 use borrow.Author.Needs.{needs}
 use Rattle.numbers.specs.Numbers.{gathered}
 use Rattle.cells.specs.Cells.{bitIn, eightIn}
-use Rattle.receiver.proofs.Unpacking.{Gathers, gathers-begun, gathers-low, gathers-on}
+use Rattle.receiver.proofs.Reading.{Gathers, gathers-begun, gathers-low, gathers-on}
 use Rattle.receiver.proofs.unpack.eight_in.Statement.{statement}
 use Rattle.receiver.proofs.unpack.eight_in.Tie as tie
 

@@ -1,7 +1,7 @@
 -- `receiver::unpack::write` meets its contract.
 -- Assumes nothing.
-use Rattle.receiver.proofs.Unpacking.{writes}
 use denote.Ref.{now}
+use Rattle.receiver.proofs.Unpacking.{writes}
 use borrow.Author.Needs.{needs}
 use Rattle.receiver.proofs.unpack.write.Statement.{statement}
 use Rattle.receiver.proofs.unpack.write.Tie as tie
@@ -16,7 +16,7 @@ octets-requires-2 : tie.Need-octets-requires-2
 octets-requires-2 c κs = search needs
 
 own-entries-requires : tie.Need-own-entries-requires
-own-entries-requires c κs = search needs
+own-entries-requires c κs = let s = c .before .before .before .before .before .before .before .before .before .before .before .before .before .before .before .before .before .before .before in (s .pre .0, s .pre .1, s .pre .2, record { samples-room = search needs; ancillary-room = search needs; marks-room = search needs })
 
 same-length : tie.Need-same-length
 same-length c = search needs
@@ -29,7 +29,8 @@ same-length-3 c = search needs
 
 returns : tie.Need-returns
 returns c =
-    writes (c .before .before .before .before .before .before .before .before .before .before .before .before .before .before .before .before .before .before .before .before .before .before .before .before .before .before .args .set) (now (c .before .before .before .before .before .before .before .before .before .before .before .before .before .before .before .before .before .before .before .before .before .before .before .before .before .before .args .cell)) (c .before .before .before .before .before .before .before .before .before .before .before .before .before .before .before .before .before .before .before .before .before .before .before .before .before .before .args .missing) (now (c .before .before .before .before .before .before .before .before .before .before .before .before .before .before .before .before .before .before .before .before .before .before .before .before .before .before .args .samples)) (now (c .before .before .before .before .before .before .before .before .before .before .before .before .before .before .before .before .before .before .before .before .before .before .before .before .before .before .args .ancillary)) (now (c .before .before .before .before .before .before .before .before .before .before .before .before .before .before .before .before .before .before .before .before .before .before .before .before .before .before .args .marks)) (c .before .before .before .before .before .before .before .before .before .before .before .before .before .before .before .before .before .before .before .before .before .before .before .before .before .before .pre .2)
+    let s = c .before .before .before .before .before .before .before .before .before .before .before .before .before .before .before .before .before .before .before .before .before .before .before .before .before .before in
+    writes (s .args .set) (now (s .args .cell)) (s .args .missing) (now (s .args .samples)) (now (s .args .ancillary)) (now (s .args .marks)) (s .pre .3)
     (c .before .before .before .before .before .before .before .before .before .before .before .before .before .before .before .before .before .before .before .before .zeros .ensures) (c .before .before .before .before .before .before .before .before .before .before .before .before .before .before .before .before .octets .ensures) (c .before .before .before .before .before .before .before .before .before .before .before .before .octets2 .ensures) (c .before .before .before .before .before .before .own-entries .ensures)
 
 pub write-spec : {M : Type 1} → statement M

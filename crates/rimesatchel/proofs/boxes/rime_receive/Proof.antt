@@ -25,7 +25,12 @@ same-length-3 : tie.Need-same-length-3
 same-length-3 c = search needs
 
 returns : tie.Need-returns
-returns c = received-refused (now (c .before .before .before .before .before .before .before .before .before .before .before .before .before .before .before .before .before .before .before .args .state)) (now (c .before .before .before .before .before .before .before .before .before .before .before .before .before .before .before .before .before .before .before .args .cell)) (c .before .before .before .before .before .before .before .before .before .before .before .before .before .before .before .before .before .before .before .args .indication) (now (c .before .before .before .before .before .before .before .before .before .before .before .before .before .before .before .before .before .before .before .args .samples)) (now (c .before .before .before .before .before .before .before .before .before .before .before .before .before .before .before .before .before .before .before .args .ancillary)) (now (c .before .before .before .before .before .before .before .before .before .before .before .before .before .before .before .before .before .before .before .args .marks)) (c .before .before .before .before .before .before .before .before .before .before .before .before .before .receiver-of .ensures) (c .before .before .before .before .before .before .before .before .before .receive .ensures) (c .before .before .yes-no .ensures) (c .if1 .taken)
+returns c =
+    let a = c .before .before .before .before .before .before .before .before .before .before .before .before .before .before .before .before .before .before .before .args in
+    received-refused (now (a .state)) (now (a .cell)) (a .indication) (now (a .samples)) (now (a .ancillary)) (now (a .marks))
+    (c .before .before .before .before .before .before .before .before .before .before .before .before .before .receiver-of .ensures)
+    (c .before .before .before .before .before .before .before .before .before .receive .ensures)
+    (c .before .before .yes-no .ensures) (c .if1 .taken)
 
 receiver-octets-requires : tie.Need-receiver-octets-requires
 receiver-octets-requires c κs = search needs
@@ -40,7 +45,12 @@ same-length-6 : tie.Need-same-length-6
 same-length-6 c = search needs
 
 returns-2 : tie.Need-returns-2
-returns-2 c = received-taken (now (c .before .before .before .before .before .before .before .before .before .before .before .before .before .before .before .before .before .before .before .before .before .args .state)) (now (c .before .before .before .before .before .before .before .before .before .before .before .before .before .before .before .before .before .before .before .before .before .args .cell)) (c .before .before .before .before .before .before .before .before .before .before .before .before .before .before .before .before .before .before .before .before .before .args .indication) (now (c .before .before .before .before .before .before .before .before .before .before .before .before .before .before .before .before .before .before .before .before .before .args .samples)) (now (c .before .before .before .before .before .before .before .before .before .before .before .before .before .before .before .before .before .before .before .before .before .args .ancillary)) (now (c .before .before .before .before .before .before .before .before .before .before .before .before .before .before .before .before .before .before .before .before .before .args .marks)) (c .before .before .before .before .before .before .before .before .before .before .before .before .before .before .before .receiver-of .ensures) (c .before .before .before .before .before .before .before .before .before .before .before .receive .ensures) (c .before .before .before .before .yes-no .ensures) (c .before .before .if1 .left) (c .receiver-octets .ensures)
+returns-2 c =
+    let a = c .before .before .before .before .before .before .before .before .before .before .before .before .before .before .before .before .before .before .before .before .before .args in
+    received-taken (now (a .state)) (now (a .cell)) (a .indication) (now (a .samples)) (now (a .ancillary)) (now (a .marks))
+    (c .before .before .before .before .before .before .before .before .before .before .before .before .before .before .before .receiver-of .ensures)
+    (c .before .before .before .before .before .before .before .before .before .before .before .receive .ensures)
+    (c .before .before .before .before .yes-no .ensures) (c .before .before .if1 .left) (c .receiver-octets .ensures)
 
 pub rime-receive-spec : {M : Type 1} → statement M
 rime-receive-spec =

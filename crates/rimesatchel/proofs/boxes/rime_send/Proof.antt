@@ -16,7 +16,10 @@ same-length : tie.Need-same-length
 same-length c = search needs
 
 returns : tie.Need-returns
-returns c = sent-refused (now (c .before .before .before .before .before .before .before .before .before .before .args .state)) (c .before .before .before .before .before .before .before .before .before .before .args .indication) (now (c .before .before .before .before .before .before .before .before .before .before .args .samples)) (now (c .before .before .before .before .before .before .before .before .before .before .args .ancillary)) (now (c .before .before .before .before .before .before .before .before .before .before .args .cell)) (c .before .before .before .before .before .sender-of .ensures) (c .before .before .before .send .ensures) (c .if1 .taken)
+returns c =
+    let a = c .before .before .before .before .before .before .before .before .before .before .args in
+    sent-refused (now (a .state)) (a .indication) (now (a .samples)) (now (a .ancillary)) (now (a .cell))
+    (c .before .before .before .before .before .sender-of .ensures) (c .before .before .before .send .ensures) (c .if1 .taken)
 
 sender-octets-requires : tie.Need-sender-octets-requires
 sender-octets-requires c κs = search needs
@@ -25,7 +28,11 @@ same-length-2 : tie.Need-same-length-2
 same-length-2 c = search needs
 
 returns-2 : tie.Need-returns-2
-returns-2 c = sent-taken (now (c .before .before .before .before .before .before .before .before .before .before .before .before .args .state)) (c .before .before .before .before .before .before .before .before .before .before .before .before .args .indication) (now (c .before .before .before .before .before .before .before .before .before .before .before .before .args .samples)) (now (c .before .before .before .before .before .before .before .before .before .before .before .before .args .ancillary)) (now (c .before .before .before .before .before .before .before .before .before .before .before .before .args .cell)) (c .before .before .before .before .before .before .before .sender-of .ensures) (c .before .before .before .before .before .send .ensures) (c .before .before .if1 .left) (c .sender-octets .ensures)
+returns-2 c =
+    let a = c .before .before .before .before .before .before .before .before .before .before .before .before .args in
+    sent-taken (now (a .state)) (a .indication) (now (a .samples)) (now (a .ancillary)) (now (a .cell))
+    (c .before .before .before .before .before .before .before .sender-of .ensures)
+    (c .before .before .before .before .before .send .ensures) (c .before .before .if1 .left) (c .sender-octets .ensures)
 
 pub rime-send-spec : {M : Type 1} → statement M
 rime-send-spec =

@@ -1,0 +1,109 @@
+-- A list fits a run of 131,072 octets, whatever its log.
+-- Assumes nothing.
+use mathlib.Core.Bool.{true}
+use mathlib.Core.List.{List, [], _∷_, _++_}
+use mathlib.Core.Path.{_≡_, _∙_, ap}
+use Prim.Native.Nat.{ℕ, zero, suc, _+_, _*_, _/_, _%_, _-_, _≤_}
+use native.Mathlib.Omega.{arith}
+use borrow.Author.Tests.{eqb-true, ltb-false, le-leb}
+use lib.Dec.{eqb, ltb}
+use Rattle.runs.proofs.Laws.{split}
+use lib.ListN.{length, length-append}
+use Rattle.log.specs.Records.{headerOf, recordAt}
+use Rattle.log.proofs.Places.{cell-facts}
+use Rattle.receiver.specs.declared.Received.{Received}
+use Rattle.listing.specs.declared.Listed.{Listed}
+use Rattle.listing.specs.declared.records.Standing.{Standing}
+use Rattle.listing.specs.Lines.{formatLine, brokenLine, endLine, logRefusedLine}
+use Rattle.listing.specs.List.{startOf, gotAt, lineOf, afterOf, endLines, recordLines, linesFrom, listOf, Lists}
+use Rattle.listing.specs.Text.{digitsOf, item}
+use Rattle.listing.specs.Words.{words}
+use Rattle.listing.proofs.Standings.{after-place}
+
+length-digits : (k n : ℕ) → length (digitsOf k n) ≤ k
+unfolding digitsOf
+length-digits zero n = omega arith
+length-digits (suc k) n =
+    split (ltb n 10)
+    (λ e. rw e (omega arith))
+    (λ e. rw (e, length-append (digitsOf k (n / 10)) ((48 + n % 10) ∷ [])) (omega (arith, length-digits k (n / 10))))
+
+-- words and a number behind octets
+with-item : (octets more : List ℕ) (n : ℕ) {a b : ℕ} → length octets ≤ a → length more ≤ b → length (octets ++ item more n) ≤ a + b + 20
+with-item octets more n h l =
+    rw (length-append octets (item more n), length-append more (digitsOf 20 n)) (omega (arith, length-digits 20 n))
+
+with-words : (octets more : List ℕ) {a b : ℕ} → length octets ≤ a → length more ≤ b → length (octets ++ more) ≤ a + b
+with-words octets more h l = rw (length-append octets more) (omega arith)
+
+one-item : (more : List ℕ) (n : ℕ) {b : ℕ} → length more ≤ b → length (item more n) ≤ b + 20
+one-item more n l = rw (length-append more (digitsOf 20 n)) (omega (arith, length-digits 20 n))
+
+three-short : (first second third last : List ℕ) (a b c : ℕ) {i j k l : ℕ} → length first ≤ i → length second ≤ j → length third ≤ k
+    → length last ≤ l → length (item first a ++ item second b ++ item third c ++ last) ≤ i + j + k + l + 60
+three-short first second third last a b c hi hj hk hl =
+    let one = one-item first a hi in
+    let two = with-item (item first a) second b one hj in
+    let three = with-item (item first a ++ item second b) third c two hk in
+    omega (arith, with-words (item first a ++ item second b ++ item third c) last three hl)
+
+two-short : (first second last : List ℕ) (a b : ℕ) {i j l : ℕ} → length first ≤ i → length second ≤ j → length last ≤ l
+    → length (item first a ++ item second b ++ last) ≤ i + j + l + 40
+two-short first second last a b hi hj hl =
+    let one = one-item first a hi in
+    let two = with-item (item first a) second b one hj in
+    omega (arith, with-words (item first a ++ item second b) last two hl)
+
+line-short : (index : ℕ) (got : Received) → length (lineOf index got) ≤ 76
+unfolding lineOf
+line-short index got =
+    split (eqb (got .refusal) 0)
+    (λ e. rw e (three-short (words "") (words " sound ") (words " number ") (words "\n") index (got .missing) (got .number) {i = 0} {j = 7} {k = 8} {l = 1} (omega arith) (omega arith) (omega arith) (omega arith)))
+    (λ e. rw e (omega (arith, two-short (words "") (words " refused ") (words "\n") index (got .refusal) {i = 0} {j = 9} {l = 1} (omega arith) (omega arith) (omega arith))))
+
+end-short : (here : Standing) (refusal : ℕ) → length (endLines here refusal) ≤ 140
+unfolding endLines
+end-short here refusal =
+    let end = three-short (words "end ") (words " sound ") (words " missing ") (words " refused\n") (here .sound) (here .missing) (here .refused) {i = 4} {j = 7} {k = 9} {l = 9} (omega arith) (omega arith) (omega arith) (omega arith) in
+    let broken = two-short (words "") (words " broken ") (words "\n") (here .index) refusal {i = 0} {j = 8} {l = 1} (omega arith) (omega arith) (omega arith) in
+    split (eqb refusal 0)
+    (λ e. rw e (omega (arith, end)))
+    (λ e. rw e (omega (arith, with-words (brokenLine (here .index) refusal) (endLine (here .sound) (here .missing) (here .refused)) broken end)))
+
+-- so many records as the log holds from here on
+lines-short : (most : ℕ) (log : List ℕ) (here : Standing) (k : ℕ) → length log ≤ here .place + 49 * k + 48
+    → length (recordLines most log here) ≤ 140 + 76 * k
+unfolding recordLines
+lines-short zero log here k h = omega arith
+lines-short (suc most) log here k h =
+    split (eqb (recordAt log (here .place) .what) 1)
+    (λ e.
+    let facts = cell-facts log (here .place) (eqb-true (recordAt log (here .place) .what) 1 e) in
+    let past : Standing = afterOf here (recordAt log (here .place) .next) (gotAt log here) in
+    let place = after-place here (recordAt log (here .place) .next) (gotAt log here) in
+    let rest = lines-short most log past (k - 1) (omega (arith, facts .0, facts .1, place)) in
+    rw e (omega (arith, facts .0, with-words (lineOf (here .index) (gotAt log here)) (recordLines most log past) (line-short (here .index) (gotAt log here)) rest)))
+    (λ e. rw e (omega (arith, end-short here (recordAt log (here .place) .refusal))))
+
+-- a log of at most 65,536 octets has fewer than 1,338 records
+pub list-fits : (log : List ℕ) → length (listOf log) ≤ 131072
+unfolding listOf
+list-fits log =
+    let refused : (n : ℕ) → length (logRefusedLine n) ≤ 131072 =
+    λ n. omega (arith, with-words (item (words "log refused ") n) (words "\n") {a = 32} {b = 1} (one-item (words "log refused ") n {b = 12} (omega arith)) (omega arith)) in
+    split (ltb 65536 (length log))
+    (λ e. rw e (refused 13))
+    (λ e.
+    split (eqb (headerOf log .refusal) 0)
+    (λ ok.
+    let few = ltb-false 65536 (length log) e in
+    let head = three-short (words "format ") (words " ") (words " ") (words "\n") (headerOf log .format) (headerOf log .channels) (headerOf log .order) {i = 7} {j = 1} {k = 1} {l = 1} (omega arith) (omega arith) (omega arith) (omega arith) in
+    let rest = lines-short (suc (length log - 0)) log (startOf (headerOf log)) 1338 (omega arith) in
+    rw (e, ok)
+    (omega (arith, with-words (formatLine (headerOf log .format) (headerOf log .channels) (headerOf log .order)) (linesFrom log (startOf (headerOf log))) head rest)))
+    (λ ok. rw (e, ok) (refused (headerOf log .refusal))))
+
+-- so a run of that many octets holds the whole list
+pub lists-whole : {log run after : List ℕ} {answer : Listed} → 131072 ≤ length run → Lists log run answer after → answer .whole ≡ true
+lists-whole {log} {run} room l =
+    ap (λ (x : Listed). x .whole) (l .answered) ∙ le-leb (length (listOf log)) (length run) (omega (arith, list-fits log))

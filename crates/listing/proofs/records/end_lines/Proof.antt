@@ -1,0 +1,42 @@
+-- `listing::records::end_lines` meets its contract.
+-- Assumes nothing.
+use Rattle.listing.proofs.Laws.{puts-then, puts-same}
+use Rattle.listing.proofs.Standings.{end-plain, end-broken}
+use borrow.Author.Needs.{needs}
+use Rattle.listing.proofs.records.end_lines.Statement.{statement}
+use Rattle.listing.proofs.records.end_lines.Tie as tie
+
+end-line-requires : tie.Need-end-line-requires
+end-line-requires c κs = search needs
+
+same-length : tie.Need-same-length
+same-length c = search needs
+
+returns : tie.Need-returns
+returns c = puts-same (end-plain (c .before .before .before .before .before .before .args .here) (c .before .before .before .before .before .before .args .refusal) (c .before .before .before .before .if1 .taken)) (c .before .before .end-line .ensures)
+
+broken-line-requires : tie.Need-broken-line-requires
+broken-line-requires c κs = search needs
+
+end-line-requires-2 : tie.Need-end-line-requires-2
+end-line-requires-2 c κs = search needs
+
+same-length-2 : tie.Need-same-length-2
+same-length-2 c = search needs
+
+returns-2 : tie.Need-returns-2
+returns-2 c =
+    puts-same (end-broken (c .before .before .before .before .before .before .before .before .before .before .args .here) (c .before .before .before .before .before .before .before .before .before .before .args .refusal) (c .before .before .before .before .before .before .before .before .if1 .left))
+    (puts-then (c .before .before .before .before .before .before .broken-line .ensures) (c .before .before .end-line2 .ensures))
+
+pub end-lines-spec : {M : Type 1} → statement M
+end-lines-spec =
+    tie.close
+    (tie.spec
+    end-line-requires
+    same-length
+    returns
+    broken-line-requires
+    end-line-requires-2
+    same-length-2
+    returns-2)

@@ -1,0 +1,60 @@
+-- `listing::text::put_all` meets its contract. The loop: so many of the octets are put. The measure is what is left of them.
+-- Assumes nothing.
+use mathlib.Core.Path.{_≡_, refl, _∙_}
+use Prim.Native.Nat.{_≤_, _-_}
+use borrow.Author.Needs.{needs}
+use lib.ListN.{length, take}
+use Rattle.listing.specs.Text.{Puts}
+use Rattle.listing.proofs.Laws.{puts-none, puts-turn, puts-all}
+use Rattle.listing.proofs.text.put_all.Statement.{statement}
+use Rattle.listing.proofs.text.put_all.Tie as tie
+
+abbrev Inv-loop : tie.InvT-loop
+Inv-loop run₀ octets past₀ i₀ run past i =
+    (i ≤ length octets) × (length run ≡ length run₀) × Puts run₀ past₀ run past (take i octets)
+
+abbrev μ-loop : tie.MeasureT-loop
+μ-loop run₀ octets past₀ i₀ run past i = length octets - i
+
+loop-holds : tie.Need-loop-holds Inv-loop μ-loop
+loop-holds c = (search needs, refl, puts-none _ _)
+
+shared-slice-read-put : tie.Need-shared-slice-read-put Inv-loop μ-loop
+shared-slice-read-put c = search needs
+
+put-requires : tie.Need-put-requires Inv-loop μ-loop
+put-requires c κs = search needs
+
+add-i : tie.Need-add-i Inv-loop μ-loop
+add-i c = search needs
+
+loop-less : tie.Need-loop-less Inv-loop μ-loop
+loop-less c = search needs
+
+loop-again : tie.Need-loop-again Inv-loop μ-loop
+loop-again c = (
+  search needs,
+  c .before .before .put .kept .0 ∙ c .before .before .before .before .before .before .loop .inv .1,
+  puts-turn (c .before .before .before .before .before .before .before .before .before .args .octets .now) (c .before .before .before .before .before .before .loop .i) (c .before .before .before .before .before .loop-test .taken) (c .before .before .before .before .before .before .loop .inv .2) (c .before .before .put .ensures),
+)
+
+same-length : tie.Need-same-length Inv-loop μ-loop
+same-length c = search needs
+
+returns : tie.Need-returns Inv-loop μ-loop
+returns c = puts-all (c .before .before .before .before .args .octets .now) (c .before .loop .i) (c .loop-test .left) (c .before .loop .inv .2)
+
+pub put-all-spec : {M : Type 1} → statement M
+put-all-spec =
+    tie.close
+    (tie.spec
+    Inv-loop
+    μ-loop
+    loop-holds
+    shared-slice-read-put
+    put-requires
+    add-i
+    loop-less
+    loop-again
+    same-length
+    returns)

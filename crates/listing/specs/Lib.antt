@@ -1,0 +1,4 @@
+pub mod Lines
+pub mod List
+pub mod Text
+pub mod Words

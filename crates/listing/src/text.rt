@@ -1,0 +1,60 @@
+// Octets put one after the other into a lent run, as far as it goes. What no longer fits is left out, and the answer says so.
+use crate::Listed;
+ghost use mathlib.Core.List.{[], _∷_};
+ghost use mathlib.Core.Path.{_≡_};
+ghost use Prim.Native.Nat.{_+_, _%_};
+ghost use Rattle.listing.specs.Text.{Puts, decimal, item};
+
+pub(crate) fn put(run: &mut [u8], at: Listed, octet: u8) -> Listed
+    ensures { λ r. ⌜ Puts (now (run .entry)) at (now (run .exit)) r (octet ∷ []) ⌝ }
+{
+    let place = at.octets;
+    if place < run.len() {
+        run[place] = octet;
+        let next = place + 1;
+        return Listed {
+            octets: next,
+            whole: at.whole,
+        };
+    }
+    Listed {
+        octets: place,
+        whole: false,
+    }
+}
+
+pub(crate) fn put_all(run: &mut [u8], at: Listed, octets: &[u8]) -> Listed
+    ensures { λ r. ⌜ Puts (now (run .entry)) at (now (run .exit)) r (now (octets .entry)) ⌝ }
+{
+    let mut past = at;
+    let mut i = 0;
+    while i < octets.len() {
+        past = put(run, past, octets[i]);
+        i += 1;
+    }
+    past
+}
+
+fn digit(n: usize) -> u8
+    ensures { λ r. ⌜ r ≡ 48 + n % 10 ⌝ }
+{
+    (48 + n % 10) as u8
+}
+
+pub(crate) fn put_number(run: &mut [u8], at: Listed, n: usize) -> Listed
+    ensures { λ r. ⌜ Puts (now (run .entry)) at (now (run .exit)) r (decimal n) ⌝ }
+{
+    if n < 10 {
+        return put(run, at, digit(n));
+    }
+    let past = put_number(run, at, n / 10);
+    put(run, past, digit(n))
+}
+
+// Words, and a number behind them.
+pub(crate) fn put_item(run: &mut [u8], at: Listed, words: &[u8], n: usize) -> Listed
+    ensures { λ r. ⌜ Puts (now (run .entry)) at (now (run .exit)) r (item (now (words .entry)) n) ⌝ }
+{
+    let past = put_all(run, at, words);
+    put_number(run, past, n)
+}

@@ -1,0 +1,6 @@
+pub mod Converse
+pub mod Headers
+pub mod Keeping
+pub mod Laws
+pub mod One
+pub mod Places

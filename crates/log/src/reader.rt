@@ -1,0 +1,47 @@
+// The reader over a lent log, document 01: it "holds the octets and a place only". Thin functions over those on a slice and a
+// place, proved by hand. `read` is for all callers that hold the log as a slice themselves.
+use crate::Record;
+ghost use mathlib.Core.Path.{_≡_};
+ghost use Rattle.log.specs.Records.{recordAt, placeAfter, cellAt, from};
+
+pub struct Reader<'a> {
+    pub log: &'a [u8],
+    pub place: usize,
+}
+
+// A reader at a place of a lent log.
+pub fn new<'a>(log: &'a [u8], place: usize) -> Reader<'a>
+    ensures { λ r. ⌜ (r .log ≡ log .entry) × (r .place ≡ place) ⌝ }
+{
+    Reader { log, place }
+}
+
+// The record where the reader stands.
+pub fn next<'a>(r: Reader<'a>) -> Record
+    ensures { λ s. ⌜ s ≡ recordAt (now (r .entry .log)) (r .entry .place) ⌝ }
+{
+    crate::read_record(r.log, r.place)
+}
+
+// The cell where the reader stands, as that part of the log itself; an empty part where there is none.
+pub fn cell<'a>(r: Reader<'a>) -> &'a [u8]
+    ensures { λ s. ⌜ (now s ≡ cellAt (now (r .entry .log)) (r .entry .place))
+        × (s .ptr ≡ from (r .entry .log .ptr) (recordAt (now (r .entry .log)) (r .entry .place) .start)) ⌝ }
+{
+    crate::read_cell(r.log, r.place)
+}
+
+// The reader past the record where it stands; where there is no cell, its place stays as given.
+pub fn onward<'a>(r: Reader<'a>) -> Reader<'a>
+    ensures { λ q. ⌜ (q .log ≡ r .entry .log) × (q .place ≡ placeAfter (now (r .entry .log)) (r .entry .place)) ⌝ }
+{
+    let place = crate::next_place(r.log, r.place);
+    Reader { log: r.log, place }
+}
+
+// The record at a place of a log.
+pub fn read(log: &[u8], place: usize) -> Record
+    ensures { λ s. ⌜ s ≡ recordAt (now (log .entry)) place ⌝ }
+{
+    next(new(log, place))
+}

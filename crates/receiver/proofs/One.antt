@@ -1,0 +1,30 @@
+-- No second answer: two answers, and two contents of each lent run at exit, that meet a public function's contract for the same inputs are equal. Stated over the contracts
+-- themselves.
+-- Assumes nothing.
+use mathlib.Core.Path.{_≡_, refl, sym, _∙_}
+use Rattle.runs.proofs.One.{One}
+use Rattle.receiver.proofs.opened.Kinds as opened-kinds
+use Rattle.receiver.proofs.opened.Reads as opened-reads
+use Rattle.receiver.proofs.receive.Kinds as receive-kinds
+use Rattle.receiver.proofs.receive.Reads as receive-reads
+
+pub opened-one : One opened-kinds.ps opened-kinds.r opened-reads.Pre opened-reads.Post
+opened-one κs a x y v w pre p q = (p ∙ sym q, refl)
+
+pub receive-one : One receive-kinds.ps receive-kinds.r receive-reads.Pre receive-reads.Post
+receive-one κs a x y v w pre p q = (
+  p .answered ∙ sym (q .answered),
+  λ i. (
+    tt,
+    (
+      tt,
+      (
+        tt,
+        (
+          (p .samples-after ∙ sym (q .samples-after)) i,
+          ((p .ancillary-after ∙ sym (q .ancillary-after)) i, ((p .marks-after ∙ sym (q .marks-after)) i, tt)),
+        ),
+      ),
+    ),
+  ),
+)

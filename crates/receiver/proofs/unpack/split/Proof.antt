@@ -1,0 +1,143 @@
+-- `receiver::unpack::split` meets its contract: three runs are filled side by side, the first where it was read.
+-- Assumes nothing.
+use native.Mathlib.Omega.{arith}
+use denote.Ref.{now}
+use mathlib.Core.Path.{_≡_, refl, sym, _∙_, ap}
+use Prim.Native.Nat.{ℕ, _-_, _+_, _<_, _/_, _%_}
+use native.Mathlib.Nat.{mod-lt}
+use lib.ListN.{getD}
+use Rattle.runs.proofs.Filling.{Filled, begun}
+use Rattle.guards.specs.Guards.{nineOf}
+use Rattle.cells.specs.Cells.{sampleIn, ancillaryIn, markIn}
+use Rattle.receiver.proofs.Marking.{sample-over, ancillary-over, mark-over}
+use Rattle.receiver.proofs.Unpacking.{fill-on, fill-done, fill-ahead, held-length, held-at}
+use Rattle.receiver.specs.Unpacking.{held}
+use borrow.Author.Needs.{needs}
+use Rattle.receiver.proofs.unpack.split.Statement.{statement}
+use Rattle.receiver.proofs.unpack.split.Tie as tie
+
+abbrev Inv-loop : tie.InvT-loop
+Inv-loop format at used samples₀ ancillary₀ marks₀ i₀ samples ancillary marks i =
+    Filled samples samples₀ at (held (sampleIn format) samples₀ at used) i
+    × Filled ancillary ancillary₀ at (held (ancillaryIn format) samples₀ at used) i
+    × Filled marks marks₀ at (held (markIn format) samples₀ at used) i
+
+abbrev μ-loop : tie.MeasureT-loop
+μ-loop format at used samples₀ ancillary₀ marks₀ i₀ samples ancillary marks i = used - i
+
+loop-holds : tie.Need-loop-holds Inv-loop μ-loop
+loop-holds c = let s = c .before .before .before in (begun (now (s .args .samples)) (s .args .at) (held (sampleIn (s .args .format)) (now (s .args .samples)) (s .args .at) (s .args .used)), begun (now (s .args .ancillary)) (s .args .at) (held (ancillaryIn (s .args .format)) (now (s .args .samples)) (s .args .at) (s .args .used)), begun (now (s .args .marks)) (s .args .at) (held (markIn (s .args .format)) (now (s .args .samples)) (s .args .at) (s .args .used)))
+
+add-subframe : tie.Need-add-subframe Inv-loop μ-loop
+add-subframe c = omega (arith, c .before .before .before .before .before .pre .2 .samples-room, c .loop-test .taken)
+
+mul-subframe : tie.Need-mul-subframe Inv-loop μ-loop
+mul-subframe c = omega (arith, c .before .before .before .before .before .pre .2 .samples-room, c .loop-test .taken, c .before .before .before .before .before .good)
+
+slice-read-subframe : tie.Need-slice-read-subframe Inv-loop μ-loop
+slice-read-subframe c = omega (arith, c .before .before .before .before .before .before .pre .2 .samples-room, c .before .loop-test .taken, c .before .before .loop .inv .0 .same)
+
+add-samples : tie.Need-add-samples Inv-loop μ-loop
+add-samples c = omega (arith, c .before .before .before .before .before .before .pre .2 .samples-room, c .before .loop-test .taken)
+
+mul-samples : tie.Need-mul-samples Inv-loop μ-loop
+mul-samples c = omega (arith, c .before .before .before .before .before .before .pre .2 .samples-room, c .before .loop-test .taken, c .before .before .before .before .before .before .good)
+
+slice-write-samples : tie.Need-slice-write-samples Inv-loop μ-loop
+slice-write-samples c = omega (arith, c .before .before .before .before .before .before .pre .2 .samples-room, c .before .loop-test .taken, c .before .before .loop .inv .0 .same)
+
+cast-ancillary : tie.Need-cast-ancillary Inv-loop μ-loop
+cast-ancillary c = omega arith
+
+add-ancillary : tie.Need-add-ancillary Inv-loop μ-loop
+add-ancillary c = omega (arith, c .before .before .before .before .before .before .pre .2 .ancillary-room, c .before .loop-test .taken)
+
+slice-write-ancillary : tie.Need-slice-write-ancillary Inv-loop μ-loop
+slice-write-ancillary c = omega (arith, c .before .before .before .before .before .before .pre .2 .ancillary-room, c .before .loop-test .taken, c .before .before .loop .inv .1 .same)
+
+nine-bits-requires : tie.Need-nine-bits-requires Inv-loop μ-loop
+nine-bits-requires c κs = search needs
+
+marks-of-requires : tie.Need-marks-of-requires Inv-loop μ-loop
+marks-of-requires c κs = search needs
+
+shr-marks : tie.Need-shr-marks Inv-loop μ-loop
+shr-marks c = omega arith
+
+cast-marks : tie.Need-cast-marks Inv-loop μ-loop
+cast-marks c = omega arith
+
+add-marks : tie.Need-add-marks Inv-loop μ-loop
+add-marks c = omega (arith, c .before .before .before .before .before .before .before .before .pre .2 .marks-room, c .before .before .before .loop-test .taken)
+
+slice-write-marks : tie.Need-slice-write-marks Inv-loop μ-loop
+slice-write-marks c = omega (arith, c .before .before .before .before .before .before .before .before .pre .2 .marks-room, c .before .before .before .loop-test .taken, c .before .before .before .before .loop .inv .2 .same)
+
+add-i : tie.Need-add-i Inv-loop μ-loop
+add-i c = omega (arith, c .before .before .before .before .before .before .before .before .pre .2 .marks-room, c .before .before .before .loop-test .taken)
+
+loop-less : tie.Need-loop-less Inv-loop μ-loop
+loop-less c = omega (arith, c .before .before .before .loop-test .taken)
+
+loop-again : tie.Need-loop-again Inv-loop μ-loop
+loop-again c =
+    let s = c .before .before .before .before .before .before .before .before in
+    let less = c .before .before .before .loop-test .taken in
+    let inv = c .before .before .before .before .loop .inv in
+    let word = getD (c .before .before .before .before .loop .samples) (s .args .at + c .before .before .before .before .loop .i) 0 in
+    let was = fill-ahead (now (s .args .samples)) (s .args .at) (held (sampleIn (s .args .format)) (now (s .args .samples)) (s .args .at) (s .args .used)) (held-length (sampleIn (s .args .format)) (now (s .args .samples)) (s .args .at) (s .args .used)) (s .pre .2 .samples-room) (inv .0) in (
+      fill-on (now (s .args .samples)) (s .args .at) (held (sampleIn (s .args .format)) (now (s .args .samples)) (s .args .at) (s .args .used)) (held-length (sampleIn (s .args .format)) (now (s .args .samples)) (s .args .at) (s .args .used)) (s .pre .2 .samples-room) (inv .0) less
+          (sample-over (s .args .format) (s .pre .0) (s .pre .1) word ∙ ap (sampleIn (s .args .format)) was ∙ held-at (sampleIn (s .args .format)) (now (s .args .samples)) (s .args .at) (s .args .used) less),
+      fill-on (now (s .args .ancillary)) (s .args .at) (held (ancillaryIn (s .args .format)) (now (s .args .samples)) (s .args .at) (s .args .used)) (held-length (ancillaryIn (s .args .format)) (now (s .args .samples)) (s .args .at) (s .args .used)) (s .pre .2 .ancillary-room) (inv .1) less
+          (ancillary-over (s .args .format) (s .pre .0) (s .pre .1) word ∙ ap (ancillaryIn (s .args .format)) was ∙ held-at (ancillaryIn (s .args .format)) (now (s .args .samples)) (s .args .at) (s .args .used) less),
+      fill-on (now (s .args .marks)) (s .args .at) (held (markIn (s .args .format)) (now (s .args .samples)) (s .args .at) (s .args .used)) (held-length (markIn (s .args .format)) (now (s .args .samples)) (s .args .at) (s .args .used)) (s .pre .2 .marks-room) (inv .2) less
+          (mark-over (s .args .format) (s .pre .0) (s .pre .1) word (c .marks-of .result) (c .before .nine-bits .ensures) (c .marks-of .ensures) ∙ ap (markIn (s .args .format)) was ∙ held-at (markIn (s .args .format)) (now (s .args .samples)) (s .args .at) (s .args .used) less),
+    )
+
+same-length : tie.Need-same-length Inv-loop μ-loop
+same-length c = c .before .loop .inv .0 .same
+
+same-length-2 : tie.Need-same-length-2 Inv-loop μ-loop
+same-length-2 c = c .before .loop .inv .1 .same
+
+same-length-3 : tie.Need-same-length-3 Inv-loop μ-loop
+same-length-3 c = c .before .loop .inv .2 .same
+
+returns : tie.Need-returns Inv-loop μ-loop
+returns c =
+    let s = c .before .before .before .before .before in
+    record {
+      samples-are = fill-done (now (s .args .samples)) (s .args .at) (held (sampleIn (s .args .format)) (now (s .args .samples)) (s .args .at) (s .args .used)) (held-length (sampleIn (s .args .format)) (now (s .args .samples)) (s .args .at) (s .args .used)) (s .pre .2 .samples-room) (c .before .loop .inv .0) (c .loop-test .left);
+      ancillary-is = fill-done (now (s .args .ancillary)) (s .args .at) (held (ancillaryIn (s .args .format)) (now (s .args .samples)) (s .args .at) (s .args .used)) (held-length (ancillaryIn (s .args .format)) (now (s .args .samples)) (s .args .at) (s .args .used)) (s .pre .2 .ancillary-room) (c .before .loop .inv .1) (c .loop-test .left);
+      marks-are = fill-done (now (s .args .marks)) (s .args .at) (held (markIn (s .args .format)) (now (s .args .samples)) (s .args .at) (s .args .used)) (held-length (markIn (s .args .format)) (now (s .args .samples)) (s .args .at) (s .args .used)) (s .pre .2 .marks-room) (c .before .loop .inv .2) (c .loop-test .left);
+    }
+
+pub split-spec : {M : Type 1} → statement M
+split-spec =
+    tie.close
+    (tie.spec
+    Inv-loop
+    μ-loop
+    loop-holds
+    add-subframe
+    mul-subframe
+    slice-read-subframe
+    add-samples
+    mul-samples
+    slice-write-samples
+    cast-ancillary
+    add-ancillary
+    slice-write-ancillary
+    nine-bits-requires
+    marks-of-requires
+    shr-marks
+    cast-marks
+    add-marks
+    slice-write-marks
+    add-i
+    loop-less
+    loop-again
+    same-length
+    same-length-2
+    same-length-3
+    returns)

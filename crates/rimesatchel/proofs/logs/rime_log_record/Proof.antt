@@ -1,0 +1,36 @@
+-- `rimesatchel::logs::rime_log_record` meets its contract: it says what `log::reader::read` says.
+-- Assumes nothing.
+use mathlib.Core.Bool.{Bool, true, false, cond}
+use mathlib.Core.List.{[], _∷_}
+use mathlib.Core.Path.{_≡_, refl, _∙_, ap}
+use mir.Val.{boolByte}
+use Rattle.log.specs.declared.Record.{Record}
+use Rattle.rimesatchel.specs.Logs.{recordNumbers}
+use borrow.Author.Needs.{needs}
+use Rattle.rimesatchel.proofs.logs.rime_log_record.Statement.{statement}
+use Rattle.rimesatchel.proofs.logs.rime_log_record.Tie as tie
+
+read-requires : tie.Need-read-requires
+read-requires c κs = search needs
+
+cast-t5 : tie.Need-cast-t5
+cast-t5 c = search needs
+
+cast-t6 : tie.Need-cast-t6
+cast-t6 c = search needs
+
+byte-of : (b : Bool) → boolByte b ≡ cond b 1 0
+byte-of true = refl
+byte-of false = refl
+
+as-numbers : (r : Record) → r .what ∷ boolByte (r .indication) ∷ r .start ∷ r .next ∷ [] ≡ recordNumbers r
+as-numbers r = rw (byte-of (r .indication))
+
+returns : tie.Need-returns
+returns c = (
+  ap (λ (r : Record). r .refusal) (c .before .before .before .read .ensures),
+  as-numbers (c .before .before .before .read .result) ∙ ap recordNumbers (c .before .before .before .read .ensures),
+)
+
+pub rime-log-record-spec : {M : Type 1} → statement M
+rime-log-record-spec = tie.close (tie.spec read-requires cast-t5 cast-t6 returns)
