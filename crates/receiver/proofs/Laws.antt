@@ -1,15 +1,14 @@
 -- Laws of the receiver's refusals: what each check gives in its turn, what is known where none refuses, and what a call leaves.
 -- Assumes nothing.
 use mathlib.Core.Bool.{Bool, true, false, true≢false, cond, not, _||_}
-use mathlib.Core.List.{List, [], _++_, append-assoc}
-use mathlib.Core.Path.{_≡_, refl, sym, _∙_, ap, ap₂, subst}
-use Prim.Native.Nat.{ℕ, zero, suc, _+_, _*_, _-_, _%_, _≤_, _<_}
+use mathlib.Core.List.{List, _++_}
+use mathlib.Core.Path.{_≡_, sym, _∙_, ap, ap₂, subst}
+use Prim.Native.Nat.{ℕ, suc, _+_, _*_, _-_, _%_, _≤_, _<_}
 use native.Mathlib.Nat.{suc-ne-zero, pos-of-ne-zero, suc-mul, mod-lt, le-of-suc-le-suc}
 use native.Mathlib.Omega.{arith}
 use borrow.Author.Tests.{lt-ltb, le-ltb, eq-eqb, ne-eqb, ltb-false, eqb-true, eqb-false, not-false}
 use lib.Dec.{T, eqb, ltb, eqb→eq}
-use lib.ListN.{length, drop, replicate}
-use Rattle.runs.specs.Refusals.{orElse}
+use lib.ListN.{length, replicate}
 use Rattle.runs.specs.Runs.{over}
 use Rattle.runs.specs.Test.{every}
 use Rattle.runs.proofs.Laws.{every-at, first-refuses, then-later, past, past-both, neither}

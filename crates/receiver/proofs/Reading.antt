@@ -5,7 +5,7 @@ use mathlib.Core.List.{List}
 use mathlib.Core.Logic.{⊎-elim}
 use mathlib.Core.Path.{_≡_, refl, sym, _∙_, ap, ap₂, subst}
 use Prim.Native.Nat.{ℕ, zero, suc, _+_, _*_, _/_, _%_, _-_, _^_, _≤_, _<_}
-use native.Mathlib.Nat.{pow-suc, mod-lt, mod-eq-of-lt, div-eq-of-lt, add-zero, zero-add, zero-mul, suc-mul, mul-le-mul-right, le-of-suc-le-suc, div-add-mod', div-lt-iff-lt-mul, mul-comm, eq-or-lt-of-le}
+use native.Mathlib.Nat.{pow-suc, mod-lt, mod-eq-of-lt, div-eq-of-lt, add-zero, zero-add, zero-mul, suc-mul, le-of-suc-le-suc, div-add-mod', div-lt-iff-lt-mul, mul-comm, eq-or-lt-of-le}
 use native.Mathlib.Numerals.{add-one}
 use native.Mathlib.Omega.{arith}
 use borrow.Author.Tests.{lt-ltb, le-ltb}

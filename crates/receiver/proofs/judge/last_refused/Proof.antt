@@ -1,7 +1,6 @@
 -- `receiver::judge::last_refused` meets its contract.
 -- Assumes nothing.
 use borrow.Author.Tests.{lt-ltb, le-ltb, eq-eqb, ne-eqb, not-true, not-false}
-use borrow.Author.Needs.{needs}
 use Rattle.receiver.specs.Receiver.{lastRefused}
 use Rattle.receiver.proofs.judge.last_refused.Statement.{statement}
 use Rattle.receiver.proofs.judge.last_refused.Tie as tie

@@ -1,7 +1,6 @@
 -- `receiver::judge::lengths_refused` meets its contract.
 -- Assumes nothing.
 use borrow.Author.Tests.{eq-eqb, ne-eqb}
-use borrow.Author.Needs.{needs}
 use Rattle.receiver.specs.Receiver.{lengthsRefused}
 use Rattle.receiver.proofs.judge.lengths_refused.Statement.{statement}
 use Rattle.receiver.proofs.judge.lengths_refused.Tie as tie

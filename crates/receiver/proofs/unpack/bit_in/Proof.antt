@@ -7,7 +7,6 @@ use Rattle.cells.specs.Cells.{subframeAt, bitIn}
 use Rattle.cells.proofs.Subframes.{slot-room}
 use Prim.Native.Nat.{_*_}
 use Rattle.receiver.proofs.Reading.{last-bit}
-use borrow.Author.Needs.{needs}
 use Rattle.receiver.proofs.unpack.bit_in.Statement.{statement}
 use Rattle.receiver.proofs.unpack.bit_in.Tie as tie
 

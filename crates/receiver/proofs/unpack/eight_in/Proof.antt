@@ -1,13 +1,12 @@
 -- `receiver::unpack::eight_in` meets its contract.
 -- Assumes nothing.
 use mathlib.Core.Path.{_≡_, _∙_, ap}
-use Prim.Native.Nat.{ℕ, _-_}
+use Prim.Native.Nat.{_-_}
 use native.Mathlib.Omega.{arith}
 use denote.Ref.{now}
-use borrow.Author.Needs.{needs}
 use Rattle.numbers.specs.Numbers.{gathered}
 use Rattle.cells.specs.Cells.{bitIn, eightIn}
-use Rattle.receiver.proofs.Reading.{Gathers, gathers-begun, gathers-low, gathers-on}
+use Rattle.receiver.proofs.Reading.{Gathers, gathers-begun, gathers-on}
 use Rattle.receiver.proofs.unpack.eight_in.Statement.{statement}
 use Rattle.receiver.proofs.unpack.eight_in.Tie as tie
 

@@ -4,7 +4,6 @@ use Prim.Native.Nat.{_%_}
 use native.Mathlib.Nat.{mod-lt}
 use native.Mathlib.Omega.{arith}
 use Rattle.receiver.proofs.Marking.{arm1, arm2, arm3, arm4, arm5, arm6, arm7, arm8, rest}
-use borrow.Author.Needs.{needs}
 use Rattle.receiver.proofs.unpack.marks_of.Statement.{statement}
 use Rattle.receiver.proofs.unpack.marks_of.Tie as tie
 

@@ -3,7 +3,7 @@
 use mathlib.Core.Path.{_≡_, _∙_, sym, ap}
 use borrow.Author.Tests.{eq-eqb, ne-eqb}
 use denote.Ref.{now}
-use Rattle.numbers.specs.Numbers.{numberIn, foundOf}
+use Rattle.numbers.specs.Numbers.{foundOf}
 use Rattle.numbers.proofs.Laws.{found-is, found-not}
 use Rattle.cells.specs.Cells.{eightIn}
 use Rattle.receiver.specs.Receiver.{numberNow}

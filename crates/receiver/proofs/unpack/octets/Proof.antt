@@ -1,13 +1,12 @@
 -- `receiver::unpack::octets` meets its contract: the run is filled.
 -- Assumes nothing.
 use mathlib.Core.Path.{sym}
-use Prim.Native.Nat.{ℕ, _-_}
+use Prim.Native.Nat.{_-_}
 use native.Mathlib.Omega.{arith}
 use denote.Ref.{now}
 use lib.ListN.{replicate, length-replicate, getD-replicate}
 use Rattle.runs.proofs.Filling.{Filled, begun}
 use Rattle.receiver.proofs.Unpacking.{fill-on, fill-done}
-use borrow.Author.Needs.{needs}
 use Rattle.receiver.proofs.unpack.octets.Statement.{statement}
 use Rattle.receiver.proofs.unpack.octets.Tie as tie
 

@@ -1,9 +1,6 @@
 -- `receiver::unpack::parts` meets its contract: each kind of format by its split.
 -- Assumes nothing.
-use native.Mathlib.Omega.{arith}
 use denote.Ref.{now}
-use mathlib.Core.Path.{_≡_}
-use Prim.Native.Nat.{_≤_}
 use Rattle.cells.proofs.Subframes.{four}
 use Rattle.receiver.proofs.Unpacking.{splits-plain, splits-bare, four-bits}
 use borrow.Author.Needs.{needs}

@@ -2,12 +2,10 @@
 -- Assumes nothing.
 use native.Mathlib.Omega.{arith}
 use denote.Ref.{now}
-use mathlib.Core.Path.{_≡_, refl, sym, _∙_, ap}
-use Prim.Native.Nat.{ℕ, _-_, _+_, _<_, _/_, _%_}
-use native.Mathlib.Nat.{mod-lt}
+use mathlib.Core.Path.{_∙_, ap}
+use Prim.Native.Nat.{_-_, _+_}
 use lib.ListN.{getD}
 use Rattle.runs.proofs.Filling.{Filled, begun}
-use Rattle.guards.specs.Guards.{nineOf}
 use Rattle.cells.specs.Cells.{sampleIn, ancillaryIn, markIn}
 use Rattle.receiver.proofs.Marking.{sample-over, ancillary-over, mark-over}
 use Rattle.receiver.proofs.Unpacking.{fill-on, fill-done, fill-ahead, held-length, held-at}

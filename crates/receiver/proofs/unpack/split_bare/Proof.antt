@@ -2,13 +2,11 @@
 -- Assumes nothing.
 use native.Mathlib.Omega.{arith}
 use denote.Ref.{now}
-use mathlib.Core.Path.{_≡_, refl, sym, _∙_, ap}
-use Prim.Native.Nat.{ℕ, _-_, _+_, _<_, _/_, _%_}
-use lib.ListN.{getD}
+use mathlib.Core.Path.{_∙_, ap}
+use Prim.Native.Nat.{ℕ, _-_, _/_, _%_}
 use Rattle.runs.proofs.Filling.{Filled, begun}
 use Rattle.receiver.proofs.Unpacking.{fill-on, fill-done, fill-ahead, held-length, held-at}
 use Rattle.receiver.specs.Unpacking.{held}
-use borrow.Author.Needs.{needs}
 use Rattle.receiver.proofs.unpack.split_bare.Statement.{statement}
 use Rattle.receiver.proofs.unpack.split_bare.Tie as tie
 

@@ -8,7 +8,6 @@ use native.Mathlib.Nat.{mul-one}
 use lib.ListN.{take, drop}
 use Rattle.runs.specs.Runs.{numberOf}
 use Rattle.receiver.proofs.Reading.{one-read, two-read, three-read, four-read, six-read, by-width, slot-at, one-left}
-use borrow.Author.Needs.{needs}
 use Rattle.receiver.proofs.unpack.subframe_in.Statement.{statement}
 use Rattle.receiver.proofs.unpack.subframe_in.Tie as tie
 

@@ -2,8 +2,8 @@
 -- Assumes nothing.
 use native.Mathlib.Omega.{arith}
 use denote.Ref.{now}
-use mathlib.Core.Path.{_≡_, refl, sym, _∙_, ap}
-use Prim.Native.Nat.{ℕ, _-_, _+_, _<_}
+use mathlib.Core.Path.{_≡_, _∙_, ap}
+use Prim.Native.Nat.{ℕ, _-_}
 use Rattle.runs.proofs.Filling.{Filled, begun}
 use Rattle.cells.specs.Cells.{subframeAt}
 use Rattle.receiver.proofs.Unpacking.{fill-on, fill-done, own-length, own-at, slot-in}
@@ -14,7 +14,6 @@ use Rattle.receiver.proofs.Reading.{walk-begun, walk-on}
 use Rattle.cells.proofs.Placement.{slot-lt}
 use Prim.Native.Nat.{_≤_, _*_}
 use native.Mathlib.Nat.{mul-le-mul-right, one-mul}
-use borrow.Author.Needs.{needs}
 use Rattle.receiver.proofs.unpack.subframes_by_channel.Statement.{statement}
 use Rattle.receiver.proofs.unpack.subframes_by_channel.Tie as tie
 

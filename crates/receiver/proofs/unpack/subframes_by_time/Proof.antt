@@ -2,13 +2,12 @@
 -- Assumes nothing.
 use native.Mathlib.Omega.{arith}
 use denote.Ref.{now}
-use mathlib.Core.Path.{_≡_, refl, sym, _∙_, ap}
-use Prim.Native.Nat.{ℕ, _-_, _+_, _<_}
+use mathlib.Core.Path.{_∙_, ap}
+use Prim.Native.Nat.{_-_}
 use Rattle.runs.proofs.Filling.{Filled, begun}
 use Rattle.cells.specs.Cells.{subframeAt}
 use Rattle.receiver.proofs.Unpacking.{fill-on, fill-done, own-length, own-at, slot-in, straight}
 use Rattle.receiver.specs.Unpacking.{usedIn, ownEntries}
-use borrow.Author.Needs.{needs}
 use Rattle.receiver.proofs.unpack.subframes_by_time.Statement.{statement}
 use Rattle.receiver.proofs.unpack.subframes_by_time.Tie as tie
 

@@ -5,7 +5,6 @@ use Prim.Native.Nat.{ℕ, _-_}
 use native.Mathlib.Omega.{arith}
 use denote.Ref.{now}
 use lib.ListN.{replicate, length-replicate, getD-replicate}
-use borrow.Author.Needs.{needs}
 use Rattle.runs.proofs.Filling.{Filled, begun, turned-front, done-front}
 use Rattle.receiver.proofs.unpack.zeros.Statement.{statement}
 use Rattle.receiver.proofs.unpack.zeros.Tie as tie
