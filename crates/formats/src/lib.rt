@@ -22,7 +22,7 @@ pub struct Settled {
 }
 
 // The sample bits that the low four bits of an octet mean; 0 for a reserved code.
-pub fn sample_bits(octet: u32) -> u32
+fn sample_bits(octet: u32) -> u32
     ensures { λ r. ⌜ r ≡ sampleBits octet ⌝ }
 {
     let code = octet % 16;
@@ -38,7 +38,7 @@ pub fn sample_bits(octet: u32) -> u32
 
 // Whether an octet, as a number that is not cut to an octet before, is one of the eleven base formats. It goes by the rules of
 // the paper's first paragraph, and not by its table.
-pub fn is_base(octet: u32) -> bool
+fn is_base(octet: u32) -> bool
     ensures { λ r. ⌜ r ≡ isBase octet ⌝ }
 {
     if 255 < octet {
@@ -64,7 +64,7 @@ pub fn is_base(octet: u32) -> bool
 }
 
 // The format of one of the eleven octets, and all zeros for any other number.
-pub fn format_of(octet: u32) -> Format
+fn format_of(octet: u32) -> Format
     ensures { λ r. ⌜ r ≡ formatOf octet ⌝ }
 {
     if !is_base(octet) {

@@ -63,31 +63,9 @@ pub nine-lt : (length sample : ℕ) → nineOf length sample < 512
 unfolding nineOf
 nine-lt length sample = mod-lt _ (omega arith)
 
--- the ten bits folded to seven, and the three bits by sums modulo 2
-abbrev seven : ℕ → ℕ
-seven bits = bitXor bits (bits / 128) % 128
-
-abbrev pub folded : ℕ → ℕ
-folded bits =
-    7
-    - (bitXor (bitXor (bitXor (seven bits / 2) (seven bits / 4)) (seven bits / 8)) (seven bits / 64) % 2 * 4
-    + bitXor (bitXor (bitXor (seven bits) (seven bits / 2)) (seven bits / 4)) (seven bits / 32) % 2 * 2
-    + bitXor (bitXor (bitXor (seven bits) (seven bits / 4)) (seven bits / 8)) (seven bits / 16) % 2)
-
-pub folded-right : {ten : ℕ} → ten < 1024 → folded ten ≡ tenGuard ten
-unfolding every tenGuard coefficients divided takenDown
-folded-right {ten} h =
-    eqb→eq (folded ten) (tenGuard ten) (every-at (λ k. eqb (folded k) (tenGuard k)) 1024 tt ten h)
-
 pub guard-le : (length sample v : ℕ) → guardOf length sample v ≤ 7
 unfolding guardOf tenGuard
 guard-le length sample v = omega arith
-
-pub guard-ten : {nine : ℕ} (length sample v : ℕ) → nine ≡ nineOf length sample → tenGuard ((nine * 2 + v % 2) % 1024) ≡ guardOf length sample v
-unfolding guardOf
-guard-ten length sample v e =
-    ap (λ (n : ℕ). tenGuard ((n * 2 + v % 2) % 1024)) e
-    ∙ ap tenGuard (mod-eq-of-lt (omega (arith, nine-lt length sample)))
 
 -- the nine top bits by one shift, where a sample has no bits above its length
 pub nine-top : (length : ℕ) {sample : ℕ} → 8 ≤ length → sample < 2 ^ length → sample * 2 / 2 ^ (length - 8) ≡ nineOf length sample

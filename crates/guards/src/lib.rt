@@ -1,7 +1,6 @@
 // Protection of a sample, document 01.
 ghost use mathlib.Core.Path.{_≡_};
-ghost use Prim.Native.Nat.{_%_};
-ghost use Rattle.guards.specs.Guards.{nineOf, tenGuard, sevenGuards, guardOf};
+ghost use Rattle.guards.specs.Guards.{nineOf, sevenGuards};
 
 // The nine top bits of a sample of `length` bits; an 8-bit sample has a ninth bit of 0.
 pub fn nine_bits(length: u64, sample: u64) -> u64
@@ -16,26 +15,6 @@ pub fn nine_bits(length: u64, sample: u64) -> u64
         return 0;
     }
     (sample >> below) % 512
-}
-
-// The three bits for nine sample bits and V as one number of ten bits: x^7 is 1 modulo x^3 + x + 1, so the ten are folded to
-// seven first.
-pub fn ten_guard(ten: u64) -> u64
-    ensures { λ r. ⌜ r ≡ tenGuard (ten % 1024) ⌝ }
-{
-    let bits = ten % 1024;
-    let m = (bits ^ (bits >> 7)) % 128;
-    let low = (m ^ (m >> 2) ^ (m >> 3) ^ (m >> 4)) % 2;
-    let middle = (m ^ (m >> 1) ^ (m >> 2) ^ (m >> 5)) % 2;
-    let high = ((m >> 1) ^ (m >> 2) ^ (m >> 3) ^ (m >> 6)) % 2;
-    7 - (high * 4 + middle * 2 + low)
-}
-
-// The three protection bits of a sample of `length` bits and its V.
-pub fn guard_of(length: u64, sample: u64, v: u64) -> u64
-    ensures { λ r. ⌜ r ≡ guardOf length sample v ⌝ }
-{
-    ten_guard(nine_bits(length, sample) * 2 + v % 2)
 }
 
 const SEVENS: [u8; 128] = [

@@ -5,26 +5,21 @@ use mathlib.Core.Path.{_≡_, refl, sym, _∙_}
 use Rattle.runs.proofs.One.{One}
 use Rattle.numbers.proofs.entry_of.Kinds as entry-of-kinds
 use Rattle.numbers.proofs.entry_of.Reads as entry-of-reads
-use Rattle.numbers.proofs.turned_round.Kinds as turned-round-kinds
-use Rattle.numbers.proofs.turned_round.Reads as turned-round-reads
 use Rattle.numbers.proofs.number_of.Kinds as number-of-kinds
 use Rattle.numbers.proofs.number_of.Reads as number-of-reads
-use Rattle.numbers.proofs.bit_of.Kinds as bit-of-kinds
-use Rattle.numbers.proofs.bit_of.Reads as bit-of-reads
+use Rattle.numbers.proofs.sequence_of.Kinds as sequence-of-kinds
+use Rattle.numbers.proofs.sequence_of.Reads as sequence-of-reads
 use Rattle.numbers.proofs.difference.Kinds as difference-kinds
 use Rattle.numbers.proofs.difference.Reads as difference-reads
 
 pub entry-of-one : One entry-of-kinds.ps entry-of-kinds.r entry-of-reads.Pre entry-of-reads.Post
 entry-of-one κs a x y v w pre p q = (p ∙ sym q, refl)
 
-pub turned-round-one : One turned-round-kinds.ps turned-round-kinds.r turned-round-reads.Pre turned-round-reads.Post
-turned-round-one κs a x y v w pre p q = (p ∙ sym q, refl)
-
 pub number-of-one : One number-of-kinds.ps number-of-kinds.r number-of-reads.Pre number-of-reads.Post
 number-of-one κs a x y v w pre p q = (p ∙ sym q, refl)
 
-pub bit-of-one : One bit-of-kinds.ps bit-of-kinds.r bit-of-reads.Pre bit-of-reads.Post
-bit-of-one κs a x y v w pre p q = (p ∙ sym q, refl)
+pub sequence-of-one : One sequence-of-kinds.ps sequence-of-kinds.r sequence-of-reads.Pre sequence-of-reads.Post
+sequence-of-one κs a x y v w pre p q = (p ∙ sym q, refl)
 
 pub difference-one : One difference-kinds.ps difference-kinds.r difference-reads.Pre difference-reads.Post
 difference-one κs a x y v w pre p q = (p ∙ sym q, refl)

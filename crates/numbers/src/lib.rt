@@ -1,7 +1,7 @@
 // The sequencing word, document 01: the cell number and its protection, the second number, and the difference of numbers.
 ghost use mathlib.Core.Path.{_≡_};
 ghost use Prim.Native.Nat.{_%_};
-ghost use Rattle.numbers.specs.Numbers.{turned, entryOf, foundOf, wordBit, sequenceOf, differenceOf};
+ghost use Rattle.numbers.specs.Numbers.{turned, entryOf, foundOf, sequenceOf, differenceOf};
 
 // Table A.1: the first eight sequencing bits for numbers 0 to 15, the first bit sent being the top one.
 const TABLE: [u8; 16] = [
@@ -38,7 +38,7 @@ pub fn entry_of(number: u8) -> u8
 }
 
 // Four bits, the others not looked at, in the opposite order.
-pub fn turned_round(bits: u8) -> u8
+fn turned_round(bits: u8) -> u8
     ensures { λ r. ⌜ r ≡ turned bits ⌝ }
 {
     bits % 2 * 8 + bits / 2 % 2 * 4 + bits / 4 % 2 * 2 + bits / 8 % 2
@@ -59,20 +59,7 @@ pub fn number_of(word: u8) -> Found
     }
 }
 
-// The sequencing bit of a slot, for a cell whose first eight are `word` and whose second number is `second`.
-pub fn bit_of(word: u8, second: u8, slot: usize) -> u8
-    ensures { λ r. ⌜ r ≡ wordBit word second slot ⌝ }
-{
-    if slot < 8 {
-        return (word >> (7 - slot)) % 2;
-    }
-    if slot < 12 {
-        return (second >> (slot - 8)) % 2;
-    }
-    0
-}
-
-// The same bits of all slots at once, slot k's worth 2^k.
+// The sequencing bits of all slots for a cell whose first eight are `word` and whose second number is `second`, slot k's worth 2^k.
 pub fn sequence_of(word: u8, second: u8) -> u64
     ensures { λ r. ⌜ r ≡ sequenceOf word second ⌝ }
 {
