@@ -1,33 +1,20 @@
 -- One subframe there and back, and a slot's subframe in a whole cell, for every format at once.
 -- Assumes nothing.
-use mathlib.Core.Bool.{Bool, true, false, cond}
-use mathlib.Core.List.{List}
-use mathlib.Core.Path.{_≡_, refl, sym, _∙_, ap, subst}
+use mathlib.Core.Bool.{Bool, cond}
+use mathlib.Core.Path.{_≡_, refl, sym, _∙_, ap}
 use Prim.Native.Nat.{ℕ, zero, suc, _+_, _*_, _/_, _%_, _^_, _≤_, _<_}
-use native.Mathlib.Nat.{pow-suc, pow-zero, mul-suc, mul-zero, add-comm, mod-eq-of-lt, zero-mul, suc-mul, mul-le-mul-right}
+use native.Mathlib.Nat.{pow-suc, mul-suc, add-comm, suc-mul, mul-le-mul-right}
 use native.Mathlib.Omega.{arith}
-use borrow.Author.Tests.{eq-eqb, ne-eqb, eqb-true, eqb-false}
+use borrow.Author.Tests.{eq-eqb, ne-eqb, eqb-false}
 use lib.Arith.{digits-div, digits-mod, digits-lt}
 use lib.Dec.{eqb}
-use lib.ListN.{length, take, drop, getD}
 use lib.Pow.{pow-add, pow-pos, shr-shr}
-use Rattle.runs.specs.Runs.{joined, octetsOf, numberOf}
-use Rattle.runs.proofs.Laws.{split, length-octets, length-joined, part-joined, read-octets}
+use Rattle.runs.proofs.Laws.{split}
 use Rattle.formats.specs.declared.Format.{Format}
 use Rattle.formats.specs.Sound.{Sound}
 use Rattle.guards.specs.Guards.{guardOf}
 use Rattle.guards.proofs.Laws.{guard-le}
-use Rattle.cells.specs.Cells.{
-  overheadOf,
-  subframeOf,
-  slotOctets,
-  cellOf,
-  subframeAt,
-  sampleIn,
-  ancillaryIn,
-  markIn,
-  bitIn,
-}
+use Rattle.cells.specs.Cells.{overheadOf, subframeOf, sampleIn, ancillaryIn, markIn}
 
 pub octets-pow : (w : ℕ) → 2 ^ (8 * w) ≡ 256 ^ w
 octets-pow zero = refl

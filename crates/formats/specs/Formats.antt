@@ -1,6 +1,6 @@
 -- Subframe formats, document 01: what the subframe octet (6.2) says, T, and checks 1 to 3.
 -- Assumes nothing.
-use mathlib.Core.Bool.{Bool, true, false, cond, not, _||_}
+use mathlib.Core.Bool.{Bool, false, cond, not, _||_}
 use mathlib.Core.List.{List, [], _∷_}
 use Prim.Native.Nat.{ℕ, _+_, _*_, _/_, _%_}
 use lib.Dec.{eqb, leb, ltb}

@@ -2,21 +2,10 @@
 -- Assumes nothing.
 use mathlib.Core.Path.{_≡_, sym, _∙_, ap, ap₂}
 use Prim.Native.Nat.{ℕ, _+_, _*_, _/_, _%_, _-_, _^_, _≤_, _<_}
-use native.Mathlib.Nat.{
-  mod-lt,
-  mod-eq-of-lt,
-  div-eq-of-lt,
-  div-lt-iff-lt-mul,
-  mul-div-cancel,
-  mul-div-mul-right,
-  add-mul-mod-self-right,
-  div-add-mod',
-  zero-mod,
-  mul-assoc,
-}
+use native.Mathlib.Nat.{mod-lt, mod-eq-of-lt, div-eq-of-lt, div-lt-iff-lt-mul, mul-div-cancel, mul-div-mul-right, add-mul-mod-self-right, div-add-mod', mul-assoc}
 use native.Mathlib.Omega.{arith}
 use lib.Bits.{bitXor}
-use lib.Dec.{eqb, leb, eqb→eq, leb→le}
+use lib.Dec.{eqb, eqb→eq}
 use lib.ListN.{getD}
 use lib.Pow.{pow-add, pow-pos, pow-mono, shl-exact}
 use Rattle.runs.specs.Division.{coefficients, divided, takenDown}

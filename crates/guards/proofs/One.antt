@@ -1,7 +1,7 @@
 -- No second answer: two answers that meet a public function's contract for the same inputs are equal. Stated over the contracts
 -- themselves.
 -- Assumes nothing.
-use mathlib.Core.Path.{_≡_, refl, sym, _∙_}
+use mathlib.Core.Path.{refl, sym, _∙_}
 use Rattle.runs.proofs.One.{One}
 use Rattle.guards.proofs.nine_bits.Kinds as nine-bits-kinds
 use Rattle.guards.proofs.nine_bits.Reads as nine-bits-reads

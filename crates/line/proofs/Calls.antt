@@ -1,11 +1,9 @@
 -- Single calls of the two boxes: what is refused leaves everything, and what was sent comes back.
 -- Assumes nothing.
-use mathlib.Core.Path.{_≡_, sym, _∙_, ap, ap₂}
-use mathlib.Core.Bool.{Bool}
-use mathlib.Core.List.{List, _++_}
-use Prim.Native.Nat.{ℕ, _*_, _-_}
+use mathlib.Core.Path.{_≡_, sym, _∙_, ap}
+use Prim.Native.Nat.{_-_}
 use borrow.Author.Tests.{ne-eqb}
-use lib.ListN.{length, replicate}
+use lib.ListN.{length}
 use Rattle.runs.specs.Runs.{over}
 use Rattle.formats.specs.Formats.{formatOf}
 use Rattle.sender.specs.Sender as S

@@ -1,32 +1,15 @@
 -- What is due is what must be shown from the first unaltered cell to the last, and how long rows of lost cells bound it.
 -- Assumes nothing.
-use mathlib.Core.Bool.{Bool, true, false, true≢false, cond, _&&_}
+use mathlib.Core.Bool.{true, false, true≢false, cond}
 use mathlib.Core.List.{List, [], _∷_, _++_, append-assoc}
 use mathlib.Core.Path.{_≡_, refl, sym, _∙_, ap, ap₂}
-use Prim.Native.Nat.{ℕ, zero, suc, _+_, _*_, _≤_, max}
+use Prim.Native.Nat.{ℕ, suc, _*_, _≤_, max}
 use native.Mathlib.Nat.{zero-mul, suc-mul, le-refl, le-trans, le-suc}
 use native.Mathlib.Omega.{arith}
 use lib.ListN.{replicate, replicate-append-replicate}
 use Rattle.runs.proofs.Laws.{split, both-true}
-use Rattle.line.specs.Line.{
-  Fate,
-  dropped,
-  spoiled,
-  unaltered,
-  Trip,
-  isLost,
-  longest,
-  Column,
-  theSamples,
-  theAncillary,
-  theMarks,
-  placesOf,
-  shown,
-  fromFirst,
-  allLost,
-  toLast,
-}
-use Rattle.line.proofs.Rows.{Since, never, after, lostSince, oneMore, due, Between}
+use Rattle.line.specs.Line.{Trip, isLost, longest, Column, theSamples, theAncillary, theMarks, placesOf, shown, fromFirst, allLost, toLast}
+use Rattle.line.proofs.Rows.{Since, never, after, oneMore, due, Between}
 use Rattle.line.proofs.Steps.{lostValue, ownOf}
 
 -- the places of a lost cell and of one that was not

@@ -1,16 +1,14 @@
 -- Cells in a row: what a receiver hands out, by induction over the trips.
 -- Assumes nothing.
-use mathlib.Core.Bool.{Bool, true, false, cond, not, _&&_, _||_}
+use mathlib.Core.Bool.{Bool, true, false, cond, not, _&&_}
 use mathlib.Core.List.{List, [], _∷_, _++_, map, nil≢cons, head-eq-of-cons-eq, tail-eq-of-cons-eq}
 use mathlib.Core.Path.{_≡_, refl, sym, _∙_, ap, ap₂, subst}
-use Prim.Native.Nat.{ℕ, zero, suc, _+_, _*_, _%_, _≤_, _<_, max}
-use native.Mathlib.Nat.{zero-mul, suc-mul}
+use Prim.Native.Nat.{ℕ, suc, _+_, _*_, _%_, _≤_}
 use native.Mathlib.Numerals.{add-one}
 use native.Mathlib.Omega.{arith}
 use borrow.Author.Tests.{ne-eqb, le-ltb}
-use lib.Dec.{eqb, ltb}
-use lib.ListN.{length, take, replicate, replicate-append-replicate}
-use Rattle.runs.proofs.Laws.{split}
+use lib.Dec.{eqb}
+use lib.ListN.{replicate}
 use Rattle.formats.specs.declared.Format.{Format}
 use Rattle.formats.specs.Formats.{formatOf}
 use Rattle.sender.specs.declared.Sender.{Sender}
@@ -18,43 +16,9 @@ use Rattle.sender.specs.Sender as S
 use Rattle.receiver.specs.declared.Receiver.{Receiver}
 use Rattle.receiver.specs.Receiver as R
 use Rattle.line.specs.Demands.{ReceiveCall, Receives, InSettings}
-use Rattle.line.specs.Line.{
-  Fate,
-  dropped,
-  spoiled,
-  unaltered,
-  Trip,
-  cellOn,
-  InARow,
-  FairFate,
-  Fair,
-  isLost,
-  Arrival,
-  arrivalOf,
-  arrivals,
-  Row,
-  got,
-  Roomy,
-  WithRoom,
-  Column,
-  runAfter,
-  said,
-  handed,
-}
+use Rattle.line.specs.Line.{Fate, dropped, spoiled, unaltered, Trip, cellOn, InARow, FairFate, Fair, isLost, arrivalOf, arrivals, Row, got, WithRoom, Column, handed}
 use Rattle.line.proofs.Calls.{receives-or-nothing}
-use Rattle.line.proofs.Steps.{
-  lostValue,
-  ownOf,
-  difference-after,
-  number-after,
-  state-passes,
-  spoiled-refused,
-  unaltered-taken,
-  settings-after,
-  started-after,
-  last-after,
-  handed-out,
-}
+use Rattle.line.proofs.Steps.{lostValue, ownOf, difference-after, number-after, state-passes, spoiled-refused, settings-after, started-after, last-after, handed-out}
 
 -- how many cells were lost since the last unaltered one, if there was one
 pub data Since : Type 0 where

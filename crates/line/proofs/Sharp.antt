@@ -2,8 +2,8 @@
 -- Assumes nothing.
 use mathlib.Core.Bool.{Bool, true, false, cond, not, _||_}
 use mathlib.Core.List.{List, [], _∷_, _++_, map}
-use mathlib.Core.Path.{_≡_, refl, sym, _∙_, ap}
-use Prim.Native.Nat.{ℕ, suc, _+_, _*_, _-_, _≤_}
+use mathlib.Core.Path.{_≡_, refl, ap}
+use Prim.Native.Nat.{ℕ, _+_, _*_, _≤_}
 use native.Mathlib.Nat.{suc-ne-zero, le-trans, mul-le-mul-right}
 use native.Mathlib.Omega.{arith}
 use borrow.Author.Tests.{le-ltb}
@@ -50,31 +50,7 @@ use Rattle.receiver.specs.declared.Received.{Received}
 use Rattle.receiver.specs.Receiver as R
 use Rattle.receiver.proofs.Laws.{gap-to}
 use Rattle.line.specs.Demands.{ReceiveCall, Receives}
-use Rattle.line.specs.Line.{
-  Fate,
-  dropped,
-  spoiled,
-  unaltered,
-  Trip,
-  cellOn,
-  InARow,
-  Fair,
-  longest,
-  arrivals,
-  Row,
-  got,
-  Roomy,
-  WithRoom,
-  theSamples,
-  theMarks,
-  handed,
-  shown,
-  fromFirst,
-  allLost,
-  toLast,
-  Demand3,
-  Demanded,
-}
+use Rattle.line.specs.Line.{Fate, dropped, spoiled, unaltered, Trip, cellOn, InARow, Fair, longest, arrivals, Row, got, WithRoom, theSamples, theMarks, handed, shown, fromFirst, allLost, toLast, Demand3, Demanded}
 
 -- every definition on the way down to the numbers
 opened : Unit {0}

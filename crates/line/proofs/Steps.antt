@@ -1,17 +1,17 @@
 -- One cell on the line: an unaltered one is taken and gives back what was sent, a spoiled one is refused.
 -- Assumes nothing.
-use mathlib.Core.Bool.{Bool, true, false, cond, not, _||_}
-use mathlib.Core.List.{List, [], _∷_, _++_}
+use mathlib.Core.Bool.{true, false, cond}
+use mathlib.Core.List.{List, _++_}
 use mathlib.Core.Path.{_≡_, refl, sym, _∙_, ap, ap₂, subst}
-use Prim.Native.Nat.{ℕ, zero, suc, _+_, _*_, _%_, _-_, _≤_, _<_}
+use Prim.Native.Nat.{ℕ, suc, _+_, _*_, _%_, _-_, _≤_, _<_}
 use native.Mathlib.Nat.{mod-add-mod, mod-eq-of-lt, add-mod-right, suc-mul, suc-ne-zero, lt-of-not-le}
 use native.Mathlib.Numerals.{add-one}
 use native.Mathlib.Omega.{arith}
-use borrow.Author.Tests.{ne-eqb, le-ltb, lt-ltb, eq-eqb, eqb-true, eqb-false, ltb-true}
+use borrow.Author.Tests.{ne-eqb, le-ltb, lt-ltb, eq-eqb, eqb-true, eqb-false}
 use lib.Bits.{bitXor, xor-self}
 use lib.Count.{ones, onesIn}
 use lib.Dec.{eqb, ltb}
-use lib.ListN.{length, take, drop, replicate, length-append, length-replicate}
+use lib.ListN.{length, take, replicate, length-append, length-replicate}
 use lib.Seq.{take-at}
 use Rattle.runs.specs.Runs.{over}
 use Rattle.runs.specs.Refusals.{orElse}
@@ -29,7 +29,7 @@ use Rattle.sender.proofs.Laws as SL
 use Rattle.receiver.specs.declared.Receiver.{Receiver}
 use Rattle.receiver.specs.Receiver as R
 use Rattle.receiver.proofs.Laws as RL
-use Rattle.line.specs.Demands.{SendCall, Sends, ReceiveCall, Receives, InSettings, GivesBack}
+use Rattle.line.specs.Demands.{SendCall, ReceiveCall, Receives, InSettings, GivesBack}
 use Rattle.line.specs.Line.{Trip, cellOn, alteredIn, Roomy, Column, theSamples, theAncillary, theMarks, runAfter, said}
 use Rattle.line.proofs.Calls.{gives-back}
 use Rattle.line.proofs.Cells.{received-refusal, cell-48, cell-number}

@@ -4,7 +4,7 @@ use mathlib.Core.Bool.{Bool}
 use mathlib.Core.List.{List, _++_}
 use mathlib.Core.Path.{_≡_}
 use Prim.Native.Nat.{ℕ, _*_, _≤_, _<_}
-use lib.ListN.{length, replicate}
+use lib.ListN.{replicate}
 use Rattle.runs.specs.Runs.{over}
 use Rattle.formats.specs.Formats.{formatOf}
 use Rattle.cells.specs.Cells.{subframeAt, sampleIn, ancillaryIn}

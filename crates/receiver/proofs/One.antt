@@ -1,7 +1,7 @@
 -- No second answer: two answers, and two contents of each lent run at exit, that meet a public function's contract for the same inputs are equal. Stated over the contracts
 -- themselves.
 -- Assumes nothing.
-use mathlib.Core.Path.{_≡_, refl, sym, _∙_}
+use mathlib.Core.Path.{refl, sym, _∙_}
 use Rattle.runs.proofs.One.{One}
 use Rattle.receiver.proofs.opened.Kinds as opened-kinds
 use Rattle.receiver.proofs.opened.Reads as opened-reads

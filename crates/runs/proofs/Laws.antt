@@ -1,47 +1,19 @@
 -- Laws of runs, octets and finite tests.
 -- Assumes nothing.
 use mathlib.Core.Bool.{Bool, true, false, true≢false, cond, _&&_, _||_}
-use mathlib.Core.List.{List, [], _∷_, _++_, append-assoc}
+use mathlib.Core.List.{List, [], _∷_, _++_}
 use mathlib.Core.Logic.{⊎-elim}
 use mathlib.Core.Path.{_≡_, refl, sym, _∙_, ap, subst}
-use Prim.Native.Nat.{ℕ, zero, suc, _+_, _*_, _/_, _%_, _^_, _-_, _≤_, _<_}
-use native.Mathlib.Nat.{
-  suc-ne-zero,
-  not-suc-le-zero,
-  le-of-suc-le-suc,
-  eq-or-lt-of-le,
-  pow-suc,
-  pow-zero,
-  mul-one,
-  one-mul,
-  mod-eq-of-lt,
-  mul-assoc,
-  mul-comm,
-  suc-mul,
-  mod-lt,
-  mod-one,
-  mul-le-mul-right,
-  zero-mul,
-}
+use Prim.Native.Nat.{ℕ, zero, suc, _+_, _*_, _/_, _%_, _^_, _≤_, _<_}
+use native.Mathlib.Nat.{suc-ne-zero, not-suc-le-zero, le-of-suc-le-suc, eq-or-lt-of-le, pow-suc, pow-zero, mul-one, one-mul, mod-eq-of-lt, mul-assoc, mul-comm, suc-mul, mod-one, mul-le-mul-right, zero-mul}
 use native.Mathlib.Omega.{arith}
-use native.Mathlib.Numerals.{add-one}
 use lib.Arith.{mod-mul}
 use lib.Pow.{pow-lt}
 use borrow.Author.Tests.{ne-eqb, eqb-true, eqb-false}
 use lib.Dec.{T, eqb}
-use lib.ListN.{
-  length,
-  getD,
-  take,
-  drop,
-  set,
-  length-append,
-  length-drop,
-  List·getD-append,
-  drop-of-length-le,
-}
-use lib.Seq.{take-at, drop-at, getD-at, take-append-le, drop-append-le, take-all, drop-cons, ext-getD}
-use Rattle.runs.specs.Runs.{tab, joined, octetsOf, readOn, numberOf, over}
+use lib.ListN.{length, getD, take, drop, length-append, length-drop, List·getD-append}
+use lib.Seq.{drop-at, getD-at, take-append-le, drop-append-le, take-all, ext-getD}
+use Rattle.runs.specs.Runs.{tab, joined, octetsOf, readOn}
 use Rattle.runs.specs.Refusals.{orElse}
 use Rattle.runs.specs.Test.{every}
 

@@ -1,23 +1,22 @@
 -- Laws of the sender's refusals: what each check gives in its turn, and what is known where none refuses.
 -- Assumes nothing.
-use mathlib.Core.Bool.{Bool, true, false, cond, not, _&&_, _||_}
+use mathlib.Core.Bool.{Bool, true, false, cond, not, _&&_}
 use mathlib.Core.List.{List, [], _∷_}
 use mathlib.Core.Path.{_≡_, refl, sym, _∙_, ap, ap₂}
-use Prim.Native.Nat.{ℕ, zero, suc, _+_, _*_, _/_, _%_, _^_, _≤_, _<_}
-use native.Mathlib.Nat.{suc-ne-zero, mod-lt, mod-eq-of-lt, mul-div-le, le-div-iff-mul-le}
+use Prim.Native.Nat.{ℕ, zero, suc, _+_, _*_, _%_, _^_, _≤_, _<_}
+use native.Mathlib.Nat.{suc-ne-zero, mod-lt, mod-eq-of-lt}
 use native.Mathlib.Numerals.{add-one}
 use native.Mathlib.Omega.{arith}
-use borrow.Author.Tests.{lt-ltb, le-ltb, lt-leb, le-leb, eq-eqb, ne-eqb, ltb-true, ltb-false, eqb-true, not-false}
+use borrow.Author.Tests.{lt-ltb, le-ltb, lt-leb, le-leb, ne-eqb, ltb-true, ltb-false, eqb-true, not-false}
 use lib.Bits.{bitOr, or-lt, or-add-and, and-le-l, and-le-r}
 use lib.Dec.{eqb, leb, ltb}
 use lib.ListN.{length, getD, drop, drop-of-length-le}
 use lib.Pow.{pow-pos}
 use lib.Seq.{drop-cons}
-use Rattle.runs.specs.Refusals.{orElse}
 use Rattle.runs.proofs.Laws.{split, first-refuses, then-later, past, past-both, neither, both-true, one-shifted}
 use Rattle.formats.specs.declared.Format.{Format}
 use Rattle.formats.specs.declared.Settled.{Settled}
-use Rattle.formats.specs.Formats.{formatOf, timesOf, slotsOf, settingsOf, settingsRefusal, settled}
+use Rattle.formats.specs.Formats.{formatOf, settingsOf, settingsRefusal, settled}
 use Rattle.formats.specs.Sound.{Limits}
 use Rattle.formats.proofs.Laws.{
   settled-of,
@@ -32,26 +31,7 @@ use Rattle.formats.proofs.Laws.{
 use Rattle.sender.specs.declared.Sender.{Sender}
 use Rattle.numbers.specs.Numbers.{entryOf}
 use Rattle.sender.specs.Packing.{Packable, packed, Unites}
-use Rattle.sender.specs.Sender.{
-  zeroState,
-  openState,
-  openedOf,
-  numbersRefused,
-  stateRefusal,
-  timesNow,
-  usedNow,
-  allBelow,
-  lengthsRefused,
-  valuesRefused,
-  indicationRefused,
-  sendRefusal,
-  secondNow,
-  after,
-  cellNow,
-  sentOf,
-  cellAfter,
-  Sends,
-}
+use Rattle.sender.specs.Sender.{zeroState, openState, openedOf, numbersRefused, stateRefusal, usedNow, allBelow, lengthsRefused, valuesRefused, indicationRefused, sendRefusal, secondNow, after, cellNow, sentOf, cellAfter, Sends}
 
 -- checks 1 to 4, by the settings
 module _ {set : Settled} (octet channels order number : ℕ) (wanted : Bool) (second : ℕ)

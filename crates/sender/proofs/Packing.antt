@@ -1,7 +1,7 @@
 -- Laws of packing: the code's arithmetic on one subframe, and a cell that is filled slot after slot.
 -- Assumes nothing.
 use mathlib.Core.Bool.{Bool, true, false, cond}
-use mathlib.Core.List.{List, [], _∷_, _++_, append-nil}
+use mathlib.Core.List.{List, _++_, append-nil}
 use mathlib.Core.Path.{_≡_, refl, sym, _∙_, ap, ap₂, subst}
 use Prim.Native.Nat.{ℕ, zero, suc, _+_, _*_, _/_, _%_, _-_, _^_, _≤_, _<_}
 use native.Mathlib.Nat.{zero-add, le-step, le-refl, mul-comm, mul-div-cancel, mul-le-mul-right, mul-one, zero-mul, zero-mod, zero-div, suc-mul, pow-le-pow-right, not-suc-le-zero, le-of-suc-le-suc}

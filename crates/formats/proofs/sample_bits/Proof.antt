@@ -1,7 +1,7 @@
 -- `formats::sample_bits` meets its contract: each arm by the law of its codes.
 -- Assumes nothing.
 use borrow.Author.Needs.{needs}
-use mathlib.Core.Path.{_∙_, sym, ap}
+use mathlib.Core.Path.{sym, ap}
 use native.Mathlib.Omega.{arith}
 use Rattle.formats.specs.Formats.{sampleBits, lengthOf}
 use Rattle.formats.proofs.Laws.{length-low, length-four, length-high}

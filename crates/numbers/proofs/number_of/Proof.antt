@@ -1,8 +1,7 @@
 -- `numbers::number_of` meets its contract: parity and one look into the table find what the whole table holds.
 -- Assumes nothing.
 use mathlib.Core.Path.{_≡_, _∙_, sym, ap}
-use Prim.Native.Nat.{ℕ, _/_, _%_, _<_}
-use lib.Dec.{eqb}
+use Prim.Native.Nat.{ℕ, _/_, _%_}
 use Rattle.numbers.specs.declared.Found.the-variants.{Number}
 use Rattle.numbers.specs.Numbers.{entryOf, turned}
 use Rattle.numbers.proofs.Laws.{odd-nothing, entry-number, other-nothing}

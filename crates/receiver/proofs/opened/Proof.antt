@@ -11,10 +11,15 @@ settings-requires : tie.Need-settings-requires
 settings-requires c κs = search needs
 
 returns : tie.Need-returns
-returns c = opens-refused (c .before .before .args .format) (c .before .before .args .channels) (c .before .before .args .order) (c .before .settings .ensures) (c .if1 .taken)
+returns c =
+    let a = c .before .before .args in
+    opens-refused (a .format) (a .channels) (a .order) (c .before .settings .ensures) (c .if1 .taken)
 
 settles : (c : tie.Else1) → Settles (c .before .before .args .format) (c .before .before .args .channels) (c .before .before .args .order)
-settles c = settles-all (c .before .before .args .format) (c .before .before .args .channels) (c .before .before .args .order) (given-none (c .before .before .args .format) (c .before .before .args .channels) (c .before .before .args .order) 0 (c .before .settings .ensures) (c .if1 .left))
+settles c =
+    let a = c .before .before .args in
+    settles-all (a .format) (a .channels) (a .order)
+    (given-none (a .format) (a .channels) (a .order) 0 (c .before .settings .ensures) (c .if1 .left))
 
 cast-t8 : tie.Need-cast-t8
 cast-t8 c = record { fits = base-octet (c .before .before .args .format) (settles c .base) }
@@ -26,7 +31,9 @@ cast-t10 : tie.Need-cast-t10
 cast-t10 c = omega (arith, settles c .order-to)
 
 returns-2 : tie.Need-returns-2
-returns-2 c = opens (c .before .before .args .format) (c .before .before .args .channels) (c .before .before .args .order) (c .before .settings .ensures) (c .if1 .left)
+returns-2 c =
+    let a = c .before .before .args in
+    opens (a .format) (a .channels) (a .order) (c .before .settings .ensures) (c .if1 .left)
 
 pub opened-spec : {M : Type 1} → statement M
 opened-spec = tie.close (tie.spec settings-requires returns cast-t8 cast-t9 cast-t10 returns-2)

@@ -25,13 +25,18 @@ settings-requires : tie.Need-settings-requires
 settings-requires c κs = search needs
 
 number-now-requires : tie.Need-number-now-requires
-number-now-requires c κs = let s = c .before .before .before .before .before .before .before .before .before in λ taken. limits (s .args .state) (now (s .args .cell)) 0 0 0 (c .before .settings .ensures) taken .sound
+number-now-requires c κs =
+    let s = c .before .before .before .before .before .before .before .before .before in λ taken. limits (s .args .state)
+    (now (s .args .cell)) 0 0 0 (c .before .settings .ensures) taken .sound
 
 receive-refusal-requires : tie.Need-receive-refusal-requires
 receive-refusal-requires c κs = search needs
 
 returns : tie.Need-returns
-returns c = let s = c .before .before .before .before .before .before .before .before .before .before .before .before in receives-refused (s .args .state) (now (s .args .cell)) (s .args .indication) (now (s .args .samples)) (now (s .args .ancillary)) (now (s .args .marks)) (c .if1 .taken) (c .before .receive-refusal .ensures)
+returns c =
+    let s = c .before .before .before .before .before .before .before .before .before .before .before .before in receives-refused
+    (s .args .state) (now (s .args .cell)) (s .args .indication) (now (s .args .samples)) (now (s .args .ancillary))
+    (now (s .args .marks)) (c .if1 .taken) (c .before .receive-refusal .ensures)
 
 none : (c : tie.Else1)
     → 0
@@ -40,35 +45,53 @@ none c = sym (c .if1 .left) ∙ c .before .receive-refusal .ensures
 
 number-is : (c : tie.Else1) → c .before .before .number-now .result ≡ numberNow (c .before .before .before .before .settings .result .format) (now (c .before .before .before .before .before .before .before .before .before .before .before .before .args .cell))
 number-is c =
-    let s = c .before .before .before .before .before .before .before .before .before .before .before .before in c .before .before .number-now .ensures (set-taken (s .args .state) (now (s .args .cell)) (s .args .indication) (now (s .args .samples)) (now (s .args .ancillary)) (now (s .args .marks)) (c .before .before .before .before .settings .ensures) (none (c))) (cell-whole (s .args .state) (now (s .args .cell)) (s .args .indication) (now (s .args .samples)) (now (s .args .ancillary)) (now (s .args .marks)) (c .before .before .before .before .settings .ensures) (none (c)))
+    let s = c .before .before .before .before .before .before .before .before .before .before .before .before in
+    c .before .before .number-now .ensures
+    (set-taken (s .args .state) (now (s .args .cell)) (s .args .indication) (now (s .args .samples)) (now (s .args .ancillary)) (now (s .args .marks)) (c .before .before .before .before .settings .ensures) (none (c)))
+    (cell-whole (s .args .state) (now (s .args .cell)) (s .args .indication) (now (s .args .samples)) (now (s .args .ancillary)) (now (s .args .marks)) (c .before .before .before .before .settings .ensures) (none (c)))
 
 gap-now-requires : tie.Need-gap-now-requires
 gap-now-requires c κs = search needs
 
 sub-missing : tie.Need-sub-missing
-sub-missing c = let s = c .before .before .before .before .before .before .before .before .before .before .before .before .before in gap-some (s .args .state) (now (s .args .cell)) (s .args .indication) (now (s .args .samples)) (now (s .args .ancillary)) (now (s .args .marks)) (c .before .before .before .before .before .settings .ensures) (none (c .before)) (number-is (c .before)) (c .gap-now .ensures)
+sub-missing c =
+    let s = c .before .before .before .before .before .before .before .before .before .before .before .before .before in gap-some
+    (s .args .state) (now (s .args .cell)) (s .args .indication) (now (s .args .samples)) (now (s .args .ancillary))
+    (now (s .args .marks)) (c .before .before .before .before .before .settings .ensures) (none (c .before))
+    (number-is (c .before)) (c .gap-now .ensures)
 
 cast-place : tie.Need-cast-place
 cast-place c = search needs
 
 mul-place : tie.Need-mul-place
-mul-place c = let s = c .before .before .before .before .before .before .before .before .before .before .before .before .before .before in omega (arith, set-limits (s .args .state) (now (s .args .cell)) (s .args .indication) (now (s .args .samples)) (now (s .args .ancillary)) (now (s .args .marks)) (c .before .before .before .before .before .before .settings .ensures) (none (c .before .before)) .used-to)
+mul-place c =
+    let s = c .before .before .before .before .before .before .before .before .before .before .before .before .before .before in
+    omega
+    (arith, set-limits (s .args .state) (now (s .args .cell)) (s .args .indication) (now (s .args .samples)) (now (s .args .ancillary)) (now (s .args .marks)) (c .before .before .before .before .before .before .settings .ensures) (none (c .before .before)) .used-to)
 
 mul-place-2 : tie.Need-mul-place-2
 mul-place-2 c =
     let s = c .before .before .before .before .before .before .before .before .before .before .before .before .before .before in
-    let few = gap-few (s .args .state) (now (s .args .cell)) (s .args .indication) (now (s .args .samples)) (now (s .args .ancillary)) (now (s .args .marks)) (c .before .before .before .before .before .before .settings .ensures) (none (c .before .before)) (number-is (c .before .before)) (c .before .gap-now .ensures) in
-    let less : c .before .gap-now .result - 1 ≤ 15 = omega arith in
-    let product = mul-le-mul less (set-limits (s .args .state) (now (s .args .cell)) (s .args .indication) (now (s .args .samples)) (now (s .args .ancillary)) (now (s .args .marks)) (c .before .before .before .before .before .before .settings .ensures) (none (c .before .before)) .used-to) in
-    omega arith
+    let few = gap-few (s .args .state) (now (s .args .cell)) (s .args .indication) (now (s .args .samples))
+    (now (s .args .ancillary)) (now (s .args .marks)) (c .before .before .before .before .before .before .settings .ensures)
+    (none (c .before .before)) (number-is (c .before .before)) (c .before .gap-now .ensures) in let less :
+    c .before .gap-now .result - 1 ≤ 15 = omega arith in let product = mul-le-mul less
+    (set-limits (s .args .state) (now (s .args .cell)) (s .args .indication) (now (s .args .samples)) (now (s .args .ancillary)) (now (s .args .marks)) (c .before .before .before .before .before .before .settings .ensures) (none (c .before .before)) .used-to)
+    in omega arith
 
 write-requires : tie.Need-write-requires
 write-requires c κs =
-    let s = c .before .before .before .before .before .before .before .before .before .before .before .before .before .before .before .before .before in
+    let s =
+    c .before .before .before .before .before .before .before .before .before .before .before .before .before .before .before .before .before
+    in
     (set-limits (s .args .state) (now (s .args .cell)) (s .args .indication) (now (s .args .samples)) (now (s .args .ancillary)) (now (s .args .marks)) (c .before .before .before .before .before .before .before .before .before .settings .ensures) (none (c .before .before .before .before .before)), set-together (s .args .state) (now (s .args .cell)) (s .args .indication) (now (s .args .samples)) (now (s .args .ancillary)) (now (s .args .marks)) (c .before .before .before .before .before .before .before .before .before .settings .ensures) (none (c .before .before .before .before .before)), cell-whole (s .args .state) (now (s .args .cell)) (s .args .indication) (now (s .args .samples)) (now (s .args .ancillary)) (now (s .args .marks)) (c .before .before .before .before .before .before .before .before .before .settings .ensures) (none (c .before .before .before .before .before)), roomy (s .args .state) (now (s .args .cell)) (s .args .indication) (now (s .args .samples)) (now (s .args .ancillary)) (now (s .args .marks)) (c .before .before .before .before .before .before .before .before .before .settings .ensures) (none (c .before .before .before .before .before)) (number-is (c .before .before .before .before .before)) (c .before .before .before .before .gap-now .ensures))
 
 second-now-requires : tie.Need-second-now-requires
-second-now-requires c κs = let s = c .before .before .before .before .before .before .before .before .before .before .before .before .before .before .before .before .before .before .before .before .before .before .before .before in (set-limits (s .args .state) (now (s .args .cell)) (s .args .indication) (now (s .args .samples)) (now (s .args .ancillary)) (now (s .args .marks)) (c .before .before .before .before .before .before .before .before .before .before .before .before .before .before .before .before .settings .ensures) (none (c .before .before .before .before .before .before .before .before .before .before .before .before)) .sound, cell-whole (s .args .state) (now (s .args .cell)) (s .args .indication) (now (s .args .samples)) (now (s .args .ancillary)) (now (s .args .marks)) (c .before .before .before .before .before .before .before .before .before .before .before .before .before .before .before .before .settings .ensures) (none (c .before .before .before .before .before .before .before .before .before .before .before .before)))
+second-now-requires c κs =
+    let s =
+    c .before .before .before .before .before .before .before .before .before .before .before .before .before .before .before .before .before .before .before .before .before .before .before .before
+    in
+    (set-limits (s .args .state) (now (s .args .cell)) (s .args .indication) (now (s .args .samples)) (now (s .args .ancillary)) (now (s .args .marks)) (c .before .before .before .before .before .before .before .before .before .before .before .before .before .before .before .before .settings .ensures) (none (c .before .before .before .before .before .before .before .before .before .before .before .before)) .sound, cell-whole (s .args .state) (now (s .args .cell)) (s .args .indication) (now (s .args .samples)) (now (s .args .ancillary)) (now (s .args .marks)) (c .before .before .before .before .before .before .before .before .before .before .before .before .before .before .before .before .settings .ensures) (none (c .before .before .before .before .before .before .before .before .before .before .before .before)))
 
 same-length : tie.Need-same-length
 same-length c = search needs
@@ -81,8 +104,15 @@ same-length-3 c = search needs
 
 returns-2 : tie.Need-returns-2
 returns-2 c =
-    let s = c .before .before .before .before .before .before .before .before .before .before .before .before .before .before .before .before .before .before .before .before .before .before .before .before .before in
-    receives-taken (s .args .state) (now (s .args .cell)) (s .args .indication) (now (s .args .samples)) (now (s .args .ancillary)) (now (s .args .marks)) (c .before .before .before .before .before .before .before .before .before .before .before .before .before .before .before .before .before .settings .ensures) (none (c .before .before .before .before .before .before .before .before .before .before .before .before .before)) (number-is (c .before .before .before .before .before .before .before .before .before .before .before .before .before)) (c .before .before .before .before .before .before .before .before .before .before .before .before .gap-now .ensures) (c .second-now .ensures) (c .before .before .before .before .before .before .before .write .ensures)
+    let s =
+    c .before .before .before .before .before .before .before .before .before .before .before .before .before .before .before .before .before .before .before .before .before .before .before .before .before
+    in receives-taken (s .args .state) (now (s .args .cell)) (s .args .indication) (now (s .args .samples))
+    (now (s .args .ancillary)) (now (s .args .marks))
+    (c .before .before .before .before .before .before .before .before .before .before .before .before .before .before .before .before .before .settings .ensures)
+    (none (c .before .before .before .before .before .before .before .before .before .before .before .before .before))
+    (number-is (c .before .before .before .before .before .before .before .before .before .before .before .before .before))
+    (c .before .before .before .before .before .before .before .before .before .before .before .before .gap-now .ensures)
+    (c .second-now .ensures) (c .before .before .before .before .before .before .before .write .ensures)
 
 pub receive-spec : {M : Type 1} → statement M
 receive-spec =

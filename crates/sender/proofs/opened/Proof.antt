@@ -1,6 +1,6 @@
 -- `sender::opened` meets its contract.
 -- Assumes nothing.
-use mathlib.Core.Path.{_≡_, _∙_, sym}
+use mathlib.Core.Path.{_∙_, sym}
 use native.Mathlib.Omega.{arith}
 use Rattle.formats.proofs.Laws.{base-octet, slots-base}
 use Rattle.sender.proofs.Laws.{StatePasses, state-passes, opens-refused, opens}
@@ -12,13 +12,17 @@ state-refusal-requires : tie.Need-state-refusal-requires
 state-refusal-requires c κs = search needs
 
 returns : tie.Need-returns
-returns c = opens-refused (c .before .before .args .format) (c .before .before .args .channels) (c .before .before .args .order) (c .before .before .args .number) (c .before .before .args .wanted) (c .before .before .args .second) (c .if1 .taken) (c .before .state-refusal .ensures)
+returns c =
+    let a = c .before .before .args in
+    opens-refused (a .format) (a .channels) (a .order) (a .number) (a .wanted) (a .second) (c .if1 .taken)
+    (c .before .state-refusal .ensures)
 
 passed : (c : tie.Else1)
     → StatePasses (c .before .before .args .format) (c .before .before .args .channels) (c .before .before .args .order)
     (c .before .before .args .number) (c .before .before .args .second)
 passed c =
-    state-passes (c .before .before .args .format) (c .before .before .args .channels) (c .before .before .args .order) (c .before .before .args .number) (c .before .before .args .wanted) (c .before .before .args .second)
+    let a = c .before .before .args in
+    state-passes (a .format) (a .channels) (a .order) (a .number) (a .wanted) (a .second)
     (sym (c .before .state-refusal .ensures) ∙ c .if1 .left)
 
 cast-t10 : tie.Need-cast-t10
@@ -37,7 +41,10 @@ cast-t14 : tie.Need-cast-t14
 cast-t14 c = omega (arith, passed c .second-to)
 
 returns-2 : tie.Need-returns-2
-returns-2 c = opens (c .before .before .args .format) (c .before .before .args .channels) (c .before .before .args .order) (c .before .before .args .number) (c .before .before .args .wanted) (c .before .before .args .second) (sym (c .if1 .left) ∙ c .before .state-refusal .ensures)
+returns-2 c =
+    let a = c .before .before .args in
+    opens (a .format) (a .channels) (a .order) (a .number) (a .wanted) (a .second)
+    (sym (c .if1 .left) ∙ c .before .state-refusal .ensures)
 
 pub opened-spec : {M : Type 1} → statement M
 opened-spec =

@@ -26,7 +26,10 @@ send-refusal-requires : tie.Need-send-refusal-requires
 send-refusal-requires c κs = search needs
 
 returns : tie.Need-returns
-returns c = sends-refused (c .before .before .before .before .before .before .before .before .before .args .state) (c .before .before .before .before .before .before .before .before .before .args .indication) (now (c .before .before .before .before .before .before .before .before .before .args .samples)) (now (c .before .before .before .before .before .before .before .before .before .args .ancillary)) (now (c .before .before .before .before .before .before .before .before .before .args .cell)) (c .if1 .taken) (c .before .send-refusal .ensures)
+returns c =
+    let a = c .before .before .before .before .before .before .before .before .before .args in
+    sends-refused (a .state) (a .indication) (now (a .samples)) (now (a .ancillary)) (now (a .cell)) (c .if1 .taken)
+    (c .before .send-refusal .ensures)
 
 second-now-requires : tie.Need-second-now-requires
 second-now-requires c κs = search needs
@@ -40,20 +43,29 @@ none : (c : tie.Else1)
 none c = sym (c .if1 .left) ∙ c .before .send-refusal .ensures
 
 pack-requires : tie.Need-pack-requires
-pack-requires c κs = can-pack (c .before .before .before .before .before .before .before .before .before .before .before .before .args .state) (c .before .before .before .before .before .before .before .before .before .before .before .before .args .indication) (now (c .before .before .before .before .before .before .before .before .before .before .before .before .args .samples)) (now (c .before .before .before .before .before .before .before .before .before .before .before .before .args .ancillary)) (now (c .before .before .before .before .before .before .before .before .before .before .before .before .args .cell)) (c .before .before .before .before .before .settings .ensures) (none (c .before .before .before)) (c .before .before .second-now .ensures)
+pack-requires c κs =
+    let a = c .before .before .before .before .before .before .before .before .before .before .before .before .args in
+    can-pack (a .state) (a .indication) (now (a .samples)) (now (a .ancillary)) (now (a .cell))
+    (c .before .before .before .before .before .settings .ensures) (none (c .before .before .before))
+    (c .before .before .second-now .ensures)
 
 add-t15 : tie.Need-add-t15
 add-t15 c =
-    omega (
-      arith,
-      passes (c .before .before .before .before .before .before .before .before .before .before .before .before .before .before .before .before .args .state) (c .before .before .before .before .before .before .before .before .before .before .before .before .before .before .before .before .args .indication) (now (c .before .before .before .before .before .before .before .before .before .before .before .before .before .before .before .before .args .samples)) (now (c .before .before .before .before .before .before .before .before .before .before .before .before .before .before .before .before .args .ancillary)) (length (now (c .before .before .before .before .before .before .before .before .before .before .before .before .before .before .before .before .args .cell))) (sym (none (c .before .before .before .before .before .before .before))) .number-to,
-    )
+    let a = c .before .before .before .before .before .before .before .before .before .before .before .before .before .before .before .before .args in
+    omega
+    (arith, passes (a .state) (a .indication) (now (a .samples)) (now (a .ancillary)) (length (now (a .cell))) (sym (none (c .before .before .before .before .before .before .before))) .number-to)
 
 same-length : tie.Need-same-length
 same-length c = search needs
 
 returns-2 : tie.Need-returns-2
-returns-2 c = sends-taken (c .before .before .before .before .before .before .before .before .before .before .before .before .before .before .before .before .args .state) (c .before .before .before .before .before .before .before .before .before .before .before .before .before .before .before .before .args .indication) (now (c .before .before .before .before .before .before .before .before .before .before .before .before .before .before .before .before .args .samples)) (now (c .before .before .before .before .before .before .before .before .before .before .before .before .before .before .before .before .args .ancillary)) (now (c .before .before .before .before .before .before .before .before .before .before .before .before .before .before .before .before .args .cell)) (c .before .before .before .before .before .before .before .before .before .settings .ensures) (none (c .before .before .before .before .before .before .before)) (c .before .before .before .before .before .before .second-now .ensures) (c .before .before .before .before .before .entry-of .ensures) (c .before .before .before .pack .ensures)
+returns-2 c =
+    let a = c .before .before .before .before .before .before .before .before .before .before .before .before .before .before .before .before .args in
+    sends-taken (a .state) (a .indication) (now (a .samples)) (now (a .ancillary)) (now (a .cell))
+    (c .before .before .before .before .before .before .before .before .before .settings .ensures)
+    (none (c .before .before .before .before .before .before .before))
+    (c .before .before .before .before .before .before .second-now .ensures)
+    (c .before .before .before .before .before .entry-of .ensures) (c .before .before .before .pack .ensures)
 
 pub send-spec : {M : Type 1} → statement M
 send-spec =

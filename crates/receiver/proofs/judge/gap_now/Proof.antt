@@ -19,7 +19,10 @@ difference-requires c κs = search needs
 
 returns-3 : tie.Need-returns-3
 unfolding gapNow
-returns-3 c = rw (not-false (c .before .before .before .before .args .started) (c .before .before .before .if1 .left), ne-eqb _ _ (c .before .if2 .left)) (c .difference .ensures)
+returns-3 c =
+    rw
+    (not-false (c .before .before .before .before .args .started) (c .before .before .before .if1 .left), ne-eqb _ _ (c .before .if2 .left))
+    (c .difference .ensures)
 
 pub gap-now-spec : {M : Type 1} → statement M
 gap-now-spec = tie.close (tie.spec returns returns-2 difference-requires returns-3)

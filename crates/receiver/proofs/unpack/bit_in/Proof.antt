@@ -20,11 +20,15 @@ add-result : tie.Need-add-result
 add-result c = omega (arith, slot-room (c .pre .0) (c .pre .2), c .pre .0 .width-from)
 
 shared-slice-read-result : tie.Need-shared-slice-read-result
-shared-slice-read-result c = omega (arith, slot-room (c .before .pre .0) (c .before .pre .2), c .before .pre .1, c .before .pre .0 .width-from)
+shared-slice-read-result c =
+    let given = c .before .pre in
+    omega (arith, slot-room (given .0) (given .2), given .1, given .0 .width-from)
 
 returns : tie.Need-returns
 unfolding subframeAt bitIn
-returns c = let s = c .before in (last-bit (now (s .args .cell)) (s .args .slot * s .args .format .width) (s .pre .0 .width-from) (omega (arith, slot-room (s .pre .0) (s .pre .2), s .pre .1)), mod-lt _ (omega arith))
+returns c =
+    let s = c .before in
+    (last-bit (now (s .args .cell)) (s .args .slot * s .args .format .width) (s .pre .0 .width-from) (omega (arith, slot-room (s .pre .0) (s .pre .2), s .pre .1)), mod-lt _ (omega arith))
 
 pub bit-in-spec : {M : Type 1} → statement M
 bit-in-spec =

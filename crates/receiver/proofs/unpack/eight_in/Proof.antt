@@ -23,7 +23,9 @@ mul-eight : tie.Need-mul-eight Inv-loop μ-loop
 mul-eight c = omega arith
 
 bit-in-requires : tie.Need-bit-in-requires Inv-loop μ-loop
-bit-in-requires c κs = (c .before .before .before .pre .0, c .before .before .before .pre .1, omega (arith, c .before .before .before .pre .0 .slots-from))
+bit-in-requires c κs =
+    let given = c .before .before .before .pre in
+    (given .0, given .1, omega (arith, given .0 .slots-from))
 
 add-eight : tie.Need-add-eight Inv-loop μ-loop
 add-eight c = omega (arith, c .bit-in .ensures .1)
@@ -35,13 +37,15 @@ loop-less : tie.Need-loop-less Inv-loop μ-loop
 loop-less c = omega arith
 
 loop-again : tie.Need-loop-again Inv-loop μ-loop
-loop-again c = gathers-on (bitIn (c .before .before .before .before .args .format) (now (c .before .before .before .before .args .cell))) (c .before .before .loop .inv) (c .before .loop-test .taken) (c .bit-in .ensures .0) (c .bit-in .ensures .1)
+loop-again c =
+    gathers-on (bitIn (c .before .before .before .before .args .format) (now (c .before .before .before .before .args .cell)))
+    (c .before .before .loop .inv) (c .before .loop-test .taken) (c .bit-in .ensures .0) (c .bit-in .ensures .1)
 
 returns : tie.Need-returns Inv-loop μ-loop
 unfolding eightIn
 returns c =
-    let end : c .before .loop .slot ≡ 8 = omega arith in
-    c .before .loop .inv .is ∙ ap (gathered (bitIn (c .before .before .before .args .format) (now (c .before .before .before .args .cell)))) end
+    let end : c .before .loop .slot ≡ 8 = omega arith in c .before .loop .inv .is ∙ ap
+    (gathered (bitIn (c .before .before .before .args .format) (now (c .before .before .before .args .cell)))) end
 
 pub eight-in-spec : {M : Type 1} → statement M
 eight-in-spec =

@@ -29,18 +29,19 @@ mul-turned2 : tie.Need-mul-turned2
 mul-turned2 c = omega (arith, c .shared-slice-known3 .given (c .before .before .before .args .at + 1))
 
 add-turned2-2 : tie.Need-add-turned2-2
-add-turned2-2 c = omega (arith, c .shared-slice-known3 .given (c .before .before .before .args .at), c .shared-slice-known3 .given (c .before .before .before .args .at + 1))
+add-turned2-2 c =
+    omega
+    (arith, c .shared-slice-known3 .given (c .before .before .before .args .at), c .shared-slice-known3 .given (c .before .before .before .args .at + 1))
 
 turned2-requires : tie.Need-turned2-requires
 turned2-requires c κs = search needs
 
 returns : tie.Need-returns
 returns c =
-    let s = c .before .before .before .before in
-    let known = c .before .shared-slice-known3 .given in
-    let first = known (s .args .at) .fits in
-    let second = known (s .args .at + 1) .fits in
-    let is : c .turned2 .result ≡ getD (now (s .args .octets)) (s .args .at) 0 * 256 + getD (now (s .args .octets)) (s .args .at + 1) 0 = c .turned2 .ensures ∙ two-turned (getD (now (s .args .octets)) (s .args .at) 0) (getD (now (s .args .octets)) (s .args .at + 1) 0) first second in
+    let s = c .before .before .before .before in let known = c .before .shared-slice-known3 .given in let first = known
+    (s .args .at) .fits in let second = known (s .args .at + 1) .fits in let is : c .turned2 .result ≡ getD
+    (now (s .args .octets)) (s .args .at) 0 * 256 + getD (now (s .args .octets)) (s .args .at + 1) 0 = c .turned2 .ensures ∙
+    two-turned (getD (now (s .args .octets)) (s .args .at) 0) (getD (now (s .args .octets)) (s .args .at + 1) 0) first second in
     (is, omega (arith, is, first, second))
 
 pub in2-spec : {M : Type 1} → statement M

@@ -23,13 +23,19 @@ shared-slice-read-turned4-2 : tie.Need-shared-slice-read-turned4-2
 shared-slice-read-turned4-2 c = search needs
 
 cast-turned4-2 : tie.Need-cast-turned4-2
-cast-turned4-2 c = omega (arith, c .shared-slice-known3 .given (c .before .before .before .args .at), c .shared-slice-known3 .given (c .before .before .before .args .at + 1))
+cast-turned4-2 c =
+    omega
+    (arith, c .shared-slice-known3 .given (c .before .before .before .args .at), c .shared-slice-known3 .given (c .before .before .before .args .at + 1))
 
 mul-turned4 : tie.Need-mul-turned4
-mul-turned4 c = omega (arith, c .shared-slice-known3 .given (c .before .before .before .args .at), c .shared-slice-known3 .given (c .before .before .before .args .at + 1))
+mul-turned4 c =
+    omega
+    (arith, c .shared-slice-known3 .given (c .before .before .before .args .at), c .shared-slice-known3 .given (c .before .before .before .args .at + 1))
 
 add-turned4-2 : tie.Need-add-turned4-2
-add-turned4-2 c = omega (arith, c .shared-slice-known3 .given (c .before .before .before .args .at), c .shared-slice-known3 .given (c .before .before .before .args .at + 1))
+add-turned4-2 c =
+    omega
+    (arith, c .shared-slice-known3 .given (c .before .before .before .args .at), c .shared-slice-known3 .given (c .before .before .before .args .at + 1))
 
 add-turned4-3 : tie.Need-add-turned4-3
 add-turned4-3 c = search needs
@@ -38,22 +44,32 @@ shared-slice-read-turned4-3 : tie.Need-shared-slice-read-turned4-3
 shared-slice-read-turned4-3 c = search needs
 
 cast-turned4-3 : tie.Need-cast-turned4-3
-cast-turned4-3 c = omega (arith, c .shared-slice-known4 .given (c .before .before .before .before .args .at), c .shared-slice-known4 .given (c .before .before .before .before .args .at + 1), c .shared-slice-known4 .given (c .before .before .before .before .args .at + 2))
+cast-turned4-3 c =
+    let a = c .before .before .before .before .args in
+    omega
+    (arith, c .shared-slice-known4 .given (a .at), c .shared-slice-known4 .given (a .at + 1), c .shared-slice-known4 .given (a .at + 2))
 
 mul-turned4-2 : tie.Need-mul-turned4-2
-mul-turned4-2 c = omega (arith, c .shared-slice-known4 .given (c .before .before .before .before .args .at), c .shared-slice-known4 .given (c .before .before .before .before .args .at + 1), c .shared-slice-known4 .given (c .before .before .before .before .args .at + 2))
+mul-turned4-2 c =
+    let a = c .before .before .before .before .args in
+    omega
+    (arith, c .shared-slice-known4 .given (a .at), c .shared-slice-known4 .given (a .at + 1), c .shared-slice-known4 .given (a .at + 2))
 
 add-turned4-4 : tie.Need-add-turned4-4
-add-turned4-4 c = omega (arith, c .shared-slice-known4 .given (c .before .before .before .before .args .at), c .shared-slice-known4 .given (c .before .before .before .before .args .at + 1), c .shared-slice-known4 .given (c .before .before .before .before .args .at + 2))
+add-turned4-4 c =
+    let a = c .before .before .before .before .args in
+    omega
+    (arith, c .shared-slice-known4 .given (a .at), c .shared-slice-known4 .given (a .at + 1), c .shared-slice-known4 .given (a .at + 2))
 
 turned4-requires : tie.Need-turned4-requires
 turned4-requires c κs = search needs
 
 returns : tie.Need-returns
 returns c =
-    let s = c .before .before .before .before .before in
-    let known = c .before .shared-slice-known4 .given in
-    ap (λ (n : ℕ). n / 256) (c .turned4 .ensures) ∙ three-turned (getD (now (s .args .octets)) (s .args .at) 0) (getD (now (s .args .octets)) (s .args .at + 1) 0) (getD (now (s .args .octets)) (s .args .at + 2) 0) (known (s .args .at) .fits) (known (s .args .at + 1) .fits) (known (s .args .at + 2) .fits)
+    let s = c .before .before .before .before .before in let known = c .before .shared-slice-known4 .given in ap
+    (λ (n : ℕ). n / 256) (c .turned4 .ensures) ∙ three-turned (getD (now (s .args .octets)) (s .args .at) 0)
+    (getD (now (s .args .octets)) (s .args .at + 1) 0) (getD (now (s .args .octets)) (s .args .at + 2) 0)
+    (known (s .args .at) .fits) (known (s .args .at + 1) .fits) (known (s .args .at + 2) .fits)
 
 pub in3-spec : {M : Type 1} → statement M
 in3-spec =

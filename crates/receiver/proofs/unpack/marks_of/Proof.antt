@@ -32,7 +32,9 @@ returns-8 : tie.Need-returns-8
 returns-8 c = arm8 (c .before .args .seven % 128) (c .match .keys8)
 
 returns-9 : tie.Need-returns-9
-returns-9 c = let r = c .match .rest in rest (c .before .args .seven % 128) (mod-lt _ (omega arith)) (r .0 .0 .0 .0 .0 .0 .0 .1) (r .0 .0 .0 .0 .0 .0 .1) (r .0 .0 .0 .0 .0 .1) (r .0 .0 .0 .0 .1) (r .0 .0 .0 .1) (r .0 .0 .1) (r .0 .1) (r .1)
+returns-9 c =
+    let r = c .match .rest in rest (c .before .args .seven % 128) (mod-lt _ (omega arith)) (r .0 .0 .0 .0 .0 .0 .0 .1)
+    (r .0 .0 .0 .0 .0 .0 .1) (r .0 .0 .0 .0 .0 .1) (r .0 .0 .0 .0 .1) (r .0 .0 .0 .1) (r .0 .0 .1) (r .0 .1) (r .1)
 
 pub marks-of-spec : {M : Type 1} → statement M
 marks-of-spec =

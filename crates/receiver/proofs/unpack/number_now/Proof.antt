@@ -22,7 +22,8 @@ unfolding numberNow
 returns-3 c = λ none whole. rw (eq-eqb _ _ (c .if3 .taken))
 
 eight-in-requires : tie.Need-eight-in-requires
-eight-in-requires c κs = (c .before .before .before .before .before .before .before .pre (c .before .before .before .before .if1 .left), c .before .before .before .if2 .left)
+eight-in-requires c κs =
+    (c .before .before .before .before .before .before .before .pre (c .before .before .before .before .if1 .left), c .before .before .before .if2 .left)
 
 number-of-requires : tie.Need-number-of-requires
 number-of-requires c κs = search needs
@@ -39,15 +40,13 @@ found c = c .number-of .ensures ∙ ap foundOf (c .before .eight-in .ensures)
 returns-4 : tie.Need-returns-4
 unfolding numberNow
 returns-4 c =
-    λ none whole.
-    rw (ne-eqb _ _ (c .before .before .before .before .before .if3 .left))
+    λ none whole. rw (ne-eqb _ _ (c .before .before .before .before .before .if3 .left))
     (found-is (eightIn (c .before .before .before .before .before .before .before .before .before .before .before .before .args .set .format) (now (c .before .before .before .before .before .before .before .before .before .before .before .before .args .cell))) (sym (found (c .before .before .before)) ∙ c .before .found .given .1))
 
 returns-5 : tie.Need-returns-5
 unfolding numberNow
 returns-5 c =
-    λ none whole.
-    rw (ne-eqb _ _ (c .before .before .before .before .if3 .left))
+    λ none whole. rw (ne-eqb _ _ (c .before .before .before .before .if3 .left))
     (found-not (eightIn (c .before .before .before .before .before .before .before .before .before .before .before .args .set .format) (now (c .before .before .before .before .before .before .before .before .before .before .before .args .cell))) (sym (found (c .before .before)) ∙ c .enum-told .given .1))
 
 pub number-now-spec : {M : Type 1} → statement M

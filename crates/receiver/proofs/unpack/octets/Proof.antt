@@ -33,8 +33,8 @@ loop-less c = omega (arith, c .loop-test .taken)
 
 loop-again : tie.Need-loop-again Inv-loop μ-loop
 loop-again c =
-    let s = c .before .before in
-    fill-on (now (s .args .run)) (s .args .at) (replicate (s .args .count) (s .args .value)) (length-replicate (s .args .count) (s .args .value)) (s .pre) (c .before .loop .inv) (c .loop-test .taken)
+    let s = c .before .before in fill-on (now (s .args .run)) (s .args .at) (replicate (s .args .count) (s .args .value))
+    (length-replicate (s .args .count) (s .args .value)) (s .pre) (c .before .loop .inv) (c .loop-test .taken)
     (sym (getD-replicate (s .args .count) (c .before .loop .i) (s .args .value) 0 (c .loop-test .taken)))
 
 same-length : tie.Need-same-length Inv-loop μ-loop
@@ -42,8 +42,8 @@ same-length c = c .before .loop .inv .same
 
 returns : tie.Need-returns Inv-loop μ-loop
 returns c =
-    let s = c .before .before in
-    fill-done (now (s .args .run)) (s .args .at) (replicate (s .args .count) (s .args .value)) (length-replicate (s .args .count) (s .args .value)) (s .pre) (c .before .loop .inv) (c .loop-test .left)
+    let s = c .before .before in fill-done (now (s .args .run)) (s .args .at) (replicate (s .args .count) (s .args .value))
+    (length-replicate (s .args .count) (s .args .value)) (s .pre) (c .before .loop .inv) (c .loop-test .left)
 
 pub octets-spec : {M : Type 1} → statement M
 octets-spec =

@@ -26,8 +26,12 @@ same-length-3 c = search needs
 
 returns : tie.Need-returns
 returns c =
-    let s = c .before .before .before .before .before .before .before .before .before .before .before .before .before .before .before .before .before .before .before .before in
-    unpacks (s .args .set) (now (s .args .cell)) (s .args .at) (now (s .args .samples)) (now (s .args .ancillary)) (now (s .args .marks)) (s .pre .3) (c .before .before .before .before .before .before .before .before .before .before .before .before .subframes .ensures) (c .before .before .before .before .before .before .parts .ensures)
+    let s =
+    c .before .before .before .before .before .before .before .before .before .before .before .before .before .before .before .before .before .before .before .before
+    in unpacks (s .args .set) (now (s .args .cell)) (s .args .at) (now (s .args .samples)) (now (s .args .ancillary))
+    (now (s .args .marks)) (s .pre .3)
+    (c .before .before .before .before .before .before .before .before .before .before .before .before .subframes .ensures)
+    (c .before .before .before .before .before .before .parts .ensures)
 
 pub own-entries-spec : {M : Type 1} → statement M
 own-entries-spec =

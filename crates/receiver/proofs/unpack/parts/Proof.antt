@@ -8,7 +8,9 @@ use Rattle.receiver.proofs.unpack.parts.Statement.{statement}
 use Rattle.receiver.proofs.unpack.parts.Tie as tie
 
 split-requires : tie.Need-split-requires
-split-requires c κs = let s = c .before .before .before .before .before .before .before .before in (s .pre .1 (c .before .before .before .if1 .taken), four (s .pre .0) (c .before .before .before .if1 .taken), s .pre .2)
+split-requires c κs =
+    let s = c .before .before .before .before .before .before .before .before in
+    (s .pre .1 (c .before .before .before .if1 .taken), four (s .pre .0) (c .before .before .before .if1 .taken), s .pre .2)
 
 same-length : tie.Need-same-length
 same-length c = search needs
@@ -36,8 +38,12 @@ same-length-5 c = search needs
 
 returns-2 : tie.Need-returns-2
 returns-2 c =
-    let s = c .before .before .before .before .before .before .before .before .before .before .before .before .before .before .before in
-    splits-plain (s .args .format) (c .before .before .before .before .before .before .before .before .before .before .if1 .left) (s .args .at) (s .args .used) (now (s .args .samples)) (now (s .args .ancillary)) (now (s .args .marks)) (s .pre .2) (c .before .before .before .before .before .before .before .before .octets .ensures) (c .before .before .before .before .if2 .taken) (c .before .before .octets2 .ensures)
+    let s =
+    c .before .before .before .before .before .before .before .before .before .before .before .before .before .before .before in
+    splits-plain (s .args .format) (c .before .before .before .before .before .before .before .before .before .before .if1 .left)
+    (s .args .at) (s .args .used) (now (s .args .samples)) (now (s .args .ancillary)) (now (s .args .marks)) (s .pre .2)
+    (c .before .before .before .before .before .before .before .before .octets .ensures)
+    (c .before .before .before .before .if2 .taken) (c .before .before .octets2 .ensures)
 
 split-bare-requires : tie.Need-split-bare-requires
 split-bare-requires c κs = search needs
@@ -53,8 +59,14 @@ same-length-8 c = search needs
 
 returns-3 : tie.Need-returns-3
 returns-3 c =
-    let s = c .before .before .before .before .before .before .before .before .before .before .before .before .before .before .before .before .before .before in
-    splits-bare (s .args .format) (c .before .before .before .before .before .before .before .before .before .before .before .before .before .if1 .left) (s .args .at) (s .args .used) (now (s .args .samples)) (now (s .args .ancillary)) (now (s .args .marks)) (s .pre .2) (c .before .before .before .before .before .before .before .before .before .before .before .octets .ensures) (four-bits (s .pre .0) (c .before .before .before .before .before .before .before .if2 .left)) (c .before .before .before .before .split-bare .ensures .0) (c .before .before .before .before .split-bare .ensures .1)
+    let s =
+    c .before .before .before .before .before .before .before .before .before .before .before .before .before .before .before .before .before .before
+    in splits-bare (s .args .format)
+    (c .before .before .before .before .before .before .before .before .before .before .before .before .before .if1 .left)
+    (s .args .at) (s .args .used) (now (s .args .samples)) (now (s .args .ancillary)) (now (s .args .marks)) (s .pre .2)
+    (c .before .before .before .before .before .before .before .before .before .before .before .octets .ensures)
+    (four-bits (s .pre .0) (c .before .before .before .before .before .before .before .if2 .left))
+    (c .before .before .before .before .split-bare .ensures .0) (c .before .before .before .before .split-bare .ensures .1)
 
 pub parts-spec : {M : Type 1} → statement M
 parts-spec =

@@ -24,34 +24,48 @@ abbrev μ-loop : tie.MeasureT-loop
 μ-loop format at used samples₀ ancillary₀ marks₀ i₀ samples ancillary marks i = used - i
 
 loop-holds : tie.Need-loop-holds Inv-loop μ-loop
-loop-holds c = let s = c .before .before .before in (begun (now (s .args .samples)) (s .args .at) (held (sampleIn (s .args .format)) (now (s .args .samples)) (s .args .at) (s .args .used)), begun (now (s .args .ancillary)) (s .args .at) (held (ancillaryIn (s .args .format)) (now (s .args .samples)) (s .args .at) (s .args .used)), begun (now (s .args .marks)) (s .args .at) (held (markIn (s .args .format)) (now (s .args .samples)) (s .args .at) (s .args .used)))
+loop-holds c =
+    let s = c .before .before .before in
+    (begun (now (s .args .samples)) (s .args .at) (held (sampleIn (s .args .format)) (now (s .args .samples)) (s .args .at) (s .args .used)), begun (now (s .args .ancillary)) (s .args .at) (held (ancillaryIn (s .args .format)) (now (s .args .samples)) (s .args .at) (s .args .used)), begun (now (s .args .marks)) (s .args .at) (held (markIn (s .args .format)) (now (s .args .samples)) (s .args .at) (s .args .used)))
 
 add-subframe : tie.Need-add-subframe Inv-loop μ-loop
 add-subframe c = omega (arith, c .before .before .before .before .before .pre .2 .samples-room, c .loop-test .taken)
 
 mul-subframe : tie.Need-mul-subframe Inv-loop μ-loop
-mul-subframe c = omega (arith, c .before .before .before .before .before .pre .2 .samples-room, c .loop-test .taken, c .before .before .before .before .before .good)
+mul-subframe c =
+    omega
+    (arith, c .before .before .before .before .before .pre .2 .samples-room, c .loop-test .taken, c .before .before .before .before .before .good)
 
 slice-read-subframe : tie.Need-slice-read-subframe Inv-loop μ-loop
-slice-read-subframe c = omega (arith, c .before .before .before .before .before .before .pre .2 .samples-room, c .before .loop-test .taken, c .before .before .loop .inv .0 .same)
+slice-read-subframe c =
+    omega
+    (arith, c .before .before .before .before .before .before .pre .2 .samples-room, c .before .loop-test .taken, c .before .before .loop .inv .0 .same)
 
 add-samples : tie.Need-add-samples Inv-loop μ-loop
-add-samples c = omega (arith, c .before .before .before .before .before .before .pre .2 .samples-room, c .before .loop-test .taken)
+add-samples c =
+    omega (arith, c .before .before .before .before .before .before .pre .2 .samples-room, c .before .loop-test .taken)
 
 mul-samples : tie.Need-mul-samples Inv-loop μ-loop
-mul-samples c = omega (arith, c .before .before .before .before .before .before .pre .2 .samples-room, c .before .loop-test .taken, c .before .before .before .before .before .before .good)
+mul-samples c =
+    omega
+    (arith, c .before .before .before .before .before .before .pre .2 .samples-room, c .before .loop-test .taken, c .before .before .before .before .before .before .good)
 
 slice-write-samples : tie.Need-slice-write-samples Inv-loop μ-loop
-slice-write-samples c = omega (arith, c .before .before .before .before .before .before .pre .2 .samples-room, c .before .loop-test .taken, c .before .before .loop .inv .0 .same)
+slice-write-samples c =
+    omega
+    (arith, c .before .before .before .before .before .before .pre .2 .samples-room, c .before .loop-test .taken, c .before .before .loop .inv .0 .same)
 
 cast-ancillary : tie.Need-cast-ancillary Inv-loop μ-loop
 cast-ancillary c = omega arith
 
 add-ancillary : tie.Need-add-ancillary Inv-loop μ-loop
-add-ancillary c = omega (arith, c .before .before .before .before .before .before .pre .2 .ancillary-room, c .before .loop-test .taken)
+add-ancillary c =
+    omega (arith, c .before .before .before .before .before .before .pre .2 .ancillary-room, c .before .loop-test .taken)
 
 slice-write-ancillary : tie.Need-slice-write-ancillary Inv-loop μ-loop
-slice-write-ancillary c = omega (arith, c .before .before .before .before .before .before .pre .2 .ancillary-room, c .before .loop-test .taken, c .before .before .loop .inv .1 .same)
+slice-write-ancillary c =
+    omega
+    (arith, c .before .before .before .before .before .before .pre .2 .ancillary-room, c .before .loop-test .taken, c .before .before .loop .inv .1 .same)
 
 nine-bits-requires : tie.Need-nine-bits-requires Inv-loop μ-loop
 nine-bits-requires c κs = search needs
@@ -66,31 +80,33 @@ cast-marks : tie.Need-cast-marks Inv-loop μ-loop
 cast-marks c = omega arith
 
 add-marks : tie.Need-add-marks Inv-loop μ-loop
-add-marks c = omega (arith, c .before .before .before .before .before .before .before .before .pre .2 .marks-room, c .before .before .before .loop-test .taken)
+add-marks c =
+    omega
+    (arith, c .before .before .before .before .before .before .before .before .pre .2 .marks-room, c .before .before .before .loop-test .taken)
 
 slice-write-marks : tie.Need-slice-write-marks Inv-loop μ-loop
-slice-write-marks c = omega (arith, c .before .before .before .before .before .before .before .before .pre .2 .marks-room, c .before .before .before .loop-test .taken, c .before .before .before .before .loop .inv .2 .same)
+slice-write-marks c =
+    omega
+    (arith, c .before .before .before .before .before .before .before .before .pre .2 .marks-room, c .before .before .before .loop-test .taken, c .before .before .before .before .loop .inv .2 .same)
 
 add-i : tie.Need-add-i Inv-loop μ-loop
-add-i c = omega (arith, c .before .before .before .before .before .before .before .before .pre .2 .marks-room, c .before .before .before .loop-test .taken)
+add-i c =
+    omega
+    (arith, c .before .before .before .before .before .before .before .before .pre .2 .marks-room, c .before .before .before .loop-test .taken)
 
 loop-less : tie.Need-loop-less Inv-loop μ-loop
 loop-less c = omega (arith, c .before .before .before .loop-test .taken)
 
 loop-again : tie.Need-loop-again Inv-loop μ-loop
 loop-again c =
-    let s = c .before .before .before .before .before .before .before .before in
-    let less = c .before .before .before .loop-test .taken in
-    let inv = c .before .before .before .before .loop .inv in
-    let word = getD (c .before .before .before .before .loop .samples) (s .args .at + c .before .before .before .before .loop .i) 0 in
-    let was = fill-ahead (now (s .args .samples)) (s .args .at) (held (sampleIn (s .args .format)) (now (s .args .samples)) (s .args .at) (s .args .used)) (held-length (sampleIn (s .args .format)) (now (s .args .samples)) (s .args .at) (s .args .used)) (s .pre .2 .samples-room) (inv .0) in (
-      fill-on (now (s .args .samples)) (s .args .at) (held (sampleIn (s .args .format)) (now (s .args .samples)) (s .args .at) (s .args .used)) (held-length (sampleIn (s .args .format)) (now (s .args .samples)) (s .args .at) (s .args .used)) (s .pre .2 .samples-room) (inv .0) less
-          (sample-over (s .args .format) (s .pre .0) (s .pre .1) word ∙ ap (sampleIn (s .args .format)) was ∙ held-at (sampleIn (s .args .format)) (now (s .args .samples)) (s .args .at) (s .args .used) less),
-      fill-on (now (s .args .ancillary)) (s .args .at) (held (ancillaryIn (s .args .format)) (now (s .args .samples)) (s .args .at) (s .args .used)) (held-length (ancillaryIn (s .args .format)) (now (s .args .samples)) (s .args .at) (s .args .used)) (s .pre .2 .ancillary-room) (inv .1) less
-          (ancillary-over (s .args .format) (s .pre .0) (s .pre .1) word ∙ ap (ancillaryIn (s .args .format)) was ∙ held-at (ancillaryIn (s .args .format)) (now (s .args .samples)) (s .args .at) (s .args .used) less),
-      fill-on (now (s .args .marks)) (s .args .at) (held (markIn (s .args .format)) (now (s .args .samples)) (s .args .at) (s .args .used)) (held-length (markIn (s .args .format)) (now (s .args .samples)) (s .args .at) (s .args .used)) (s .pre .2 .marks-room) (inv .2) less
-          (mark-over (s .args .format) (s .pre .0) (s .pre .1) word (c .marks-of .result) (c .before .nine-bits .ensures) (c .marks-of .ensures) ∙ ap (markIn (s .args .format)) was ∙ held-at (markIn (s .args .format)) (now (s .args .samples)) (s .args .at) (s .args .used) less),
-    )
+    let s = c .before .before .before .before .before .before .before .before in let less =
+    c .before .before .before .loop-test .taken in let inv = c .before .before .before .before .loop .inv in let word = getD
+    (c .before .before .before .before .loop .samples) (s .args .at + c .before .before .before .before .loop .i) 0 in let was =
+    fill-ahead (now (s .args .samples)) (s .args .at)
+    (held (sampleIn (s .args .format)) (now (s .args .samples)) (s .args .at) (s .args .used))
+    (held-length (sampleIn (s .args .format)) (now (s .args .samples)) (s .args .at) (s .args .used)) (s .pre .2 .samples-room)
+    (inv .0) in
+    (fill-on (now (s .args .samples)) (s .args .at) (held (sampleIn (s .args .format)) (now (s .args .samples)) (s .args .at) (s .args .used)) (held-length (sampleIn (s .args .format)) (now (s .args .samples)) (s .args .at) (s .args .used)) (s .pre .2 .samples-room) (inv .0) less (sample-over (s .args .format) (s .pre .0) (s .pre .1) word ∙ ap (sampleIn (s .args .format)) was ∙ held-at (sampleIn (s .args .format)) (now (s .args .samples)) (s .args .at) (s .args .used) less), fill-on (now (s .args .ancillary)) (s .args .at) (held (ancillaryIn (s .args .format)) (now (s .args .samples)) (s .args .at) (s .args .used)) (held-length (ancillaryIn (s .args .format)) (now (s .args .samples)) (s .args .at) (s .args .used)) (s .pre .2 .ancillary-room) (inv .1) less (ancillary-over (s .args .format) (s .pre .0) (s .pre .1) word ∙ ap (ancillaryIn (s .args .format)) was ∙ held-at (ancillaryIn (s .args .format)) (now (s .args .samples)) (s .args .at) (s .args .used) less), fill-on (now (s .args .marks)) (s .args .at) (held (markIn (s .args .format)) (now (s .args .samples)) (s .args .at) (s .args .used)) (held-length (markIn (s .args .format)) (now (s .args .samples)) (s .args .at) (s .args .used)) (s .pre .2 .marks-room) (inv .2) less (mark-over (s .args .format) (s .pre .0) (s .pre .1) word (c .marks-of .result) (c .before .nine-bits .ensures) (c .marks-of .ensures) ∙ ap (markIn (s .args .format)) was ∙ held-at (markIn (s .args .format)) (now (s .args .samples)) (s .args .at) (s .args .used) less))
 
 same-length : tie.Need-same-length Inv-loop μ-loop
 same-length c = c .before .loop .inv .0 .same
@@ -103,12 +119,8 @@ same-length-3 c = c .before .loop .inv .2 .same
 
 returns : tie.Need-returns Inv-loop μ-loop
 returns c =
-    let s = c .before .before .before .before .before in
-    record {
-      samples-are = fill-done (now (s .args .samples)) (s .args .at) (held (sampleIn (s .args .format)) (now (s .args .samples)) (s .args .at) (s .args .used)) (held-length (sampleIn (s .args .format)) (now (s .args .samples)) (s .args .at) (s .args .used)) (s .pre .2 .samples-room) (c .before .loop .inv .0) (c .loop-test .left);
-      ancillary-is = fill-done (now (s .args .ancillary)) (s .args .at) (held (ancillaryIn (s .args .format)) (now (s .args .samples)) (s .args .at) (s .args .used)) (held-length (ancillaryIn (s .args .format)) (now (s .args .samples)) (s .args .at) (s .args .used)) (s .pre .2 .ancillary-room) (c .before .loop .inv .1) (c .loop-test .left);
-      marks-are = fill-done (now (s .args .marks)) (s .args .at) (held (markIn (s .args .format)) (now (s .args .samples)) (s .args .at) (s .args .used)) (held-length (markIn (s .args .format)) (now (s .args .samples)) (s .args .at) (s .args .used)) (s .pre .2 .marks-room) (c .before .loop .inv .2) (c .loop-test .left);
-    }
+    let s = c .before .before .before .before .before in record
+    { samples-are = fill-done (now (s .args .samples)) (s .args .at) (held (sampleIn (s .args .format)) (now (s .args .samples)) (s .args .at) (s .args .used)) (held-length (sampleIn (s .args .format)) (now (s .args .samples)) (s .args .at) (s .args .used)) (s .pre .2 .samples-room) (c .before .loop .inv .0) (c .loop-test .left); ancillary-is = fill-done (now (s .args .ancillary)) (s .args .at) (held (ancillaryIn (s .args .format)) (now (s .args .samples)) (s .args .at) (s .args .used)) (held-length (ancillaryIn (s .args .format)) (now (s .args .samples)) (s .args .at) (s .args .used)) (s .pre .2 .ancillary-room) (c .before .loop .inv .1) (c .loop-test .left); marks-are = fill-done (now (s .args .marks)) (s .args .at) (held (markIn (s .args .format)) (now (s .args .samples)) (s .args .at) (s .args .used)) (held-length (markIn (s .args .format)) (now (s .args .samples)) (s .args .at) (s .args .used)) (s .pre .2 .marks-room) (c .before .loop .inv .2) (c .loop-test .left) }
 
 pub split-spec : {M : Type 1} → statement M
 split-spec =

@@ -19,7 +19,9 @@ abbrev μ-loop : tie.MeasureT-loop
 μ-loop at used samples₀ ancillary₀ i₀ samples ancillary i = used - i
 
 loop-holds : tie.Need-loop-holds Inv-loop μ-loop
-loop-holds c = let s = c in (begun (now (s .args .samples)) (s .args .at) (held (λ x. x / 16) (now (s .args .samples)) (s .args .at) (s .args .used)), begun (now (s .args .ancillary)) (s .args .at) (held (λ x. x % 16) (now (s .args .samples)) (s .args .at) (s .args .used)))
+loop-holds c =
+    let s = c in
+    (begun (now (s .args .samples)) (s .args .at) (held (λ x. x / 16) (now (s .args .samples)) (s .args .at) (s .args .used)), begun (now (s .args .ancillary)) (s .args .at) (held (λ x. x % 16) (now (s .args .samples)) (s .args .at) (s .args .used)))
 
 add-subframe : tie.Need-add-subframe Inv-loop μ-loop
 add-subframe c = omega (arith, c .before .before .pre .0, c .loop-test .taken)
@@ -28,7 +30,8 @@ mul-subframe : tie.Need-mul-subframe Inv-loop μ-loop
 mul-subframe c = omega (arith, c .before .before .pre .0, c .loop-test .taken, c .before .before .good)
 
 slice-read-subframe : tie.Need-slice-read-subframe Inv-loop μ-loop
-slice-read-subframe c = omega (arith, c .before .before .before .pre .0, c .before .loop-test .taken, c .before .before .loop .inv .0 .same)
+slice-read-subframe c =
+    omega (arith, c .before .before .before .pre .0, c .before .loop-test .taken, c .before .before .loop .inv .0 .same)
 
 add-samples : tie.Need-add-samples Inv-loop μ-loop
 add-samples c = omega (arith, c .before .before .before .pre .0, c .before .loop-test .taken)
@@ -37,7 +40,8 @@ mul-samples : tie.Need-mul-samples Inv-loop μ-loop
 mul-samples c = omega (arith, c .before .before .before .pre .0, c .before .loop-test .taken, c .before .before .before .good)
 
 slice-write-samples : tie.Need-slice-write-samples Inv-loop μ-loop
-slice-write-samples c = omega (arith, c .before .before .before .pre .0, c .before .loop-test .taken, c .before .before .loop .inv .0 .same)
+slice-write-samples c =
+    omega (arith, c .before .before .before .pre .0, c .before .loop-test .taken, c .before .before .loop .inv .0 .same)
 
 cast-ancillary : tie.Need-cast-ancillary Inv-loop μ-loop
 cast-ancillary c = omega arith
@@ -46,7 +50,8 @@ add-ancillary : tie.Need-add-ancillary Inv-loop μ-loop
 add-ancillary c = omega (arith, c .before .before .before .pre .1, c .before .loop-test .taken)
 
 slice-write-ancillary : tie.Need-slice-write-ancillary Inv-loop μ-loop
-slice-write-ancillary c = omega (arith, c .before .before .before .pre .1, c .before .loop-test .taken, c .before .before .loop .inv .1 .same)
+slice-write-ancillary c =
+    omega (arith, c .before .before .before .pre .1, c .before .loop-test .taken, c .before .before .loop .inv .1 .same)
 
 add-i : tie.Need-add-i Inv-loop μ-loop
 add-i c = omega (arith, c .before .before .before .pre .1, c .before .loop-test .taken)
@@ -56,13 +61,11 @@ loop-less c = omega (arith, c .before .loop-test .taken)
 
 loop-again : tie.Need-loop-again Inv-loop μ-loop
 loop-again c =
-    let s = c .before .before .before in
-    let less = c .before .loop-test .taken in
-    let inv = c .before .before .loop .inv in
-    let was = fill-ahead (now (s .args .samples)) (s .args .at) (held (λ x. x / 16) (now (s .args .samples)) (s .args .at) (s .args .used)) (held-length (λ x. x / 16) (now (s .args .samples)) (s .args .at) (s .args .used)) (s .pre .0) (inv .0) in (
-      fill-on (now (s .args .samples)) (s .args .at) (held (λ x. x / 16) (now (s .args .samples)) (s .args .at) (s .args .used)) (held-length (λ x. x / 16) (now (s .args .samples)) (s .args .at) (s .args .used)) (s .pre .0) (inv .0) less (ap (λ (x : ℕ). x / 16) was ∙ held-at (λ x. x / 16) (now (s .args .samples)) (s .args .at) (s .args .used) less),
-      fill-on (now (s .args .ancillary)) (s .args .at) (held (λ x. x % 16) (now (s .args .samples)) (s .args .at) (s .args .used)) (held-length (λ x. x % 16) (now (s .args .samples)) (s .args .at) (s .args .used)) (s .pre .1) (inv .1) less (ap (λ (x : ℕ). x % 16) was ∙ held-at (λ x. x % 16) (now (s .args .samples)) (s .args .at) (s .args .used) less),
-    )
+    let s = c .before .before .before in let less = c .before .loop-test .taken in let inv = c .before .before .loop .inv in let
+    was = fill-ahead (now (s .args .samples)) (s .args .at)
+    (held (λ x. x / 16) (now (s .args .samples)) (s .args .at) (s .args .used))
+    (held-length (λ x. x / 16) (now (s .args .samples)) (s .args .at) (s .args .used)) (s .pre .0) (inv .0) in
+    (fill-on (now (s .args .samples)) (s .args .at) (held (λ x. x / 16) (now (s .args .samples)) (s .args .at) (s .args .used)) (held-length (λ x. x / 16) (now (s .args .samples)) (s .args .at) (s .args .used)) (s .pre .0) (inv .0) less (ap (λ (x : ℕ). x / 16) was ∙ held-at (λ x. x / 16) (now (s .args .samples)) (s .args .at) (s .args .used) less), fill-on (now (s .args .ancillary)) (s .args .at) (held (λ x. x % 16) (now (s .args .samples)) (s .args .at) (s .args .used)) (held-length (λ x. x % 16) (now (s .args .samples)) (s .args .at) (s .args .used)) (s .pre .1) (inv .1) less (ap (λ (x : ℕ). x % 16) was ∙ held-at (λ x. x % 16) (now (s .args .samples)) (s .args .at) (s .args .used) less))
 
 same-length : tie.Need-same-length Inv-loop μ-loop
 same-length c = c .before .loop .inv .0 .same
@@ -71,7 +74,9 @@ same-length-2 : tie.Need-same-length-2 Inv-loop μ-loop
 same-length-2 c = c .before .loop .inv .1 .same
 
 returns : tie.Need-returns Inv-loop μ-loop
-returns c = let s = c .before .before in (fill-done (now (s .args .samples)) (s .args .at) (held (λ x. x / 16) (now (s .args .samples)) (s .args .at) (s .args .used)) (held-length (λ x. x / 16) (now (s .args .samples)) (s .args .at) (s .args .used)) (s .pre .0) (c .before .loop .inv .0) (c .loop-test .left), fill-done (now (s .args .ancillary)) (s .args .at) (held (λ x. x % 16) (now (s .args .samples)) (s .args .at) (s .args .used)) (held-length (λ x. x % 16) (now (s .args .samples)) (s .args .at) (s .args .used)) (s .pre .1) (c .before .loop .inv .1) (c .loop-test .left))
+returns c =
+    let s = c .before .before in
+    (fill-done (now (s .args .samples)) (s .args .at) (held (λ x. x / 16) (now (s .args .samples)) (s .args .at) (s .args .used)) (held-length (λ x. x / 16) (now (s .args .samples)) (s .args .at) (s .args .used)) (s .pre .0) (c .before .loop .inv .0) (c .loop-test .left), fill-done (now (s .args .ancillary)) (s .args .at) (held (λ x. x % 16) (now (s .args .samples)) (s .args .at) (s .args .used)) (held-length (λ x. x % 16) (now (s .args .samples)) (s .args .at) (s .args .used)) (s .pre .1) (c .before .loop .inv .1) (c .loop-test .left))
 
 pub split-bare-spec : {M : Type 1} → statement M
 split-bare-spec =

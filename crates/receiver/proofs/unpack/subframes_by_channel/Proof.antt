@@ -27,22 +27,30 @@ mul-used : tie.Need-mul-used Inv-loop μ-loop
 mul-used c = omega (arith, c .before .before .before .pre .0 .used-to)
 
 loop-holds : tie.Need-loop-holds Inv-loop μ-loop
-loop-holds c = let s = c .before .before .before in (begun (now (s .args .run)) (s .args .at) (ownEntries (λ x. x) (s .args .set) (now (s .args .cell))), walk-begun (s .args .set .channels) (s .args .set .times) (s .pre .0 .channels-from))
+loop-holds c =
+    let s = c .before .before .before in
+    (begun (now (s .args .run)) (s .args .at) (ownEntries (λ x. x) (s .args .set) (now (s .args .cell))), walk-begun (s .args .set .channels) (s .args .set .times) (s .pre .0 .channels-from))
 
 in-order : (c : tie.In-loop Inv-loop μ-loop) → c .before .loop .slot ≡ slotOfEntry (c .before .before .before .before .before .args .set .«by_channel») (c .before .before .before .before .before .args .set .channels) (c .before .before .before .before .before .args .set .times) (c .before .loop .i)
 in-order c = rw (c .before .before .before .before .before .pre .3) (c .before .loop .inv .1)
 
 subframe-in-requires : tie.Need-subframe-in-requires Inv-loop μ-loop
-subframe-in-requires c κs = let s = c .before .before .before .before .before in (s .pre .0 .sound, s .pre .1, slot-in (s .args .set) (now (s .args .cell)) (s .pre .0) (c .loop-test .taken) (in-order c))
+subframe-in-requires c κs =
+    let s = c .before .before .before .before .before in
+    (s .pre .0 .sound, s .pre .1, slot-in (s .args .set) (now (s .args .cell)) (s .pre .0) (c .loop-test .taken) (in-order c))
 
 add-run : tie.Need-add-run Inv-loop μ-loop
 add-run c = omega (arith, c .before .before .before .before .before .before .pre .2, c .before .loop-test .taken)
 
 mul-run : tie.Need-mul-run Inv-loop μ-loop
-mul-run c = omega (arith, c .before .before .before .before .before .before .pre .2, c .before .loop-test .taken, c .before .before .before .before .before .before .good)
+mul-run c =
+    omega
+    (arith, c .before .before .before .before .before .before .pre .2, c .before .loop-test .taken, c .before .before .before .before .before .before .good)
 
 slice-write-run : tie.Need-slice-write-run Inv-loop μ-loop
-slice-write-run c = omega (arith, c .before .before .before .before .before .before .pre .2, c .before .loop-test .taken, c .before .before .loop .inv .0 .same)
+slice-write-run c =
+    omega
+    (arith, c .before .before .before .before .before .before .pre .2, c .before .loop-test .taken, c .before .before .loop .inv .0 .same)
 
 times-few : (channels times : ℕ) → 1 ≤ channels → channels * times ≤ 48 → times ≤ 48
 times-few channels times some few = omega (arith, mul-le-mul-right {m = 1} {n = channels} times some, one-mul times)
@@ -53,26 +61,25 @@ next-slot-requires c κs =
     (rw (c .before .before .loop .inv .1) (slot-lt (s .args .set .channels) (s .args .set .times) (s .pre .0 .channels-from) true (c .before .loop-test .taken)), s .pre .0 .used-to, times-few (s .args .set .channels) (s .args .set .times) (s .pre .0 .channels-from) (s .pre .0 .used-to))
 
 add-i : tie.Need-add-i Inv-loop μ-loop
-add-i c = omega (arith, c .before .before .before .before .before .before .before .pre .0 .used-to, c .before .before .loop-test .taken)
+add-i c =
+    omega (arith, c .before .before .before .before .before .before .before .pre .0 .used-to, c .before .before .loop-test .taken)
 
 loop-less : tie.Need-loop-less Inv-loop μ-loop
 loop-less c = omega (arith, c .before .before .loop-test .taken)
 
 loop-again : tie.Need-loop-again Inv-loop μ-loop
 loop-again c =
-    let s = c .before .before .before .before .before .before .before in (
-      fill-on (now (s .args .run)) (s .args .at) (ownEntries (λ x. x) (s .args .set) (now (s .args .cell))) (own-length (s .args .set) (now (s .args .cell)) (λ x. x)) (s .pre .2) (c .before .before .before .loop .inv .0) (c .before .before .loop-test .taken)
-          (c .before .subframe-in .ensures
-          ∙ ap (subframeAt (s .args .set .format) (now (s .args .cell))) (in-order (c .before .before))
-          ∙ own-at (s .args .set) (now (s .args .cell)) (λ x. x) (c .before .before .loop-test .taken)),
-      c .next-slot .ensures ∙ walk-on (s .args .set .channels) (s .args .set .times) (s .pre .0 .channels-from) (c .before .before .before .loop .inv .1) (c .before .before .loop-test .taken),
-    )
+    let s = c .before .before .before .before .before .before .before in
+    (fill-on (now (s .args .run)) (s .args .at) (ownEntries (λ x. x) (s .args .set) (now (s .args .cell))) (own-length (s .args .set) (now (s .args .cell)) (λ x. x)) (s .pre .2) (c .before .before .before .loop .inv .0) (c .before .before .loop-test .taken) (c .before .subframe-in .ensures ∙ ap (subframeAt (s .args .set .format) (now (s .args .cell))) (in-order (c .before .before)) ∙ own-at (s .args .set) (now (s .args .cell)) (λ x. x) (c .before .before .loop-test .taken)), c .next-slot .ensures ∙ walk-on (s .args .set .channels) (s .args .set .times) (s .pre .0 .channels-from) (c .before .before .before .loop .inv .1) (c .before .before .loop-test .taken))
 
 same-length : tie.Need-same-length Inv-loop μ-loop
 same-length c = c .before .loop .inv .0 .same
 
 returns : tie.Need-returns Inv-loop μ-loop
-returns c = let s = c .before .before .before .before .before in fill-done (now (s .args .run)) (s .args .at) (ownEntries (λ x. x) (s .args .set) (now (s .args .cell))) (own-length (s .args .set) (now (s .args .cell)) (λ x. x)) (s .pre .2) (c .before .loop .inv .0) (c .loop-test .left)
+returns c =
+    let s = c .before .before .before .before .before in fill-done (now (s .args .run)) (s .args .at)
+    (ownEntries (λ x. x) (s .args .set) (now (s .args .cell))) (own-length (s .args .set) (now (s .args .cell)) (λ x. x))
+    (s .pre .2) (c .before .loop .inv .0) (c .loop-test .left)
 
 pub subframes-by-channel-spec : {M : Type 1} → statement M
 subframes-by-channel-spec =

@@ -21,19 +21,27 @@ mul-used : tie.Need-mul-used Inv-loop μ-loop
 mul-used c = omega (arith, c .before .before .before .pre .0 .used-to)
 
 loop-holds : tie.Need-loop-holds Inv-loop μ-loop
-loop-holds c = let s = c .before .before .before in begun (now (s .args .run)) (s .args .at) (ownEntries (λ x. x) (s .args .set) (now (s .args .cell)))
+loop-holds c =
+    let s = c .before .before .before in begun (now (s .args .run)) (s .args .at)
+    (ownEntries (λ x. x) (s .args .set) (now (s .args .cell)))
 
 subframe-in-requires : tie.Need-subframe-in-requires Inv-loop μ-loop
-subframe-in-requires c κs = let s = c .before .before .before .before .before in (s .pre .0 .sound, s .pre .1, slot-in (s .args .set) (now (s .args .cell)) (s .pre .0) (c .loop-test .taken) (straight (s .args .set) (now (s .args .cell)) (s .pre .3) (c .before .loop .i)))
+subframe-in-requires c κs =
+    let s = c .before .before .before .before .before in
+    (s .pre .0 .sound, s .pre .1, slot-in (s .args .set) (now (s .args .cell)) (s .pre .0) (c .loop-test .taken) (straight (s .args .set) (now (s .args .cell)) (s .pre .3) (c .before .loop .i)))
 
 add-run : tie.Need-add-run Inv-loop μ-loop
 add-run c = omega (arith, c .before .before .before .before .before .before .pre .2, c .before .loop-test .taken)
 
 mul-run : tie.Need-mul-run Inv-loop μ-loop
-mul-run c = omega (arith, c .before .before .before .before .before .before .pre .2, c .before .loop-test .taken, c .before .before .before .before .before .before .good)
+mul-run c =
+    omega
+    (arith, c .before .before .before .before .before .before .pre .2, c .before .loop-test .taken, c .before .before .before .before .before .before .good)
 
 slice-write-run : tie.Need-slice-write-run Inv-loop μ-loop
-slice-write-run c = omega (arith, c .before .before .before .before .before .before .pre .2, c .before .loop-test .taken, c .before .before .loop .inv .same)
+slice-write-run c =
+    omega
+    (arith, c .before .before .before .before .before .before .pre .2, c .before .loop-test .taken, c .before .before .loop .inv .same)
 
 add-i : tie.Need-add-i Inv-loop μ-loop
 add-i c = omega (arith, c .before .before .before .before .before .before .pre .0 .used-to, c .before .loop-test .taken)
@@ -43,17 +51,19 @@ loop-less c = omega (arith, c .before .loop-test .taken)
 
 loop-again : tie.Need-loop-again Inv-loop μ-loop
 loop-again c =
-    let s = c .before .before .before .before .before .before in
-    fill-on (now (s .args .run)) (s .args .at) (ownEntries (λ x. x) (s .args .set) (now (s .args .cell))) (own-length (s .args .set) (now (s .args .cell)) (λ x. x)) (s .pre .2) (c .before .before .loop .inv) (c .before .loop-test .taken)
-    (c .subframe-in .ensures
-    ∙ ap (subframeAt (s .args .set .format) (now (s .args .cell))) (straight (s .args .set) (now (s .args .cell)) (s .pre .3) (c .before .before .loop .i))
-    ∙ own-at (s .args .set) (now (s .args .cell)) (λ x. x) (c .before .loop-test .taken))
+    let s = c .before .before .before .before .before .before in fill-on (now (s .args .run)) (s .args .at)
+    (ownEntries (λ x. x) (s .args .set) (now (s .args .cell))) (own-length (s .args .set) (now (s .args .cell)) (λ x. x))
+    (s .pre .2) (c .before .before .loop .inv) (c .before .loop-test .taken)
+    (c .subframe-in .ensures ∙ ap (subframeAt (s .args .set .format) (now (s .args .cell))) (straight (s .args .set) (now (s .args .cell)) (s .pre .3) (c .before .before .loop .i)) ∙ own-at (s .args .set) (now (s .args .cell)) (λ x. x) (c .before .loop-test .taken))
 
 same-length : tie.Need-same-length Inv-loop μ-loop
 same-length c = c .before .loop .inv .same
 
 returns : tie.Need-returns Inv-loop μ-loop
-returns c = let s = c .before .before .before .before .before in fill-done (now (s .args .run)) (s .args .at) (ownEntries (λ x. x) (s .args .set) (now (s .args .cell))) (own-length (s .args .set) (now (s .args .cell)) (λ x. x)) (s .pre .2) (c .before .loop .inv) (c .loop-test .left)
+returns c =
+    let s = c .before .before .before .before .before in fill-done (now (s .args .run)) (s .args .at)
+    (ownEntries (λ x. x) (s .args .set) (now (s .args .cell))) (own-length (s .args .set) (now (s .args .cell)) (λ x. x))
+    (s .pre .2) (c .before .loop .inv) (c .loop-test .left)
 
 pub subframes-by-time-spec : {M : Type 1} → statement M
 subframes-by-time-spec =

@@ -16,7 +16,11 @@ octets-requires-2 : tie.Need-octets-requires-2
 octets-requires-2 c κs = search needs
 
 own-entries-requires : tie.Need-own-entries-requires
-own-entries-requires c κs = let s = c .before .before .before .before .before .before .before .before .before .before .before .before .before .before .before .before .before .before .before in (s .pre .0, s .pre .1, s .pre .2, record { samples-room = search needs; ancillary-room = search needs; marks-room = search needs })
+own-entries-requires c κs =
+    let s =
+    c .before .before .before .before .before .before .before .before .before .before .before .before .before .before .before .before .before .before .before
+    in
+    (s .pre .0, s .pre .1, s .pre .2, record { samples-room = search needs; ancillary-room = search needs; marks-room = search needs })
 
 same-length : tie.Need-same-length
 same-length c = search needs
@@ -29,9 +33,14 @@ same-length-3 c = search needs
 
 returns : tie.Need-returns
 returns c =
-    let s = c .before .before .before .before .before .before .before .before .before .before .before .before .before .before .before .before .before .before .before .before .before .before .before .before .before .before in
-    writes (s .args .set) (now (s .args .cell)) (s .args .missing) (now (s .args .samples)) (now (s .args .ancillary)) (now (s .args .marks)) (s .pre .3)
-    (c .before .before .before .before .before .before .before .before .before .before .before .before .before .before .before .before .before .before .before .before .zeros .ensures) (c .before .before .before .before .before .before .before .before .before .before .before .before .before .before .before .before .octets .ensures) (c .before .before .before .before .before .before .before .before .before .before .before .before .octets2 .ensures) (c .before .before .before .before .before .before .own-entries .ensures)
+    let s =
+    c .before .before .before .before .before .before .before .before .before .before .before .before .before .before .before .before .before .before .before .before .before .before .before .before .before .before
+    in writes (s .args .set) (now (s .args .cell)) (s .args .missing) (now (s .args .samples)) (now (s .args .ancillary))
+    (now (s .args .marks)) (s .pre .3)
+    (c .before .before .before .before .before .before .before .before .before .before .before .before .before .before .before .before .before .before .before .before .zeros .ensures)
+    (c .before .before .before .before .before .before .before .before .before .before .before .before .before .before .before .before .octets .ensures)
+    (c .before .before .before .before .before .before .before .before .before .before .before .before .octets2 .ensures)
+    (c .before .before .before .before .before .before .own-entries .ensures)
 
 pub write-spec : {M : Type 1} → statement M
 write-spec =

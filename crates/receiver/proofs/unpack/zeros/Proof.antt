@@ -41,7 +41,10 @@ same-length : tie.Need-same-length Inv-loop μ-loop
 same-length c = c .before .loop .inv .same
 
 returns : tie.Need-returns Inv-loop μ-loop
-returns c = done-front (now (c .before .before .args .run)) (replicate (c .before .before .args .count) 0) (c .before .loop .inv) (omega (arith, length-replicate {A = ℕ} (c .before .before .args .count) 0))
+returns c =
+    let a = c .before .before .args in
+    done-front (now (a .run)) (replicate (a .count) 0) (c .before .loop .inv)
+    (omega (arith, length-replicate {A = ℕ} (a .count) 0))
 
 pub zeros-spec : {M : Type 1} → statement M
 zeros-spec =

@@ -1,6 +1,5 @@
 -- `rimesatchel::boxes::yes_no` meets its contract.
 -- Assumes nothing.
-use borrow.Author.Needs.{needs}
 use Rattle.rimesatchel.specs.Boxes.{yesNo}
 use Rattle.rimesatchel.proofs.boxes.yes_no.Statement.{statement}
 use Rattle.rimesatchel.proofs.boxes.yes_no.Tie as tie

@@ -1,7 +1,6 @@
 -- `sender::judge::indication_refused` meets its contract.
 -- Assumes nothing.
 use borrow.Author.Tests.{not-true, not-false}
-use borrow.Author.Needs.{needs}
 use Rattle.sender.specs.Sender.{indicationRefused}
 use Rattle.sender.proofs.judge.indication_refused.Statement.{statement}
 use Rattle.sender.proofs.judge.indication_refused.Tie as tie

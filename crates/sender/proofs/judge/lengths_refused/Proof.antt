@@ -1,7 +1,6 @@
 -- `sender::judge::lengths_refused` meets its contract.
 -- Assumes nothing.
 use borrow.Author.Tests.{eq-eqb, ne-eqb}
-use borrow.Author.Needs.{needs}
 use Rattle.sender.specs.Sender.{lengthsRefused}
 use Rattle.sender.proofs.judge.lengths_refused.Statement.{statement}
 use Rattle.sender.proofs.judge.lengths_refused.Tie as tie

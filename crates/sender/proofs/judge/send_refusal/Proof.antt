@@ -12,7 +12,10 @@ use Rattle.sender.proofs.judge.send_refusal.Statement.{statement}
 use Rattle.sender.proofs.judge.send_refusal.Tie as tie
 
 returns : tie.Need-returns
-returns c = sends-settings (c .before .before .before .args .state) (c .before .before .before .args .indication) (now (c .before .before .before .args .samples)) (now (c .before .before .before .args .ancillary)) (c .before .before .before .args .room) (c .before .before .before .pre) (c .if1 .taken)
+returns c =
+    let a = c .before .before .before .args in
+    sends-settings (a .state) (a .indication) (now (a .samples)) (now (a .ancillary)) (a .room) (c .before .before .before .pre)
+    (c .if1 .taken)
 
 cast-numbers : tie.Need-cast-numbers
 cast-numbers c = search needs
@@ -24,7 +27,11 @@ numbers-requires : tie.Need-numbers-requires
 numbers-requires c κs = search needs
 
 returns-2 : tie.Need-returns-2
-returns-2 c = sends-4 (c .before .before .before .before .before .before .before .before .args .state) (c .before .before .before .before .before .before .before .before .args .indication) (now (c .before .before .before .before .before .before .before .before .args .samples)) (now (c .before .before .before .before .before .before .before .before .args .ancillary)) (c .before .before .before .before .before .before .before .before .args .room) (c .before .before .before .before .before .before .before .before .pre) (c .before .before .before .before .before .if1 .left) (sym (c .if2 .taken) ∙ c .before .numbers .ensures)
+returns-2 c =
+    let a = c .before .before .before .before .before .before .before .before .args in
+    sends-4 (a .state) (a .indication) (now (a .samples)) (now (a .ancillary)) (a .room)
+    (c .before .before .before .before .before .before .before .before .pre)
+    (c .before .before .before .before .before .if1 .left) (sym (c .if2 .taken) ∙ c .before .numbers .ensures)
 
 fourth : (c : tie.Else2) → false ≡ numbersRefused (c .before .before .before .before .before .before .before .before .args .set .format) (c .before .before .before .before .before .before .before .before .args .state .number) (c .before .before .before .before .before .before .before .before .args .state .wanted) (c .before .before .before .before .before .before .before .before .args .state .second)
 fourth c = sym (c .if2 .left) ∙ c .before .numbers .ensures
@@ -36,28 +43,56 @@ sixth : (c : tie.Else4) → false ≡ valuesRefused (c .before .before .before .
 sixth c = sym (c .if4 .left) ∙ c .before .values-refused .ensures
 
 mul-lengths-refused : tie.Need-mul-lengths-refused
-mul-lengths-refused c = omega (arith, limits (c .before .before .before .before .before .before .before .before .before .args .state) (c .before .before .before .before .before .before .before .before .before .args .indication) (now (c .before .before .before .before .before .before .before .before .before .args .samples)) (now (c .before .before .before .before .before .before .before .before .before .args .ancillary)) (c .before .before .before .before .before .before .before .before .before .args .room) (c .before .before .before .before .before .before .before .before .before .pre) (c .before .before .before .before .before .before .if1 .left) .used-to)
+mul-lengths-refused c =
+    let a = c .before .before .before .before .before .before .before .before .before .args in
+    omega
+    (arith, limits (a .state) (a .indication) (now (a .samples)) (now (a .ancillary)) (a .room) (c .before .before .before .before .before .before .before .before .before .pre) (c .before .before .before .before .before .before .if1 .left) .used-to)
 
 lengths-refused-requires : tie.Need-lengths-refused-requires
 lengths-refused-requires c κs = search needs
 
 returns-3 : tie.Need-returns-3
-returns-3 c = sends-5 (c .before .before .before .before .before .before .before .before .before .before .before .args .state) (c .before .before .before .before .before .before .before .before .before .before .before .args .indication) (now (c .before .before .before .before .before .before .before .before .before .before .before .args .samples)) (now (c .before .before .before .before .before .before .before .before .before .before .before .args .ancillary)) (c .before .before .before .before .before .before .before .before .before .before .before .args .room) (c .before .before .before .before .before .before .before .before .before .before .before .pre) (c .before .before .before .before .before .before .before .before .if1 .left) (fourth (c .before .before .before)) (sym (c .if3 .taken) ∙ c .before .lengths-refused .ensures)
+returns-3 c =
+    let a = c .before .before .before .before .before .before .before .before .before .before .before .args in
+    sends-5 (a .state) (a .indication) (now (a .samples)) (now (a .ancillary)) (a .room)
+    (c .before .before .before .before .before .before .before .before .before .before .before .pre)
+    (c .before .before .before .before .before .before .before .before .if1 .left) (fourth (c .before .before .before))
+    (sym (c .if3 .taken) ∙ c .before .lengths-refused .ensures)
 
 values-refused-requires : tie.Need-values-refused-requires
-values-refused-requires c κs = (limits (c .before .before .before .before .before .before .before .before .before .before .before .args .state) (c .before .before .before .before .before .before .before .before .before .before .before .args .indication) (now (c .before .before .before .before .before .before .before .before .before .before .before .args .samples)) (now (c .before .before .before .before .before .before .before .before .before .before .before .args .ancillary)) (c .before .before .before .before .before .before .before .before .before .before .before .args .room) (c .before .before .before .before .before .before .before .before .before .before .before .pre) (c .before .before .before .before .before .before .before .before .if1 .left) .sample-to, limits (c .before .before .before .before .before .before .before .before .before .before .before .args .state) (c .before .before .before .before .before .before .before .before .before .before .before .args .indication) (now (c .before .before .before .before .before .before .before .before .before .before .before .args .samples)) (now (c .before .before .before .before .before .before .before .before .before .before .before .args .ancillary)) (c .before .before .before .before .before .before .before .before .before .before .before .args .room) (c .before .before .before .before .before .before .before .before .before .before .before .pre) (c .before .before .before .before .before .before .before .before .if1 .left) .ancillary-to)
+values-refused-requires c κs =
+    let a = c .before .before .before .before .before .before .before .before .before .before .before .args in
+    (limits (a .state) (a .indication) (now (a .samples)) (now (a .ancillary)) (a .room) (c .before .before .before .before .before .before .before .before .before .before .before .pre) (c .before .before .before .before .before .before .before .before .if1 .left) .sample-to, limits (a .state) (a .indication) (now (a .samples)) (now (a .ancillary)) (a .room) (c .before .before .before .before .before .before .before .before .before .before .before .pre) (c .before .before .before .before .before .before .before .before .if1 .left) .ancillary-to)
 
 returns-4 : tie.Need-returns-4
-returns-4 c = sends-6 (c .before .before .before .before .before .before .before .before .before .before .before .before .before .args .state) (c .before .before .before .before .before .before .before .before .before .before .before .before .before .args .indication) (now (c .before .before .before .before .before .before .before .before .before .before .before .before .before .args .samples)) (now (c .before .before .before .before .before .before .before .before .before .before .before .before .before .args .ancillary)) (c .before .before .before .before .before .before .before .before .before .before .before .before .before .args .room) (c .before .before .before .before .before .before .before .before .before .before .before .before .before .pre) (c .before .before .before .before .before .before .before .before .before .before .if1 .left) (fourth (c .before .before .before .before .before)) (fifth (c .before .before)) (sym (c .if4 .taken) ∙ c .before .values-refused .ensures)
+returns-4 c =
+    let a = c .before .before .before .before .before .before .before .before .before .before .before .before .before .args in
+    sends-6 (a .state) (a .indication) (now (a .samples)) (now (a .ancillary)) (a .room)
+    (c .before .before .before .before .before .before .before .before .before .before .before .before .before .pre)
+    (c .before .before .before .before .before .before .before .before .before .before .if1 .left)
+    (fourth (c .before .before .before .before .before)) (fifth (c .before .before))
+    (sym (c .if4 .taken) ∙ c .before .values-refused .ensures)
 
 indication-refused-requires : tie.Need-indication-refused-requires
 indication-refused-requires c κs = search needs
 
 returns-5 : tie.Need-returns-5
-returns-5 c = sends-7 (c .before .before .before .before .before .before .before .before .before .before .before .before .before .before .before .args .state) (c .before .before .before .before .before .before .before .before .before .before .before .before .before .before .before .args .indication) (now (c .before .before .before .before .before .before .before .before .before .before .before .before .before .before .before .args .samples)) (now (c .before .before .before .before .before .before .before .before .before .before .before .before .before .before .before .args .ancillary)) (c .before .before .before .before .before .before .before .before .before .before .before .before .before .before .before .args .room) (c .before .before .before .before .before .before .before .before .before .before .before .before .before .before .before .pre) (c .before .before .before .before .before .before .before .before .before .before .before .before .if1 .left) (fourth (c .before .before .before .before .before .before .before)) (fifth (c .before .before .before .before)) (sixth (c .before .before)) (sym (c .if5 .taken) ∙ c .before .indication-refused .ensures)
+returns-5 c =
+    let a = c .before .before .before .before .before .before .before .before .before .before .before .before .before .before .before .args in
+    sends-7 (a .state) (a .indication) (now (a .samples)) (now (a .ancillary)) (a .room)
+    (c .before .before .before .before .before .before .before .before .before .before .before .before .before .before .before .pre)
+    (c .before .before .before .before .before .before .before .before .before .before .before .before .if1 .left)
+    (fourth (c .before .before .before .before .before .before .before)) (fifth (c .before .before .before .before))
+    (sixth (c .before .before)) (sym (c .if5 .taken) ∙ c .before .indication-refused .ensures)
 
 returns-6 : tie.Need-returns-6
-returns-6 c = sends-0 (c .before .before .before .before .before .before .before .before .before .before .before .before .before .before .before .args .state) (c .before .before .before .before .before .before .before .before .before .before .before .before .before .before .before .args .indication) (now (c .before .before .before .before .before .before .before .before .before .before .before .before .before .before .before .args .samples)) (now (c .before .before .before .before .before .before .before .before .before .before .before .before .before .before .before .args .ancillary)) (c .before .before .before .before .before .before .before .before .before .before .before .before .before .before .before .args .room) (c .before .before .before .before .before .before .before .before .before .before .before .before .before .before .before .pre) (c .before .before .before .before .before .before .before .before .before .before .before .before .if1 .left) (fourth (c .before .before .before .before .before .before .before)) (fifth (c .before .before .before .before)) (sixth (c .before .before)) (sym (c .if5 .left) ∙ c .before .indication-refused .ensures)
+returns-6 c =
+    let a = c .before .before .before .before .before .before .before .before .before .before .before .before .before .before .before .args in
+    sends-0 (a .state) (a .indication) (now (a .samples)) (now (a .ancillary)) (a .room)
+    (c .before .before .before .before .before .before .before .before .before .before .before .before .before .before .before .pre)
+    (c .before .before .before .before .before .before .before .before .before .before .before .before .if1 .left)
+    (fourth (c .before .before .before .before .before .before .before)) (fifth (c .before .before .before .before))
+    (sixth (c .before .before)) (sym (c .if5 .left) ∙ c .before .indication-refused .ensures)
 
 pub send-refusal-spec : {M : Type 1} → statement M
 send-refusal-spec =

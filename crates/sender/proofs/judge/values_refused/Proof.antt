@@ -13,7 +13,10 @@ samples-united-requires : tie.Need-samples-united-requires
 samples-united-requires c κs = search needs
 
 returns : tie.Need-returns
-returns c = samples-refused (c .before .before .before .before .before .args .format) (now (c .before .before .before .before .before .args .samples)) (now (c .before .before .before .before .before .args .ancillary)) (c .before .samples-united .ensures) (c .before .before .before .before .before .pre .0) (c .if1 .taken)
+returns c =
+    let a = c .before .before .before .before .before .args in
+    samples-refused (a .format) (now (a .samples)) (now (a .ancillary)) (c .before .samples-united .ensures)
+    (c .before .before .before .before .before .pre .0) (c .if1 .taken)
 
 shl-result : tie.Need-shl-result
 shl-result c = search needs
@@ -25,7 +28,13 @@ wide-requires : tie.Need-wide-requires
 wide-requires c κs = search needs
 
 returns-2 : tie.Need-returns-2
-returns-2 c = ancillary-refused (c .before .before .before .before .before .before .before .before .args .format) (now (c .before .before .before .before .before .before .before .before .args .samples)) (now (c .before .before .before .before .before .before .before .before .args .ancillary)) (c .before .before .before .before .samples-united .ensures) (c .before .before .before .before .before .before .before .before .pre .0) (c .before .before .before .if1 .left) (c .before .before .before .before .before .before .before .before .pre .1) (c .before .octets-united .ensures) (c .wide .ensures)
+returns-2 c =
+    let a = c .before .before .before .before .before .before .before .before .args in
+    ancillary-refused (a .format) (now (a .samples)) (now (a .ancillary))
+    (c .before .before .before .before .samples-united .ensures)
+    (c .before .before .before .before .before .before .before .before .pre .0) (c .before .before .before .if1 .left)
+    (c .before .before .before .before .before .before .before .before .pre .1) (c .before .octets-united .ensures)
+    (c .wide .ensures)
 
 pub values-refused-spec : {M : Type 1} → statement M
 values-refused-spec =

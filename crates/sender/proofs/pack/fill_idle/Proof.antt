@@ -4,7 +4,6 @@ use mathlib.Core.Path.{_≡_, subst}
 use Prim.Native.Nat.{_-_, _≤_}
 use native.Mathlib.Omega.{arith}
 use denote.Ref.{now}
-use borrow.Author.Needs.{needs}
 use Rattle.cells.proofs.Subframes.{slot-room}
 use Rattle.sender.specs.Packing.{Continues}
 use Rattle.sender.proofs.Packing.{continues-begun, continues-on}
@@ -19,7 +18,9 @@ abbrev μ-loop : tie.MeasureT-loop
 μ-loop used sequence cell₀ width slots overhead slot₀ cell slot = slots - slot
 
 loop-holds : tie.Need-loop-holds Inv-loop μ-loop
-loop-holds c = (omega arith, c .before .pre .1, continues-begun (c .before .args .set .format .width) (c .before .args .set .format .overhead) (c .before .args .sequence) (now (c .before .args .cell)) (c .before .args .used))
+loop-holds c =
+    let a = c .before .args in
+    (omega arith, c .before .pre .1, continues-begun (a .set .format .width) (a .set .format .overhead) (a .sequence) (now (a .cell)) (a .used))
 
 shr-bit : tie.Need-shr-bit Inv-loop μ-loop
 shr-bit c = omega arith
@@ -28,13 +29,15 @@ idle-subframe-requires : tie.Need-idle-subframe-requires Inv-loop μ-loop
 idle-subframe-requires c κs = omega arith
 
 mul-put : tie.Need-mul-put Inv-loop μ-loop
-mul-put c = omega (arith, slot-room (c .before .before .before .before .before .pre .0 .sound) (c .before .before .loop-test .taken))
+mul-put c =
+    omega (arith, slot-room (c .before .before .before .before .before .pre .0 .sound) (c .before .before .loop-test .taken))
 
 put-requires : tie.Need-put-requires Inv-loop μ-loop
-put-requires c κs = (
-  omega (arith, slot-room (c .before .before .before .before .before .pre .0 .sound) (c .before .before .loop-test .taken), c .before .before .before .loop .inv .2 .same, c .before .before .before .before .before .pre .2),
-  c .before .before .before .before .before .pre .0 .sound .width-to,
-)
+put-requires c κs =
+    let given = c .before .before .before .before .before .pre in (
+      omega (arith, slot-room (given .0 .sound) (c .before .before .loop-test .taken), c .before .before .before .loop .inv .2 .same, given .2),
+      given .0 .sound .width-to,
+    )
 
 add-slot : tie.Need-add-slot Inv-loop μ-loop
 add-slot c = omega arith
@@ -43,18 +46,23 @@ loop-less : tie.Need-loop-less Inv-loop μ-loop
 loop-less c = omega arith
 
 loop-again : tie.Need-loop-again Inv-loop μ-loop
-loop-again c = (
-  omega (arith, c .before .before .before .before .before .before .loop .inv .0),
-  omega (arith, c .before .before .before .before .before .loop-test .taken),
-  continues-on (c .before .before .before .before .before .before .before .before .args .set .format .width) (c .before .before .before .before .before .before .before .before .args .set .format .overhead) (c .before .before .before .before .before .before .before .before .args .sequence) (now (c .before .before .before .before .before .before .before .before .args .cell)) (c .before .before .before .before .before .before .before .before .args .used) (c .before .before .before .before .before .before .loop .inv .2) (c .before .before .before .before .before .before .loop .inv .0) (c .before .before .before .before .idle-subframe .ensures) (c .before .before .put .ensures) (c .before .before .put .kept .0),
-)
+loop-again c =
+    let a = c .before .before .before .before .before .before .before .before .args in (
+      omega (arith, c .before .before .before .before .before .before .loop .inv .0),
+      omega (arith, c .before .before .before .before .before .loop-test .taken),
+      continues-on (a .set .format .width) (a .set .format .overhead) (a .sequence) (now (a .cell)) (a .used) (c .before .before .before .before .before .before .loop .inv .2) (c .before .before .before .before .before .before .loop .inv .0) (c .before .before .before .before .idle-subframe .ensures) (c .before .before .put .ensures) (c .before .before .put .kept .0),
+    )
 
 same-length : tie.Need-same-length Inv-loop μ-loop
 same-length c = c .before .loop .inv .2 .same
 
 returns : tie.Need-returns Inv-loop μ-loop
 returns c =
-    subst (Continues (c .before .before .before .args .set .format .width) (c .before .before .before .args .set .format .overhead) (c .before .before .before .args .sequence) (now (c .before .before .before .args .cell)) (c .before .before .before .args .used) (c .before .loop .cell)) (let end : c .before .loop .slot ≡ c .before .before .before .args .set .format .slots = omega (arith, c .before .loop .inv .1, c .loop-test .left) in end) (c .before .loop .inv .2)
+    let a = c .before .before .before .args in
+    subst
+    (Continues (a .set .format .width) (a .set .format .overhead) (a .sequence) (now (a .cell)) (a .used) (c .before .loop .cell))
+    (let end : c .before .loop .slot ≡ a .set .format .slots = omega (arith, c .before .loop .inv .1, c .loop-test .left) in end)
+    (c .before .loop .inv .2)
 
 pub fill-idle-spec : {M : Type 1} → statement M
 fill-idle-spec =

@@ -1,9 +1,8 @@
 -- `sender::pack::fill_in_order` meets its contract.
 -- Assumes nothing.
-use mathlib.Core.Path.{_≡_, refl, _∙_, sym}
+use mathlib.Core.Path.{refl}
 use Prim.Native.Nat.{_-_}
 use native.Mathlib.Omega.{arith}
-use denote.Ref.{now}
 use lib.ListN as L
 use borrow.Author.Needs.{needs}
 use Rattle.sender.specs.Packing.{shape, inOrder}
@@ -19,7 +18,9 @@ abbrev μ-loop : tie.MeasureT-loop
 μ-loop table length four overhead width sequence samples ancillary cell₀ slot₀ cell slot = L.length samples - slot
 
 loop-holds : tie.Need-loop-holds Inv-loop μ-loop
-loop-holds c = filling-begun (shape (c .before .before .before .args .length) (c .before .before .before .args .four) (c .before .before .before .args .overhead)) inOrder (c .before .before .before .args .sequence) (c .before .before .before .pre)
+loop-holds c =
+    let a = c .before .before .before .args in
+    filling-begun (shape (a .length) (a .four) (a .overhead)) inOrder (a .sequence) (c .before .before .before .pre)
 
 shr-bit : tie.Need-shr-bit Inv-loop μ-loop
 shr-bit c = omega arith
@@ -37,22 +38,28 @@ wide-requires : tie.Need-wide-requires Inv-loop μ-loop
 wide-requires c κs = search needs
 
 subframe-requires : tie.Need-subframe-requires Inv-loop μ-loop
-subframe-requires c κs = (
-  c .before .before .before .before .before .before .before .before .pre .sound,
-  c .before .before .before .before .before .before .before .before .pre .guards,
-  c .before .before .before .before .before .before .before .before .pre .small (c .before .before .before .before .loop .slot),
-  rw (c .wide .ensures) (c .before .before .before .before .before .before .before .before .pre .few (c .before .before .before .before .loop .slot)),
-  omega arith,
-)
+subframe-requires c κs =
+    let given = c .before .before .before .before .before .before .before .before .pre in (
+      given .sound,
+      given .guards,
+      given .small (c .before .before .before .before .loop .slot),
+      rw (c .wide .ensures) (given .few (c .before .before .before .before .loop .slot)),
+      omega arith,
+    )
 
 mul-put : tie.Need-mul-put Inv-loop μ-loop
-mul-put c = omega (arith, used-room (shape (c .before .before .before .before .before .before .before .before .before .before .args .length) (c .before .before .before .before .before .before .before .before .before .before .args .four) (c .before .before .before .before .before .before .before .before .before .before .args .overhead)) inOrder (c .before .before .before .before .before .before .before .before .before .before .args .sequence) (c .before .before .before .before .before .before .before .before .before .before .pre) (c .before .before .before .before .before .loop-test .taken))
+mul-put c =
+    let a = c .before .before .before .before .before .before .before .before .before .before .args in
+    omega
+    (arith, used-room (shape (a .length) (a .four) (a .overhead)) inOrder (a .sequence) (c .before .before .before .before .before .before .before .before .before .before .pre) (c .before .before .before .before .before .loop-test .taken))
 
 put-requires : tie.Need-put-requires Inv-loop μ-loop
-put-requires c κs = (
-  omega (arith, used-room (shape (c .before .before .before .before .before .before .before .before .before .before .args .length) (c .before .before .before .before .before .before .before .before .before .before .args .four) (c .before .before .before .before .before .before .before .before .before .before .args .overhead)) inOrder (c .before .before .before .before .before .before .before .before .before .before .args .sequence) (c .before .before .before .before .before .before .before .before .before .before .pre) (c .before .before .before .before .before .loop-test .taken), c .before .before .before .before .before .before .loop .inv .same, c .before .before .before .before .before .before .before .before .before .before .pre .whole),
-  omega (arith, c .before .before .before .before .before .before .before .before .before .before .pre .width-is, c .before .before .before .before .before .before .before .before .before .before .pre .sound .width-to),
-)
+put-requires c κs =
+    let a = c .before .before .before .before .before .before .before .before .before .before .args in
+    let given = c .before .before .before .before .before .before .before .before .before .before .pre in (
+      omega (arith, used-room (shape (a .length) (a .four) (a .overhead)) inOrder (a .sequence) (given) (c .before .before .before .before .before .loop-test .taken), c .before .before .before .before .before .before .loop .inv .same, given .whole),
+      omega (arith, given .width-is, given .sound .width-to),
+    )
 
 add-slot : tie.Need-add-slot Inv-loop μ-loop
 add-slot c = omega arith
@@ -62,13 +69,22 @@ loop-less c = omega arith
 
 loop-again : tie.Need-loop-again Inv-loop μ-loop
 loop-again c =
-    filling-on (shape (c .before .before .before .before .before .before .before .before .before .before .before .before .before .args .length) (c .before .before .before .before .before .before .before .before .before .before .before .before .before .args .four) (c .before .before .before .before .before .before .before .before .before .before .before .before .before .args .overhead)) inOrder (c .before .before .before .before .before .before .before .before .before .before .before .before .before .args .sequence) (c .before .before .before .before .before .before .before .before .before .before .before .before .before .pre) (c .before .before .before .before .before .before .before .before .before .loop .inv) (c .before .before .before .before .before .before .before .before .loop-test .taken) refl (c .before .before .before .before .before .wide .ensures) (c .before .before .before .before .subframe .ensures) (c .before .before .put .ensures) (c .before .before .put .kept .0)
+    let a = c .before .before .before .before .before .before .before .before .before .before .before .before .before .args in
+    filling-on (shape (a .length) (a .four) (a .overhead)) inOrder (a .sequence)
+    (c .before .before .before .before .before .before .before .before .before .before .before .before .before .pre)
+    (c .before .before .before .before .before .before .before .before .before .loop .inv)
+    (c .before .before .before .before .before .before .before .before .loop-test .taken) refl
+    (c .before .before .before .before .before .wide .ensures) (c .before .before .before .before .subframe .ensures)
+    (c .before .before .put .ensures) (c .before .before .put .kept .0)
 
 same-length : tie.Need-same-length Inv-loop μ-loop
 same-length c = c .before .loop .inv .same
 
 returns : tie.Need-returns Inv-loop μ-loop
-returns c = filling-done (shape (c .before .before .before .before .before .args .length) (c .before .before .before .before .before .args .four) (c .before .before .before .before .before .args .overhead)) inOrder (c .before .before .before .before .before .args .sequence) (c .before .before .before .before .before .pre) (c .before .loop .inv) (c .loop-test .left)
+returns c =
+    let a = c .before .before .before .before .before .args in
+    filling-done (shape (a .length) (a .four) (a .overhead)) inOrder (a .sequence)
+    (c .before .before .before .before .before .pre) (c .before .loop .inv) (c .loop-test .left)
 
 pub fill-in-order-spec : {M : Type 1} → statement M
 fill-in-order-spec =

@@ -20,7 +20,13 @@ same-length c = search needs
 
 returns : tie.Need-returns
 returns c =
-    packs (c .before .before .before .before .before .before .before .before .before .before .before .before .args .word) (c .before .before .before .before .before .before .before .before .before .before .before .before .args .second) (c .before .before .before .before .before .before .before .before .sequence-of .result) (now (c .before .before .before .before .before .before .before .before .before .before .before .before .args .cell)) (c .before .before .before .before .before .before .before .before .before .before .before .before .pre .0) (c .before .before .before .before .before .before .before .before .before .before .before .before .fits .word .fits) (c .before .before .before .before .before .before .before .before .before .before .before .before .pre .1) (c .before .before .before .before .before .before .before .before .before .before .before .before .pre .2) (c .before .before .before .before .before .before .before .before .sequence-of .ensures) (c .before .before .before .before .before .before .pack-used .ensures) (c .before .before .fill-idle .ensures)
+    let a = c .before .before .before .before .before .before .before .before .before .before .before .before .args in
+    let given = c .before .before .before .before .before .before .before .before .before .before .before .before .pre in
+    packs (a .word) (a .second) (c .before .before .before .before .before .before .before .before .sequence-of .result)
+    (now (a .cell)) (given .0)
+    (c .before .before .before .before .before .before .before .before .before .before .before .before .fits .word .fits)
+    (given .1) (given .2) (c .before .before .before .before .before .before .before .before .sequence-of .ensures)
+    (c .before .before .before .before .before .before .pack-used .ensures) (c .before .before .fill-idle .ensures)
 
 pub pack-spec : {M : Type 1} → statement M
 pack-spec =

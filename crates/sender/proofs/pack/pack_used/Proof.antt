@@ -13,7 +13,10 @@ same-length : tie.Need-same-length
 same-length c = search needs
 
 returns : tie.Need-returns
-returns c = placed-by-channel (c .before .before .before .before .before .before .before .before .args .set) (c .before .before .before .before .before .before .before .before .args .sequence) (now (c .before .before .before .before .before .before .before .before .args .samples)) (now (c .before .before .before .before .before .before .before .before .args .ancillary)) (now (c .before .before .before .before .before .before .before .before .args .cell)) (c .before .before .before .before .if1 .taken) (c .before .before .pack-by-channel .ensures)
+returns c =
+    let a = c .before .before .before .before .before .before .before .before .args in
+    placed-by-channel (a .set) (a .sequence) (now (a .samples)) (now (a .ancillary)) (now (a .cell))
+    (c .before .before .before .before .if1 .taken) (c .before .before .pack-by-channel .ensures)
 
 pack-in-order-requires : tie.Need-pack-in-order-requires
 pack-in-order-requires c κs = search needs
@@ -22,7 +25,10 @@ same-length-2 : tie.Need-same-length-2
 same-length-2 c = search needs
 
 returns-2 : tie.Need-returns-2
-returns-2 c = placed-in-order (c .before .before .before .before .before .before .before .before .args .set) (c .before .before .before .before .before .before .before .before .args .sequence) (now (c .before .before .before .before .before .before .before .before .args .samples)) (now (c .before .before .before .before .before .before .before .before .args .ancillary)) (now (c .before .before .before .before .before .before .before .before .args .cell)) (c .before .before .before .before .if1 .left) (c .before .before .pack-in-order .ensures)
+returns-2 c =
+    let a = c .before .before .before .before .before .before .before .before .args in
+    placed-in-order (a .set) (a .sequence) (now (a .samples)) (now (a .ancillary)) (now (a .cell))
+    (c .before .before .before .before .if1 .left) (c .before .before .pack-in-order .ensures)
 
 pub pack-used-spec : {M : Type 1} → statement M
 pack-used-spec =

@@ -52,18 +52,21 @@ loop-less c = omega arith
 
 loop-again : tie.Need-loop-again Inv-loop μ-loop
 loop-again c =
-    turned (now (c .before .before .args .cell)) (c .before .before .args .at) (octetsOf (c .before .before .args .width) (c .before .before .args .number)) (c .before .loop .inv)
-    (omega (arith, length-octets (c .before .before .args .width) (c .before .before .args .number)))
-    (omega (arith, length-octets (c .before .before .args .width) (c .before .before .args .number)))
-    (octet-at (c .before .before .args .width) (c .before .before .args .number) (c .before .loop .i) (c .loop-test .taken))
+    let a = c .before .before .args in
+    turned (now (a .cell)) (a .at) (octetsOf (a .width) (a .number)) (c .before .loop .inv)
+    (omega (arith, length-octets (a .width) (a .number))) (omega (arith, length-octets (a .width) (a .number)))
+    (octet-at (a .width) (a .number) (c .before .loop .i) (c .loop-test .taken))
 
 same-length : tie.Need-same-length Inv-loop μ-loop
 same-length c = c .before .loop .inv .same
 
 returns : tie.Need-returns Inv-loop μ-loop
 returns c =
-    done (now (c .before .before .args .cell)) (c .before .before .args .at) (octetsOf (c .before .before .args .width) (c .before .before .args .number)) (c .before .loop .inv) (omega (arith, length-octets (c .before .before .args .width) (c .before .before .args .number)))
-    ∙ ap (λ (n : ℕ). take (c .before .before .args .at) (now (c .before .before .args .cell)) ++ (octetsOf (c .before .before .args .width) (c .before .before .args .number)) ++ drop ((c .before .before .args .at) + n) (now (c .before .before .args .cell))) (length-octets (c .before .before .args .width) (c .before .before .args .number))
+    let a = c .before .before .args in
+    done (now (a .cell)) (a .at) (octetsOf (a .width) (a .number)) (c .before .loop .inv)
+    (omega (arith, length-octets (a .width) (a .number))) ∙ ap
+    (λ (n : ℕ). take (a .at) (now (a .cell)) ++ (octetsOf (a .width) (a .number)) ++ drop ((a .at) + n) (now (a .cell)))
+    (length-octets (a .width) (a .number))
 
 pub put-spec : {M : Type 1} → statement M
 put-spec =

@@ -54,22 +54,24 @@ mul-result : tie.Need-mul-result
 mul-result c = search needs
 
 guard : (c : tie.After-wide) → c .wide .result ≡ guardOf (c .before .before .before .args .length) (c .before .before .before .args .sample) (c .before .before .before .args .ancillary)
-guard c = guard-looked (c .before .before .before .pre .0) (c .before .before .before .pre .2) (c .before .before .before .pre .3) (c .before .before .before .pre .4) (c .before .before .before .pre .1) (c .wide .ensures)
+guard c =
+    let given = c .before .before .before .pre in
+    guard-looked (given .0) (given .2) (given .3) (given .4) (given .1) (c .wide .ensures)
 
 add-result : tie.Need-add-result
 add-result c =
-    omega (
-      arith,
-      guard c,
-      guard-le (c .before .before .before .args .length) (c .before .before .before .args .sample) (c .before .before .before .args .ancillary),
-      c .before .before .before .pre .4,
-    )
+    let a = c .before .before .before .args in
+    omega (arith, guard c, guard-le (a .length) (a .sample) (a .ancillary), c .before .before .before .pre .4)
 
 add-result-2 : tie.Need-add-result-2
-add-result-2 c = record { fits = guarded-fits (c .before .before .before .pre .0) (c .before .before .before .pre .2) (c .before .before .before .pre .3) (c .before .before .before .pre .4) (c .before .before .if1 .left) (guard c) }
+add-result-2 c =
+    let given = c .before .before .before .pre in
+    record { fits = guarded-fits (given .0) (given .2) (given .3) (given .4) (c .before .before .if1 .left) (guard c) }
 
 returns-2 : tie.Need-returns-2
-returns-2 c = subframe-guarded (c .before .before .before .pre .0) (c .before .before .before .pre .2) (c .before .before .before .pre .3) (c .before .before .before .pre .4) (c .before .before .if1 .left) (guard c)
+returns-2 c =
+    let given = c .before .before .before .pre in
+    subframe-guarded (given .0) (given .2) (given .3) (given .4) (c .before .before .if1 .left) (guard c)
 
 pub subframe-spec : {M : Type 1} → statement M
 subframe-spec =
