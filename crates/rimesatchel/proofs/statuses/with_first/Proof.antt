@@ -1,6 +1,6 @@
 -- `rimesatchel::statuses::with_first` meets its contract.
 -- Assumes nothing.
-use mathlib.Core.List.{append-nil}
+use mathlib.Core.List.{_∷_, append-nil}
 use mathlib.Core.Path.{_≡_, refl, _∙_, ap}
 use Prim.Native.Nat.{_-_, _≤_}
 use native.Mathlib.Omega.{arith}
