@@ -2,6 +2,7 @@
 ghost use mathlib.Core.Path.{_≡_};
 ghost use Rattle.sender.specs.Sender.{openedOf, Sends};
 
+mod fill;
 mod judge;
 mod pack;
 

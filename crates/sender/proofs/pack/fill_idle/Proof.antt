@@ -6,7 +6,7 @@ use native.Mathlib.Omega.{arith}
 use denote.Ref.{now}
 use Rattle.cells.proofs.Subframes.{slot-room}
 use Rattle.sender.specs.Packing.{Continues}
-use Rattle.sender.proofs.Packing.{continues-begun, continues-on}
+use Rattle.sender.proofs.Filling.{continues-begun, continues-on}
 use Rattle.sender.proofs.pack.fill_idle.Statement.{statement}
 use Rattle.sender.proofs.pack.fill_idle.Tie as tie
 

@@ -1,10 +1,10 @@
--- `sender::pack::next_entry` meets its contract.
+-- `sender::fill::next_entry` meets its contract.
 -- Assumes nothing.
 use borrow.Author.Tests.{lt-ltb, le-ltb}
 use Rattle.cells.specs.Placement.{nextEntry}
 use borrow.Author.Needs.{needs}
-use Rattle.sender.proofs.pack.next_entry.Statement.{statement}
-use Rattle.sender.proofs.pack.next_entry.Tie as tie
+use Rattle.sender.proofs.fill.next_entry.Statement.{statement}
+use Rattle.sender.proofs.fill.next_entry.Tie as tie
 
 add-next : tie.Need-add-next
 add-next c = search needs

@@ -1,4 +1,4 @@
--- `sender::pack::put` meets its contract: the cell is filled with the octets of the number.
+-- `sender::fill::put` meets its contract: the cell is filled with the octets of the number.
 -- Assumes nothing.
 use mathlib.Core.Path.{_∙_, ap}
 use Prim.Native.Nat.{ℕ, _+_, _-_}
@@ -10,9 +10,9 @@ use borrow.Author.Needs.{needs}
 use Rattle.runs.specs.Runs.{octetsOf}
 use Rattle.runs.proofs.Filling.{Filled, begun, turned, done}
 use Rattle.runs.proofs.Laws.{length-octets}
-use Rattle.sender.proofs.Packing.{octet-at}
-use Rattle.sender.proofs.pack.put.Statement.{statement}
-use Rattle.sender.proofs.pack.put.Tie as tie
+use Rattle.sender.proofs.Filling.{octet-at}
+use Rattle.sender.proofs.fill.put.Statement.{statement}
+use Rattle.sender.proofs.fill.put.Tie as tie
 
 abbrev Inv-loop : tie.InvT-loop
 Inv-loop cell₀ at width number i₀ cell i = Filled cell cell₀ at (octetsOf width number) i

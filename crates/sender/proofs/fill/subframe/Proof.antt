@@ -1,10 +1,10 @@
--- `sender::pack::subframe` meets its contract.
+-- `sender::fill::subframe` meets its contract.
 -- Assumes nothing.
 use mathlib.Core.Path.{_≡_}
 use native.Mathlib.Omega.{arith}
 use Rattle.guards.specs.Guards.{guardOf}
 use Rattle.guards.proofs.Laws.{guard-le}
-use Rattle.sender.proofs.Packing.{
+use Rattle.sender.proofs.Filling.{
   above-fits,
   twice-fits,
   ten-lt,
@@ -14,8 +14,8 @@ use Rattle.sender.proofs.Packing.{
   guarded-fits,
 }
 use borrow.Author.Needs.{needs}
-use Rattle.sender.proofs.pack.subframe.Statement.{statement}
-use Rattle.sender.proofs.pack.subframe.Tie as tie
+use Rattle.sender.proofs.fill.subframe.Statement.{statement}
+use Rattle.sender.proofs.fill.subframe.Tie as tie
 
 shl-above : tie.Need-shl-above
 shl-above c = search needs

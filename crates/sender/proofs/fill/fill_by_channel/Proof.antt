@@ -1,4 +1,4 @@
--- `sender::pack::fill_by_channel` meets its contract.
+-- `sender::fill::fill_by_channel` meets its contract.
 -- Assumes nothing.
 use mathlib.Core.Path.{_≡_}
 use Prim.Native.Nat.{_-_, _<_}
@@ -7,9 +7,9 @@ use denote.Ref.{now}
 use lib.ListN as L
 use borrow.Author.Needs.{needs}
 use Rattle.sender.specs.Packing.{shape, byChannel}
-use Rattle.sender.proofs.Packing.{Filling, filling-begun, used-room, filling-on, filling-done, entry-first, entry-in, entry-on}
-use Rattle.sender.proofs.pack.fill_by_channel.Statement.{statement}
-use Rattle.sender.proofs.pack.fill_by_channel.Tie as tie
+use Rattle.sender.proofs.Filling.{Filling, filling-begun, used-room, filling-on, filling-done, entry-first, entry-in, entry-on}
+use Rattle.sender.proofs.fill.fill_by_channel.Statement.{statement}
+use Rattle.sender.proofs.fill.fill_by_channel.Tie as tie
 
 abbrev Inv-loop : tie.InvT-loop
 Inv-loop table length four overhead width channels sequence samples ancillary cell₀ entry₀ slot₀ cell entry slot =

@@ -1,4 +1,4 @@
--- `sender::pack::fill_in_order` meets its contract.
+-- `sender::fill::fill_in_order` meets its contract.
 -- Assumes nothing.
 use mathlib.Core.Path.{refl}
 use Prim.Native.Nat.{_-_}
@@ -6,9 +6,9 @@ use native.Mathlib.Omega.{arith}
 use lib.ListN as L
 use borrow.Author.Needs.{needs}
 use Rattle.sender.specs.Packing.{shape, inOrder}
-use Rattle.sender.proofs.Packing.{Filling, filling-begun, used-room, filling-on, filling-done}
-use Rattle.sender.proofs.pack.fill_in_order.Statement.{statement}
-use Rattle.sender.proofs.pack.fill_in_order.Tie as tie
+use Rattle.sender.proofs.Filling.{Filling, filling-begun, used-room, filling-on, filling-done}
+use Rattle.sender.proofs.fill.fill_in_order.Statement.{statement}
+use Rattle.sender.proofs.fill.fill_in_order.Tie as tie
 
 abbrev Inv-loop : tie.InvT-loop
 Inv-loop table length four overhead width sequence samples ancillary cell₀ slot₀ cell slot =

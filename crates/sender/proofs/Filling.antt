@@ -1,0 +1,231 @@
+-- Laws of filling: the code's arithmetic on one subframe, and a cell that is filled slot after slot.
+-- Assumes nothing.
+use mathlib.Core.Bool.{true}
+use mathlib.Core.List.{List, _++_, append-nil}
+use mathlib.Core.Path.{_≡_, refl, sym, _∙_, ap, ap₂}
+use Prim.Native.Nat.{ℕ, zero, suc, _+_, _*_, _/_, _%_, _-_, _^_, _≤_, _<_}
+use native.Mathlib.Nat.{mul-one, zero-mul, zero-mod, zero-div, suc-mul, pow-le-pow-right, not-suc-le-zero, le-of-suc-le-suc}
+use native.Mathlib.Numerals.{add-one}
+use native.Mathlib.Omega.{arith}
+use borrow.Author.Tests.{ne-eqb}
+use lib.Arith.{digits-lt}
+use lib.Bits.{bitXor}
+use lib.ListN.{length, getD, take, drop}
+use lib.Pow.{pow-add, pow-mono, shl-exact}
+use lib.Seq.{take-at, drop-drop, drop-append-add, drop-length}
+use Rattle.runs.specs.Runs.{joined, octetsOf}
+use Rattle.runs.proofs.Laws.{length-joined, length-octets}
+use Rattle.formats.specs.declared.Format.{Format}
+use Rattle.formats.specs.Sound.{Sound}
+use Rattle.guards.specs.Guards.{nineOf, sevenGuards, guardOf}
+use Rattle.guards.proofs.Laws.{nine-lt, nine-top, seven-guard}
+use Rattle.cells.specs.Cells.{overheadOf, subframeOf}
+use Rattle.cells.specs.Placement.{entryOfSlot, nextEntry}
+use Rattle.cells.proofs.Placement.{entry-lt, entry-next}
+use Rattle.cells.proofs.Subframes.{subframe-lt, octets-pow, slot-room, four}
+use Rattle.sender.specs.Packing.{Fillable, Turnable, byChannel, slotWith, written, idleNumber, Continues}
+
+module _ {f : Format} (s : Sound f) {sample ancillary bit : ℕ}
+    (hs : sample < 2 ^ f .sample) (ha : ancillary < 2 ^ f .ancillary) (hb : bit < 2)
+  where
+    -- sample and ancillary side by side, as the code makes them
+    abbrev above : ℕ
+    above = (sample * 2 ^ f .ancillary) % 2 ^ 64 + ancillary
+
+    pub above-is : above ≡ sample * 2 ^ f .ancillary + ancillary
+    above-is =
+        ap (λ (n : ℕ). n + ancillary)
+        (shl-exact (f .sample) (f .ancillary) 64 hs (omega (arith, s .sample-to, s .ancillary-to)))
+
+    above-lt : sample * 2 ^ f .ancillary + ancillary < 2 ^ (f .sample + f .ancillary)
+    above-lt = rw (pow-add 2 (f .sample) (f .ancillary)) (digits-lt hs ha)
+
+    pub above-fits : above < 2 ^ 64
+    above-fits =
+        let less = above-lt in
+        let far : 2 ^ (f .sample + f .ancillary) ≤ 2 ^ 64
+        = pow-mono {i = f .sample + f .ancillary} {j = 64} (omega (arith, s .sample-to, s .ancillary-to)) in
+        omega (arith, above-is)
+
+    pub subframe-plain : f .overhead ≡ 0 → above ≡ subframeOf f sample ancillary bit
+    unfolding subframeOf overheadOf
+    subframe-plain none = above-is ∙ rw (none, mul-one) (omega arith)
+
+    -- the nine top bits as the code shifts them down, and with V the ten
+    abbrev ten : ℕ
+    ten = sample * 2 / 2 ^ (f .sample - 8) * 2 + ancillary % 2
+
+    pub twice-fits : sample * 2 < 2 ^ 64
+    twice-fits =
+        let far : 2 ^ f .sample ≤ 2 ^ 40 = pow-mono {i = f .sample} {j = 40} (s .sample-to) in
+        omega arith
+
+    ten-is : ten ≡ nineOf (f .sample) sample * 2 + ancillary % 2
+    ten-is = ap (λ (n : ℕ). n * 2 + ancillary % 2) (nine-top (f .sample) (s .sample-from) hs)
+
+    pub ten-lt : ten < 1024
+    ten-lt = rw ten-is (omega (arith, nine-lt (f .sample) sample))
+
+    pub guard-looked : {table : List ℕ} {guard : ℕ} → table ≡ sevenGuards → guard ≡ getD table (bitXor ten (ten / 128) % 128) 0
+        → guard ≡ guardOf (f .sample) sample ancillary
+    guard-looked same e =
+        e
+        ∙ ap (λ (l : List ℕ). getD l (bitXor ten (ten / 128) % 128) 0) same
+        ∙ seven-guard (f .sample) sample ancillary ten-is
+
+    module _ (some : f .overhead ≡ 0 → ⊥) where
+      whole-is : (above * 2 ^ f .overhead) % 2 ^ 64 ≡ (sample * 2 ^ f .ancillary + ancillary) * 2 ^ f .overhead
+      whole-is =
+          ap (λ (n : ℕ). (n * 2 ^ f .overhead) % 2 ^ 64) above-is
+          ∙ shl-exact (f .sample + f .ancillary) (f .overhead) 64 above-lt
+          (omega (arith, s .sample-to, s .ancillary-to, s .overhead-to))
+
+      pub subframe-guarded : {guard : ℕ} → guard ≡ guardOf (f .sample) sample ancillary
+          → (above * 2 ^ f .overhead) % 2 ^ 64 + (bit * 8 + guard) ≡ subframeOf f sample ancillary bit
+      unfolding subframeOf overheadOf
+      subframe-guarded {guard} e =
+          ap₂ (λ (x y : ℕ). x + (bit * 8 + y)) whole-is e ∙ rw (ne-eqb (f .overhead) 0 some)
+
+      pub guarded-fits : {guard : ℕ} → guard ≡ guardOf (f .sample) sample ancillary
+          → (above * 2 ^ f .overhead) % 2 ^ 64 + (bit * 8 + guard) < 2 ^ 64
+      guarded-fits e =
+          let far : 256 ^ f .width ≤ 256 ^ 6 = pow-le-pow-right (omega arith) (s .width-to) in
+          omega (arith, subframe-guarded e, subframe-lt s hs ha hb)
+
+-- octet i of a number, as the code shifts it out
+pub octet-at : (w n i : ℕ) → i < w → n / 2 ^ (8 * (w - 1 - i)) % 256 ≡ getD (octetsOf w n) i 0
+unfolding octetsOf
+octet-at zero n i h = absurd (not-suc-le-zero h)
+octet-at (suc w) n zero h =
+    let place : suc w - 1 - 0 ≡ w = omega arith in
+    ap (λ (p : ℕ). n / p % 256) (ap (λ (k : ℕ). 2 ^ (8 * k)) place ∙ octets-pow w)
+octet-at (suc w) n (suc i) h =
+    let place : suc w - 1 - suc i ≡ w - 1 - i = omega arith in
+    ap (λ (k : ℕ). n / 2 ^ (8 * k) % 256) place ∙ octet-at w n i (le-of-suc-le-suc h)
+
+-- a cell that is filled slot after slot: the slots so far, and then what it held
+module _ (g : ℕ → List ℕ) (w : ℕ) (cell₀ : List ℕ) where
+  pub filled-on : (k : ℕ) {cell cell₁ : List ℕ} → ((k : ℕ) → length (g k) ≡ w)
+      → cell ≡ joined g k ++ drop (k * w) cell₀
+      → cell₁ ≡ take (k * w) cell ++ g k ++ drop (k * w + w) cell
+      → cell₁ ≡ joined g (k + 1) ++ drop ((k + 1) * w) cell₀
+  unfolding joined
+  filled-on k each so-far e =
+      let front : length (joined g k) ≡ k * w = length-joined g w k each in
+      e
+      ∙ ap₂ (λ (before after : List ℕ). before ++ g k ++ after)
+      (ap (take (k * w)) so-far ∙ take-at (joined g k) (drop (k * w) cell₀) (k * w) front)
+      (ap (drop (k * w + w)) so-far
+      ∙ ap (λ (n : ℕ). drop (n + w) (joined g k ++ drop (k * w) cell₀)) (sym front)
+      ∙ drop-append-add (joined g k) (drop (k * w) cell₀) w
+      ∙ drop-drop w (k * w) cell₀)
+      ∙ rw (add-one, suc-mul)
+
+  pub filled : (k slots : ℕ) {cell : List ℕ} → cell ≡ joined g k ++ drop (k * w) cell₀ → k ≡ slots
+      → slots * w ≡ length cell₀ → cell ≡ joined g slots
+  filled k slots so-far e whole =
+      so-far
+      ∙ ap (λ (n : ℕ). joined g n ++ drop (n * w) cell₀) e
+      ∙ ap (λ (n : ℕ). joined g slots ++ drop n cell₀) whole
+      ∙ ap (λ (r : List ℕ). joined g slots ++ r) (drop-length cell₀)
+      ∙ append-nil (joined g slots)
+
+-- the filling loops' invariant, and its laws
+pub record Filling (f : Format) (entry : ℕ → ℕ) (sequence : ℕ) (samples ancillary cell₀ cell : List ℕ) (slot : ℕ) : Type 0 where
+  pub within : slot ≤ length samples
+  pub is : cell ≡ joined (slotWith f entry sequence samples ancillary) slot ++ drop (slot * f .width) cell₀
+  pub same : length cell ≡ length cell₀
+
+module _ (f : Format) (entry : ℕ → ℕ) (sequence : ℕ) {width : ℕ} {table samples ancillary cell₀ : List ℕ}
+    (ok : Fillable f width table samples ancillary cell₀)
+  where
+    pub filling-begun : Filling f entry sequence samples ancillary cell₀ cell₀ 0
+    unfolding joined
+    filling-begun =
+        record { within = omega arith; is = ap (λ (n : ℕ). drop n cell₀) (sym (zero-mul (f .width))); same = refl }
+
+    pub used-room : {slot : ℕ} → slot < length samples → slot * width + width ≤ 48
+    used-room {slot} less = rw (ok .width-is) (slot-room (ok .sound) (omega (arith, ok .fit)))
+
+    pub filling-on : {cell cell₁ : List ℕ} {slot at four number : ℕ} → Filling f entry sequence samples ancillary cell₀ cell slot
+        → slot < length samples
+        → at ≡ entry slot
+        → four ≡ getD ancillary at 0
+        → number ≡ subframeOf f (getD samples at 0) four (sequence / 2 ^ slot % 2)
+        → cell₁ ≡ take (slot * width) cell ++ octetsOf width number ++ drop (slot * width + width) cell
+        → length cell₁ ≡ length cell
+        → Filling f entry sequence samples ancillary cell₀ cell₁ (slot + 1)
+    unfolding slotWith
+    filling-on {cell} {cell₁} {slot} {at} so-far less at-is four-is number-is put kept =
+        let carries : octetsOf width _ ≡ slotWith f entry sequence samples ancillary slot
+        = ap₂ octetsOf (ok .width-is)
+        (number-is
+        ∙ ap (λ (a : ℕ). subframeOf f (getD samples at 0) a (sequence / 2 ^ slot % 2)) four-is
+        ∙ ap (λ (i : ℕ). subframeOf f (getD samples i 0) (getD ancillary i 0) (sequence / 2 ^ slot % 2)) at-is) in
+        record {
+          within = omega arith;
+          is =
+              filled-on (slotWith f entry sequence samples ancillary) (f .width) cell₀ slot
+              (λ k. length-octets (f .width) _) (so-far .is)
+              (put
+              ∙ ap (λ (part : List ℕ). take (slot * width) cell ++ part ++ drop (slot * width + width) cell) carries
+              ∙ ap
+              (λ (w : ℕ).
+              take (slot * w) cell ++ slotWith f entry sequence samples ancillary slot ++ drop (slot * w + w) cell)
+              (ok .width-is));
+          same = kept ∙ so-far .same;
+        }
+
+    pub filling-done : {cell : List ℕ} {slot : ℕ} → Filling f entry sequence samples ancillary cell₀ cell slot
+        → length samples ≤ slot
+        → cell ≡ written f entry sequence samples ancillary cell₀
+    filling-done {cell} {slot} so-far all =
+        so-far .is
+        ∙ ap (λ (n : ℕ). joined (slotWith f entry sequence samples ancillary) n ++ drop (n * f .width) cell₀)
+        (let end : slot ≡ length samples = omega (arith, so-far .within) in end)
+
+-- the entries by channel, from slot to slot
+module _ (channels : ℕ) {samples : List ℕ} (turns : Turnable channels samples) (slot : ℕ) {entry : ℕ}
+    (is : entry ≡ byChannel channels samples slot)
+  where
+    abbrev times : ℕ
+    times = length samples / channels
+
+    pub entry-in : slot < length samples → entry < length samples
+    entry-in less =
+        let used : slot < channels * times = omega (arith, turns .rows) in
+        omega (arith, is, entry-lt channels times (turns .times-from) true used, turns .rows)
+
+    pub entry-on : {next : ℕ} → next ≡ nextEntry channels (length samples) entry → slot + 1 < length samples
+        → next ≡ byChannel channels samples (slot + 1)
+    entry-on e less =
+        let used : slot + 1 < channels * times = omega (arith, turns .rows) in
+        e
+        ∙ ap₂ (nextEntry channels) (sym (turns .rows)) is
+        ∙ entry-next channels times (turns .times-from) slot used
+
+-- slot 0 carries entry 0
+pub entry-first : (channels : ℕ) (samples : List ℕ) → 0 ≡ byChannel channels samples 0
+unfolding entryOfSlot
+entry-first channels samples =
+    sym (ap₂ (λ (low high : ℕ). low * channels + high) (zero-mod (length samples / channels)) (zero-div (length samples / channels)) ∙ omega (arith, zero-mul channels))
+
+-- the unused slots, one after the other
+module _ (width overhead sequence : ℕ) (cell₀ : List ℕ) (from : ℕ) where
+  pub continues-begun : Continues width overhead sequence cell₀ from cell₀ from
+  continues-begun = record { same = refl; goes-on = λ g base each idle e. e }
+
+  pub continues-on : {cell cell₁ : List ℕ} {slot number : ℕ} → Continues width overhead sequence cell₀ from cell slot → from ≤ slot
+      → number ≡ idleNumber overhead (sequence / 2 ^ slot % 2)
+      → cell₁ ≡ take (slot * width) cell ++ octetsOf width number ++ drop (slot * width + width) cell
+      → length cell₁ ≡ length cell
+      → Continues width overhead sequence cell₀ from cell₁ (slot + 1)
+  continues-on {cell} {cell₁} {slot} so-far past number-is put kept =
+      record {
+        same = kept ∙ so-far .same;
+        goes-on = λ g base each idle e.
+            filled-on g width base slot each (so-far .goes-on g base each idle e)
+            (put
+            ∙ ap (λ (part : List ℕ). take (slot * width) cell ++ part ++ drop (slot * width + width) cell)
+            (ap (octetsOf width) number-is ∙ sym (idle slot past)));
+      }

@@ -1,0 +1,137 @@
+// Filling a cell's slots with subframes: slot after slot, octet after octet.
+//
+// One loop for each order serves all formats. It is called with a format's numbers as constants, so that the compiler makes a
+// loop of each without a shift or a width that varies.
+ghost use mathlib.Core.List.{_++_};
+ghost use mathlib.Core.Path.{_≡_};
+ghost use Prim.Native.Nat.{_+_, _*_, _^_, _≤_, _<_};
+ghost use lib.ListN.{length, take, drop};
+ghost use Rattle.runs.specs.Runs.{octetsOf};
+ghost use Rattle.formats.specs.Sound.{Sound};
+ghost use Rattle.cells.specs.Cells.{subframeOf};
+ghost use Rattle.cells.specs.Placement.{nextEntry};
+ghost use Rattle.guards.specs.Guards.{sevenGuards};
+ghost use Rattle.sender.specs.Packing.{
+  shape,
+  Fillable,
+  Turnable,
+  inOrder,
+  byChannel,
+  written,
+};
+use crate::judge::wide;
+
+// One subframe as a number, with the protection bits of the table.
+fn subframe(
+    table: &[u8; 128],
+    length: u64,
+    four: u64,
+    overhead: u64,
+    sample: u64,
+    ancillary: u64,
+    bit: u64,
+) -> u64
+    requires { ⌜ Sound (shape length four overhead) × (now table ≡ sevenGuards) × (sample < 2 ^ length) × (ancillary < 2 ^ four) × (bit < 2) ⌝ }
+    ensures { λ r. ⌜ r ≡ subframeOf (shape length four overhead) sample ancillary bit ⌝ }
+{
+    let above = (sample << four) + ancillary;
+    if overhead == 0 {
+        return above;
+    }
+    let nine = (sample * 2) >> (length - 8);
+    let ten = nine * 2 + ancillary % 2;
+    let place = ((ten ^ (ten >> 7)) % 128) as usize;
+    let guard = wide(table[place]);
+    (above << overhead) + (bit * 8 + guard)
+}
+
+// Writes a number's octets, the highest first.
+pub(crate) fn put(cell: &mut [u8], at: usize, width: usize, number: u64)
+    requires { ⌜ (at + width ≤ length (now cell)) × (width ≤ 6) ⌝ }
+    ensures { λ r. ⌜ now (cell .exit) ≡ take at (now (cell .entry)) ++ octetsOf width number ++ drop (at + width) (now (cell .entry)) ⌝ }
+{
+    let mut i = 0;
+    while i < width {
+        cell[at + i] = ((number >> (8 * (width - 1 - i))) % 256) as u8;
+        i += 1;
+    }
+}
+
+// The used slots in order 0: slot k carries entry k.
+pub(crate) fn fill_in_order(
+    table: &[u8; 128],
+    length: u64,
+    four: u64,
+    overhead: u64,
+    width: usize,
+    sequence: u64,
+    samples: &[u64],
+    ancillary: &[u8],
+    cell: &mut [u8],
+)
+    requires { ⌜ Fillable (shape length four overhead) width (now table) (now samples) (now ancillary) (now cell) ⌝ }
+    ensures { λ r. ⌜ now (cell .exit) ≡ written (shape length four overhead) inOrder sequence (now (samples .entry)) (now (ancillary .entry)) (now (cell .entry)) ⌝ }
+{
+    let mut slot = 0;
+    while slot < samples.len() {
+        let bit = (sequence >> slot) % 2;
+        let number = subframe(
+            table,
+            length,
+            four,
+            overhead,
+            samples[slot],
+            wide(ancillary[slot]),
+            bit,
+        );
+        put(cell, slot * width, width, number);
+        slot += 1;
+    }
+}
+
+// The entry of the next slot in order 1: C further, and where that is past the run back at the next channel's first.
+fn next_entry(channels: usize, used: usize, entry: usize) -> usize
+    requires { ⌜ (entry < used) × (used ≤ 48) × (channels ≤ 48) ⌝ }
+    ensures { λ r. ⌜ r ≡ nextEntry channels used entry ⌝ }
+{
+    let next = entry + channels;
+    if next < used {
+        return next;
+    }
+    next - (used - 1)
+}
+
+// The used slots in order 1.
+pub(crate) fn fill_by_channel(
+    table: &[u8; 128],
+    length: u64,
+    four: u64,
+    overhead: u64,
+    width: usize,
+    channels: usize,
+    sequence: u64,
+    samples: &[u64],
+    ancillary: &[u8],
+    cell: &mut [u8],
+)
+    requires { ⌜ Turnable channels (now samples) × Fillable (shape length four overhead) width (now table) (now samples) (now ancillary) (now cell) ⌝ }
+    ensures { λ r. ⌜ now (cell .exit) ≡ written (shape length four overhead) (byChannel channels (now (samples .entry))) sequence (now (samples .entry)) (now (ancillary .entry)) (now (cell .entry)) ⌝ }
+{
+    let mut entry = 0;
+    let mut slot = 0;
+    while slot < samples.len() {
+        let bit = (sequence >> slot) % 2;
+        let number = subframe(
+            table,
+            length,
+            four,
+            overhead,
+            samples[entry],
+            wide(ancillary[entry]),
+            bit,
+        );
+        put(cell, slot * width, width, number);
+        entry = next_entry(channels, samples.len(), entry);
+        slot += 1;
+    }
+}
