@@ -51,8 +51,9 @@ pack-requires c κs =
 
 add-t15 : tie.Need-add-t15
 add-t15 c =
-    let a = c .before .before .before .before .before .before .before .before .before .before .before .before .before .before .before .before .args in
-    omega
+    let a =
+    c .before .before .before .before .before .before .before .before .before .before .before .before .before .before .before .before .args
+    in omega
     (arith, passes (a .state) (a .indication) (now (a .samples)) (now (a .ancillary)) (length (now (a .cell))) (sym (none (c .before .before .before .before .before .before .before))) .number-to)
 
 same-length : tie.Need-same-length
@@ -60,8 +61,9 @@ same-length c = search needs
 
 returns-2 : tie.Need-returns-2
 returns-2 c =
-    let a = c .before .before .before .before .before .before .before .before .before .before .before .before .before .before .before .before .args in
-    sends-taken (a .state) (a .indication) (now (a .samples)) (now (a .ancillary)) (now (a .cell))
+    let a =
+    c .before .before .before .before .before .before .before .before .before .before .before .before .before .before .before .before .args
+    in sends-taken (a .state) (a .indication) (now (a .samples)) (now (a .ancillary)) (now (a .cell))
     (c .before .before .before .before .before .before .before .before .before .settings .ensures)
     (none (c .before .before .before .before .before .before .before))
     (c .before .before .before .before .before .before .second-now .ensures)

@@ -60,25 +60,19 @@ subframe-requires c κs =
 
 mul-put : tie.Need-mul-put Inv-loop μ-loop
 mul-put c =
-    let a = c .before .before .before .before .before .before .before .before .before .before .args in
-    omega
+    let a = c .before .before .before .before .before .before .before .before .before .before .args in omega
     (arith, used-room (shape (a .length) (a .four) (a .overhead)) (byChannel (a .channels) (now (a .samples))) (a .sequence) (c .before .before .before .before .before .before .before .before .before .before .pre .1) (c .before .before .before .before .before .loop-test .taken))
 
 put-requires : tie.Need-put-requires Inv-loop μ-loop
 put-requires c κs =
-    let a = c .before .before .before .before .before .before .before .before .before .before .args in
-    let given = c .before .before .before .before .before .before .before .before .before .before .pre in (
-      omega (arith, used-room (shape (a .length) (a .four) (a .overhead)) (byChannel (a .channels) (now (a .samples))) (a .sequence) (given .1) (c .before .before .before .before .before .loop-test .taken), c .before .before .before .before .before .before .loop .inv .0 .same, given .1 .whole),
-      omega (arith, given .1 .width-is, given .1 .sound .width-to),
-    )
+    let a = c .before .before .before .before .before .before .before .before .before .before .args in let given =
+    c .before .before .before .before .before .before .before .before .before .before .pre in
+    (omega (arith, used-room (shape (a .length) (a .four) (a .overhead)) (byChannel (a .channels) (now (a .samples))) (a .sequence) (given .1) (c .before .before .before .before .before .loop-test .taken), c .before .before .before .before .before .before .loop .inv .0 .same, given .1 .whole), omega (arith, given .1 .width-is, given .1 .sound .width-to))
 
 next-entry-requires : tie.Need-next-entry-requires Inv-loop μ-loop
 next-entry-requires c κs =
-    let given = c .before .before .before .before .before .before .before .before .before .before .before .before .before .pre in (
-      here (c .before .before .before .before .before .before .before .before),
-      omega (arith, given .1 .fit, given .1 .sound .slots-to),
-      given .0 .channels-to,
-    )
+    let given = c .before .before .before .before .before .before .before .before .before .before .before .before .before .pre in
+    (here (c .before .before .before .before .before .before .before .before), omega (arith, given .1 .fit, given .1 .sound .slots-to), given .0 .channels-to)
 
 add-slot : tie.Need-add-slot Inv-loop μ-loop
 add-slot c = omega arith
@@ -88,10 +82,9 @@ loop-less c = omega arith
 
 loop-again : tie.Need-loop-again Inv-loop μ-loop
 loop-again c =
-    let a = c .before .before .before .before .before .before .before .before .before .before .before .before .before .before .args in (
-      filling-on (shape (a .length) (a .four) (a .overhead)) (byChannel (a .channels) (now (a .samples))) (a .sequence) (c .before .before .before .before .before .before .before .before .before .before .before .before .before .before .pre .1) (c .before .before .before .before .before .before .before .before .before .before .loop .inv .0) (c .before .before .before .before .before .before .before .before .before .loop-test .taken) (c .before .before .before .before .before .before .before .before .before .before .loop .inv .1 (c .before .before .before .before .before .before .before .before .before .loop-test .taken)) (c .before .before .before .before .before .before .wide .ensures) (c .before .before .before .before .before .subframe .ensures) (c .before .before .before .put .ensures) (c .before .before .before .put .kept .0),
-      entry-on (a .channels) (c .before .before .before .before .before .before .before .before .before .before .before .before .before .before .pre .0) (c .before .before .before .before .before .before .before .before .before .before .loop .slot) (c .before .before .before .before .before .before .before .before .before .before .loop .inv .1 (c .before .before .before .before .before .before .before .before .before .loop-test .taken)) (c .next-entry .ensures),
-    )
+    let a =
+    c .before .before .before .before .before .before .before .before .before .before .before .before .before .before .args in
+    (filling-on (shape (a .length) (a .four) (a .overhead)) (byChannel (a .channels) (now (a .samples))) (a .sequence) (c .before .before .before .before .before .before .before .before .before .before .before .before .before .before .pre .1) (c .before .before .before .before .before .before .before .before .before .before .loop .inv .0) (c .before .before .before .before .before .before .before .before .before .loop-test .taken) (c .before .before .before .before .before .before .before .before .before .before .loop .inv .1 (c .before .before .before .before .before .before .before .before .before .loop-test .taken)) (c .before .before .before .before .before .before .wide .ensures) (c .before .before .before .before .before .subframe .ensures) (c .before .before .before .put .ensures) (c .before .before .before .put .kept .0), entry-on (a .channels) (c .before .before .before .before .before .before .before .before .before .before .before .before .before .before .pre .0) (c .before .before .before .before .before .before .before .before .before .before .loop .slot) (c .before .before .before .before .before .before .before .before .before .before .loop .inv .1 (c .before .before .before .before .before .before .before .before .before .loop-test .taken)) (c .next-entry .ensures))
 
 same-length : tie.Need-same-length Inv-loop μ-loop
 same-length c = c .before .loop .inv .0 .same

@@ -49,17 +49,14 @@ subframe-requires c κs =
 
 mul-put : tie.Need-mul-put Inv-loop μ-loop
 mul-put c =
-    let a = c .before .before .before .before .before .before .before .before .before .before .args in
-    omega
+    let a = c .before .before .before .before .before .before .before .before .before .before .args in omega
     (arith, used-room (shape (a .length) (a .four) (a .overhead)) inOrder (a .sequence) (c .before .before .before .before .before .before .before .before .before .before .pre) (c .before .before .before .before .before .loop-test .taken))
 
 put-requires : tie.Need-put-requires Inv-loop μ-loop
 put-requires c κs =
-    let a = c .before .before .before .before .before .before .before .before .before .before .args in
-    let given = c .before .before .before .before .before .before .before .before .before .before .pre in (
-      omega (arith, used-room (shape (a .length) (a .four) (a .overhead)) inOrder (a .sequence) (given) (c .before .before .before .before .before .loop-test .taken), c .before .before .before .before .before .before .loop .inv .same, given .whole),
-      omega (arith, given .width-is, given .sound .width-to),
-    )
+    let a = c .before .before .before .before .before .before .before .before .before .before .args in let given =
+    c .before .before .before .before .before .before .before .before .before .before .pre in
+    (omega (arith, used-room (shape (a .length) (a .four) (a .overhead)) inOrder (a .sequence) (given) (c .before .before .before .before .before .loop-test .taken), c .before .before .before .before .before .before .loop .inv .same, given .whole), omega (arith, given .width-is, given .sound .width-to))
 
 add-slot : tie.Need-add-slot Inv-loop μ-loop
 add-slot c = omega arith

@@ -44,8 +44,7 @@ sixth c = sym (c .if4 .left) ∙ c .before .values-refused .ensures
 
 mul-lengths-refused : tie.Need-mul-lengths-refused
 mul-lengths-refused c =
-    let a = c .before .before .before .before .before .before .before .before .before .args in
-    omega
+    let a = c .before .before .before .before .before .before .before .before .before .args in omega
     (arith, limits (a .state) (a .indication) (now (a .samples)) (now (a .ancillary)) (a .room) (c .before .before .before .before .before .before .before .before .before .pre) (c .before .before .before .before .before .before .if1 .left) .used-to)
 
 lengths-refused-requires : tie.Need-lengths-refused-requires
@@ -78,8 +77,9 @@ indication-refused-requires c κs = search needs
 
 returns-5 : tie.Need-returns-5
 returns-5 c =
-    let a = c .before .before .before .before .before .before .before .before .before .before .before .before .before .before .before .args in
-    sends-7 (a .state) (a .indication) (now (a .samples)) (now (a .ancillary)) (a .room)
+    let a =
+    c .before .before .before .before .before .before .before .before .before .before .before .before .before .before .before .args
+    in sends-7 (a .state) (a .indication) (now (a .samples)) (now (a .ancillary)) (a .room)
     (c .before .before .before .before .before .before .before .before .before .before .before .before .before .before .before .pre)
     (c .before .before .before .before .before .before .before .before .before .before .before .before .if1 .left)
     (fourth (c .before .before .before .before .before .before .before)) (fifth (c .before .before .before .before))
@@ -87,8 +87,9 @@ returns-5 c =
 
 returns-6 : tie.Need-returns-6
 returns-6 c =
-    let a = c .before .before .before .before .before .before .before .before .before .before .before .before .before .before .before .args in
-    sends-0 (a .state) (a .indication) (now (a .samples)) (now (a .ancillary)) (a .room)
+    let a =
+    c .before .before .before .before .before .before .before .before .before .before .before .before .before .before .before .args
+    in sends-0 (a .state) (a .indication) (now (a .samples)) (now (a .ancillary)) (a .room)
     (c .before .before .before .before .before .before .before .before .before .before .before .before .before .before .before .pre)
     (c .before .before .before .before .before .before .before .before .before .before .before .before .if1 .left)
     (fourth (c .before .before .before .before .before .before .before)) (fifth (c .before .before .before .before))

@@ -34,10 +34,8 @@ mul-put c =
 
 put-requires : tie.Need-put-requires Inv-loop μ-loop
 put-requires c κs =
-    let given = c .before .before .before .before .before .pre in (
-      omega (arith, slot-room (given .0 .sound) (c .before .before .loop-test .taken), c .before .before .before .loop .inv .2 .same, given .2),
-      given .0 .sound .width-to,
-    )
+    let given = c .before .before .before .before .before .pre in
+    (omega (arith, slot-room (given .0 .sound) (c .before .before .loop-test .taken), c .before .before .before .loop .inv .2 .same, given .2), given .0 .sound .width-to)
 
 add-slot : tie.Need-add-slot Inv-loop μ-loop
 add-slot c = omega arith
@@ -47,11 +45,8 @@ loop-less c = omega arith
 
 loop-again : tie.Need-loop-again Inv-loop μ-loop
 loop-again c =
-    let a = c .before .before .before .before .before .before .before .before .args in (
-      omega (arith, c .before .before .before .before .before .before .loop .inv .0),
-      omega (arith, c .before .before .before .before .before .loop-test .taken),
-      continues-on (a .set .format .width) (a .set .format .overhead) (a .sequence) (now (a .cell)) (a .used) (c .before .before .before .before .before .before .loop .inv .2) (c .before .before .before .before .before .before .loop .inv .0) (c .before .before .before .before .idle-subframe .ensures) (c .before .before .put .ensures) (c .before .before .put .kept .0),
-    )
+    let a = c .before .before .before .before .before .before .before .before .args in
+    (omega (arith, c .before .before .before .before .before .before .loop .inv .0), omega (arith, c .before .before .before .before .before .loop-test .taken), continues-on (a .set .format .width) (a .set .format .overhead) (a .sequence) (now (a .cell)) (a .used) (c .before .before .before .before .before .before .loop .inv .2) (c .before .before .before .before .before .before .loop .inv .0) (c .before .before .before .before .idle-subframe .ensures) (c .before .before .put .ensures) (c .before .before .put .kept .0))
 
 same-length : tie.Need-same-length Inv-loop μ-loop
 same-length c = c .before .loop .inv .2 .same

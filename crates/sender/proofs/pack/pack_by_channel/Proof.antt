@@ -66,35 +66,50 @@ same-length c = search needs
 
 returns : tie.Need-returns
 returns c =
-    written-as (c .before .before .before .before .before .before .before .before .before .before .before .pre .0 .limits .sound) (told (c .before .before .before)) (byChannel (c .before .before .before .before .before .before .before .before .before .before .before .args .set .channels) (now (c .before .before .before .before .before .before .before .before .before .before .before .args .samples))) (c .before .before .before .before .before .before .before .before .before .before .before .args .sequence) (now (c .before .before .before .before .before .before .before .before .before .before .before .args .samples)) (now (c .before .before .before .before .before .before .before .before .before .before .before .args .ancillary)) (now (c .before .before .before .before .before .before .before .before .before .before .before .args .cell)) (c .before .before .fill-by-channel .ensures)
+    let a = c .before .before .before .before .before .before .before .before .before .before .before .args in
+    written-as (c .before .before .before .before .before .before .before .before .before .before .before .pre .0 .limits .sound)
+    (told (c .before .before .before)) (byChannel (a .set .channels) (now (a .samples))) (a .sequence) (now (a .samples))
+    (now (a .ancillary)) (now (a .cell)) (c .before .before .fill-by-channel .ensures)
 
 same-length-2 : tie.Need-same-length-2
 same-length-2 c = search needs
 
 returns-2 : tie.Need-returns-2
 returns-2 c =
-    written-as (c .before .before .before .before .before .before .before .before .before .before .before .pre .0 .limits .sound) (told-2 (c .before .before .before)) (byChannel (c .before .before .before .before .before .before .before .before .before .before .before .args .set .channels) (now (c .before .before .before .before .before .before .before .before .before .before .before .args .samples))) (c .before .before .before .before .before .before .before .before .before .before .before .args .sequence) (now (c .before .before .before .before .before .before .before .before .before .before .before .args .samples)) (now (c .before .before .before .before .before .before .before .before .before .before .before .args .ancillary)) (now (c .before .before .before .before .before .before .before .before .before .before .before .args .cell)) (c .before .before .fill-by-channel2 .ensures)
+    let a = c .before .before .before .before .before .before .before .before .before .before .before .args in
+    written-as (c .before .before .before .before .before .before .before .before .before .before .before .pre .0 .limits .sound)
+    (told-2 (c .before .before .before)) (byChannel (a .set .channels) (now (a .samples))) (a .sequence) (now (a .samples))
+    (now (a .ancillary)) (now (a .cell)) (c .before .before .fill-by-channel2 .ensures)
 
 same-length-3 : tie.Need-same-length-3
 same-length-3 c = search needs
 
 returns-3 : tie.Need-returns-3
 returns-3 c =
-    written-as (c .before .before .before .before .before .before .before .before .before .before .before .pre .0 .limits .sound) (told-3 (c .before .before .before)) (byChannel (c .before .before .before .before .before .before .before .before .before .before .before .args .set .channels) (now (c .before .before .before .before .before .before .before .before .before .before .before .args .samples))) (c .before .before .before .before .before .before .before .before .before .before .before .args .sequence) (now (c .before .before .before .before .before .before .before .before .before .before .before .args .samples)) (now (c .before .before .before .before .before .before .before .before .before .before .before .args .ancillary)) (now (c .before .before .before .before .before .before .before .before .before .before .before .args .cell)) (c .before .before .fill-by-channel3 .ensures)
+    let a = c .before .before .before .before .before .before .before .before .before .before .before .args in
+    written-as (c .before .before .before .before .before .before .before .before .before .before .before .pre .0 .limits .sound)
+    (told-3 (c .before .before .before)) (byChannel (a .set .channels) (now (a .samples))) (a .sequence) (now (a .samples))
+    (now (a .ancillary)) (now (a .cell)) (c .before .before .fill-by-channel3 .ensures)
 
 same-length-4 : tie.Need-same-length-4
 same-length-4 c = search needs
 
 returns-4 : tie.Need-returns-4
 returns-4 c =
-    written-as (c .before .before .before .before .before .before .before .before .before .before .before .pre .0 .limits .sound) (told-4 (c .before .before .before)) (byChannel (c .before .before .before .before .before .before .before .before .before .before .before .args .set .channels) (now (c .before .before .before .before .before .before .before .before .before .before .before .args .samples))) (c .before .before .before .before .before .before .before .before .before .before .before .args .sequence) (now (c .before .before .before .before .before .before .before .before .before .before .before .args .samples)) (now (c .before .before .before .before .before .before .before .before .before .before .before .args .ancillary)) (now (c .before .before .before .before .before .before .before .before .before .before .before .args .cell)) (c .before .before .fill-by-channel4 .ensures)
+    let a = c .before .before .before .before .before .before .before .before .before .before .before .args in
+    written-as (c .before .before .before .before .before .before .before .before .before .before .before .pre .0 .limits .sound)
+    (told-4 (c .before .before .before)) (byChannel (a .set .channels) (now (a .samples))) (a .sequence) (now (a .samples))
+    (now (a .ancillary)) (now (a .cell)) (c .before .before .fill-by-channel4 .ensures)
 
 same-length-5 : tie.Need-same-length-5
 same-length-5 c = search needs
 
 returns-5 : tie.Need-returns-5
 returns-5 c =
-    written-as (c .before .before .before .before .before .before .before .before .before .before .before .pre .0 .limits .sound) (told-5 (c .before .before .before)) (byChannel (c .before .before .before .before .before .before .before .before .before .before .before .args .set .channels) (now (c .before .before .before .before .before .before .before .before .before .before .before .args .samples))) (c .before .before .before .before .before .before .before .before .before .before .before .args .sequence) (now (c .before .before .before .before .before .before .before .before .before .before .before .args .samples)) (now (c .before .before .before .before .before .before .before .before .before .before .before .args .ancillary)) (now (c .before .before .before .before .before .before .before .before .before .before .before .args .cell)) (c .before .before .fill-by-channel5 .ensures)
+    let a = c .before .before .before .before .before .before .before .before .before .before .before .args in
+    written-as (c .before .before .before .before .before .before .before .before .before .before .before .pre .0 .limits .sound)
+    (told-5 (c .before .before .before)) (byChannel (a .set .channels) (now (a .samples))) (a .sequence) (now (a .samples))
+    (now (a .ancillary)) (now (a .cell)) (c .before .before .fill-by-channel5 .ensures)
 
 sevens-requires-2 : tie.Need-sevens-requires-2
 sevens-requires-2 c κs = search needs
@@ -152,35 +167,50 @@ same-length-6 c = search needs
 
 returns-6 : tie.Need-returns-6
 returns-6 c =
-    written-as (c .before .before .before .before .before .before .before .before .before .before .before .pre .0 .limits .sound) (told-6 (c .before .before .before)) (byChannel (c .before .before .before .before .before .before .before .before .before .before .before .args .set .channels) (now (c .before .before .before .before .before .before .before .before .before .before .before .args .samples))) (c .before .before .before .before .before .before .before .before .before .before .before .args .sequence) (now (c .before .before .before .before .before .before .before .before .before .before .before .args .samples)) (now (c .before .before .before .before .before .before .before .before .before .before .before .args .ancillary)) (now (c .before .before .before .before .before .before .before .before .before .before .before .args .cell)) (c .before .before .fill-by-channel6 .ensures)
+    let a = c .before .before .before .before .before .before .before .before .before .before .before .args in
+    written-as (c .before .before .before .before .before .before .before .before .before .before .before .pre .0 .limits .sound)
+    (told-6 (c .before .before .before)) (byChannel (a .set .channels) (now (a .samples))) (a .sequence) (now (a .samples))
+    (now (a .ancillary)) (now (a .cell)) (c .before .before .fill-by-channel6 .ensures)
 
 same-length-7 : tie.Need-same-length-7
 same-length-7 c = search needs
 
 returns-7 : tie.Need-returns-7
 returns-7 c =
-    written-as (c .before .before .before .before .before .before .before .before .before .before .before .pre .0 .limits .sound) (told-7 (c .before .before .before)) (byChannel (c .before .before .before .before .before .before .before .before .before .before .before .args .set .channels) (now (c .before .before .before .before .before .before .before .before .before .before .before .args .samples))) (c .before .before .before .before .before .before .before .before .before .before .before .args .sequence) (now (c .before .before .before .before .before .before .before .before .before .before .before .args .samples)) (now (c .before .before .before .before .before .before .before .before .before .before .before .args .ancillary)) (now (c .before .before .before .before .before .before .before .before .before .before .before .args .cell)) (c .before .before .fill-by-channel7 .ensures)
+    let a = c .before .before .before .before .before .before .before .before .before .before .before .args in
+    written-as (c .before .before .before .before .before .before .before .before .before .before .before .pre .0 .limits .sound)
+    (told-7 (c .before .before .before)) (byChannel (a .set .channels) (now (a .samples))) (a .sequence) (now (a .samples))
+    (now (a .ancillary)) (now (a .cell)) (c .before .before .fill-by-channel7 .ensures)
 
 same-length-8 : tie.Need-same-length-8
 same-length-8 c = search needs
 
 returns-8 : tie.Need-returns-8
 returns-8 c =
-    written-as (c .before .before .before .before .before .before .before .before .before .before .before .pre .0 .limits .sound) (told-8 (c .before .before .before)) (byChannel (c .before .before .before .before .before .before .before .before .before .before .before .args .set .channels) (now (c .before .before .before .before .before .before .before .before .before .before .before .args .samples))) (c .before .before .before .before .before .before .before .before .before .before .before .args .sequence) (now (c .before .before .before .before .before .before .before .before .before .before .before .args .samples)) (now (c .before .before .before .before .before .before .before .before .before .before .before .args .ancillary)) (now (c .before .before .before .before .before .before .before .before .before .before .before .args .cell)) (c .before .before .fill-by-channel8 .ensures)
+    let a = c .before .before .before .before .before .before .before .before .before .before .before .args in
+    written-as (c .before .before .before .before .before .before .before .before .before .before .before .pre .0 .limits .sound)
+    (told-8 (c .before .before .before)) (byChannel (a .set .channels) (now (a .samples))) (a .sequence) (now (a .samples))
+    (now (a .ancillary)) (now (a .cell)) (c .before .before .fill-by-channel8 .ensures)
 
 same-length-9 : tie.Need-same-length-9
 same-length-9 c = search needs
 
 returns-9 : tie.Need-returns-9
 returns-9 c =
-    written-as (c .before .before .before .before .before .before .before .before .before .before .before .pre .0 .limits .sound) (told-9 (c .before .before .before)) (byChannel (c .before .before .before .before .before .before .before .before .before .before .before .args .set .channels) (now (c .before .before .before .before .before .before .before .before .before .before .before .args .samples))) (c .before .before .before .before .before .before .before .before .before .before .before .args .sequence) (now (c .before .before .before .before .before .before .before .before .before .before .before .args .samples)) (now (c .before .before .before .before .before .before .before .before .before .before .before .args .ancillary)) (now (c .before .before .before .before .before .before .before .before .before .before .before .args .cell)) (c .before .before .fill-by-channel9 .ensures)
+    let a = c .before .before .before .before .before .before .before .before .before .before .before .args in
+    written-as (c .before .before .before .before .before .before .before .before .before .before .before .pre .0 .limits .sound)
+    (told-9 (c .before .before .before)) (byChannel (a .set .channels) (now (a .samples))) (a .sequence) (now (a .samples))
+    (now (a .ancillary)) (now (a .cell)) (c .before .before .fill-by-channel9 .ensures)
 
 same-length-10 : tie.Need-same-length-10
 same-length-10 c = search needs
 
 returns-10 : tie.Need-returns-10
 returns-10 c =
-    written-as (c .before .before .before .before .before .before .before .before .before .before .before .pre .0 .limits .sound) (told-10 (c .before .before .before)) (byChannel (c .before .before .before .before .before .before .before .before .before .before .before .args .set .channels) (now (c .before .before .before .before .before .before .before .before .before .before .before .args .samples))) (c .before .before .before .before .before .before .before .before .before .before .before .args .sequence) (now (c .before .before .before .before .before .before .before .before .before .before .before .args .samples)) (now (c .before .before .before .before .before .before .before .before .before .before .before .args .ancillary)) (now (c .before .before .before .before .before .before .before .before .before .before .before .args .cell)) (c .before .before .fill-by-channel10 .ensures)
+    let a = c .before .before .before .before .before .before .before .before .before .before .before .args in
+    written-as (c .before .before .before .before .before .before .before .before .before .before .before .pre .0 .limits .sound)
+    (told-10 (c .before .before .before)) (byChannel (a .set .channels) (now (a .samples))) (a .sequence) (now (a .samples))
+    (now (a .ancillary)) (now (a .cell)) (c .before .before .fill-by-channel10 .ensures)
 
 pub pack-by-channel-spec : {M : Type 1} → statement M
 pack-by-channel-spec =
