@@ -121,12 +121,15 @@ pub beyond : {octet : ℕ} → 127 < octet → isBase octet ≡ false
 unfolding isBase eleven below
 beyond h = among-below 128 eleven tt h
 
-pub base-octet : (octet : ℕ) → isBase octet ≡ true → octet < 128
-base-octet octet h =
+base-low : (octet : ℕ) → isBase octet ≡ true → octet < 128
+base-low octet h =
     elim (decLt octet 128) [
       | yes less ↦ less
       | no above ↦ absurd (false≢true (sym (beyond (le-of-suc-le-suc (lt-of-not-le above))) ∙ h))
     ]
+
+pub base-octet : (octet : ℕ) → isBase octet ≡ true → octet < 256
+base-octet octet h = omega (arith, base-low octet h)
 
 by-bool : (b x : Bool) → b ≡ true → T (not b || x) → T x
 by-bool true x h t = t
@@ -135,7 +138,7 @@ by-bool false x h t = absurd (false≢true h)
 -- what a test shows of each of the eleven octets
 of-base : (test : ℕ → Bool) → T (every (λ k. not (isBase k) || test k) 128) → (octet : ℕ) → isBase octet ≡ true → T (test octet)
 of-base test t octet h =
-    by-bool (isBase octet) (test octet) h (every-at (λ k. not (isBase k) || test k) 128 t octet (base-octet octet h))
+    by-bool (isBase octet) (test octet) h (every-at (λ k. not (isBase k) || test k) 128 t octet (base-low octet h))
 
 -- the format of an octet of the eleven
 abbrev pub fieldsOf : ℕ → Format
