@@ -3,7 +3,7 @@
 use mathlib.Core.Bool.{Bool, true, false, false≢true, cond, not, _&&_, _||_, Bool·beq}
 use mathlib.Core.List.{List, [], _∷_}
 use mathlib.Core.Logic.{_⊎_, inl, inr, ⊎-elim}
-use mathlib.Core.Path.{_≡_, refl, sym, _∙_, ap, ap₂}
+use mathlib.Core.Path.{_≡_, refl, sym, _∙_, ap, ap₂, subst}
 use Prim.Native.Nat.{ℕ, suc, _+_, _*_, _/_, _%_, _≤_, _<_}
 use native.Mathlib.Decide.{decLt}
 use native.Mathlib.Nat.{mod-lt, lt-of-not-le, le-of-suc-le-suc, pos-of-ne-zero, mul-div-le, le-div-iff-mul-le}
@@ -402,3 +402,21 @@ usual-one = refl
 pub usual-two : usualWith 2 6 ≡ settingsOf 0x56 2 0
 unfolding settingsOf settingsRefusal formatOf isBase isAmong eleven sampleBits lengthOf ancillaryBits overheadBits widthOf slotsOf
 usual-two = refl
+
+module _ {set : Settled} (channels : ℕ) (given : set ≡ settingsOf 0x56 (cond (eqb channels 2) 2 1) 0) where
+  -- what holds of both holds of either
+  pub usual-is : (P : Settled → Type 0) → P (usualWith 1 12) → P (usualWith 2 6) → P set
+  usual-is P one two =
+      split (eqb channels 2)
+      (λ yes-two. subst P (sym (given ∙ ap (λ (b : Bool). settingsOf 0x56 (cond b 2 1) 0) yes-two ∙ sym usual-two)) two)
+      (λ not-two. subst P (sym (given ∙ ap (λ (b : Bool). settingsOf 0x56 (cond b 2 1) 0) not-two ∙ sym usual-one)) one)
+
+  -- they are those of the state that the channels are of
+  pub usual-set : {octet order : ℕ} → octet ≡ 0x56 → order ≡ 0 → 1 ≤ channels → channels ≤ 2 → set ≡ settingsOf octet channels order
+  usual-set octet-is order-is from to =
+      let same : cond (eqb channels 2) 2 1 ≡ channels
+      = split (eqb channels 2) (λ two. rw two (sym (eqb-true channels 2 two)))
+      (λ not-two. rw not-two (let one : 1 ≡ channels = omega (arith, eqb-false channels 2 not-two) in one)) in
+      given
+      ∙ ap (λ (c : ℕ). settingsOf 0x56 c 0) same
+      ∙ ap₂ (λ (f o : ℕ). settingsOf f channels o) (sym octet-is) (sym order-is)

@@ -20,7 +20,7 @@ unfoldable pub all-have : ℕ → List ℕ → Bool
 all-have guard [] = true
 all-have guard (k ∷ ks) = has guard k && all-have guard ks
 
-has-guard : (guard key : ℕ) → T (has guard key) → tenGuard (key * 2) ≡ guard
+pub has-guard : (guard key : ℕ) → T (has guard key) → tenGuard (key * 2) ≡ guard
 unfolding has
 has-guard guard key t = eqb→eq _ _ t
 

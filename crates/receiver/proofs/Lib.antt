@@ -1,3 +1,4 @@
+pub mod AllSlots
 pub mod Laws
 pub mod Marking
 pub mod One

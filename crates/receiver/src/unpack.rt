@@ -14,6 +14,7 @@ ghost use Rattle.receiver.specs.Unpacking.{
   Unpacks,
   Writes,
   Room,
+  Misses,
   Together,
   twoAt,
   nextSlot,
@@ -48,7 +49,7 @@ fn in3(octets: &[u8], at: usize) -> u64
 }
 
 // Four octets likewise.
-fn in4(octets: &[u8], at: usize) -> u64
+pub(crate) fn in4(octets: &[u8], at: usize) -> u64
     requires { ⌜ at + 4 ≤ length (now octets) ⌝ }
     ensures { λ r. ⌜ (r ≡ twoAt (now (octets .entry)) at * 65536 + twoAt (now (octets .entry)) (at + 2)) × (r < 4294967296) ⌝ }
 {
@@ -97,7 +98,7 @@ fn bit_in(format: Format, cell: &[u8], slot: usize) -> u8
 }
 
 // The first eight sequencing bits.
-fn eight_in(format: Format, cell: &[u8]) -> u8
+pub(crate) fn eight_in(format: Format, cell: &[u8]) -> u8
     requires { ⌜ Sound format × (length (now cell) ≡ 48) ⌝ }
     ensures { λ r. ⌜ r ≡ eightIn format (now (cell .entry)) ⌝ }
 {
@@ -209,6 +210,21 @@ fn octets(run: &mut [u8], at: usize, count: usize, value: u8)
         run[at + i] = value;
         i += 1;
     }
+}
+
+// Writes `missing` entries of zero with mark 2 to the three runs.
+pub(crate) fn missing_entries(
+    missing: usize,
+    samples: &mut [u64],
+    ancillary: &mut [u8],
+    marks: &mut [u8],
+)
+    requires { ⌜ Room missing 0 (now samples) (now ancillary) (now marks) ⌝ }
+    ensures { λ r. ⌜ Misses missing (now (samples .entry)) (now (ancillary .entry)) (now (marks .entry)) (now (samples .exit)) (now (ancillary .exit)) (now (marks .exit)) ⌝ }
+{
+    zeros(samples, missing);
+    octets(ancillary, 0, missing, 0);
+    octets(marks, 0, missing, 2);
 }
 
 // The subframes of the used slots, in order 0.
@@ -343,8 +359,6 @@ pub(crate) fn write(
     requires { ⌜ Limits set × Together (set .format) × (length (now cell) ≡ 48) × Room missing (usedIn set) (now samples) (now ancillary) (now marks) ⌝ }
     ensures { λ r. ⌜ Writes set (now (cell .entry)) missing (now (samples .entry)) (now (ancillary .entry)) (now (marks .entry)) (now (samples .exit)) (now (ancillary .exit)) (now (marks .exit)) ⌝ }
 {
-    zeros(samples, missing);
-    octets(ancillary, 0, missing, 0);
-    octets(marks, 0, missing, 2);
+    missing_entries(missing, samples, ancillary, marks);
     own_entries(set, cell, missing, samples, ancillary, marks);
 }

@@ -2,17 +2,14 @@
 -- Assumes nothing.
 use mathlib.Core.Bool.{false, cond}
 use mathlib.Core.List.{List}
-use mathlib.Core.Path.{_≡_, refl, sym, _∙_, ap, ap₂, subst}
+use mathlib.Core.Path.{_≡_, refl, sym, _∙_, ap, subst}
 use Prim.Native.Nat.{ℕ, _<_}
-use native.Mathlib.Omega.{arith}
-use borrow.Author.Tests.{eqb-true, eqb-false}
 use lib.Dec.{eqb}
 use lib.ListN.{length}
-use Rattle.runs.proofs.Laws.{split}
 use Rattle.formats.specs.declared.Format.{Format}
 use Rattle.formats.specs.declared.Settled.{Settled}
 use Rattle.formats.specs.Formats.{settingsOf}
-use Rattle.formats.proofs.Laws.{usual-one, usual-two}
+use Rattle.formats.proofs.Laws.{usual-is, usual-set}
 use Rattle.numbers.specs.Numbers.{sequenceOf}
 use Rattle.guards.specs.Guards.{sevenGuards}
 use Rattle.sender.specs.declared.Sender.{Sender}
@@ -23,31 +20,15 @@ use Rattle.sender.proofs.Packing.{Named, written-as, fillable, packs, p
 module _ {st : Sender} (samples : List ℕ) (u : Usual st (length samples)) {set : Settled}
     (given : set ≡ settingsOf 0x56 (cond (eqb (st .channels) 2) 2 1) 0)
   where
-    channels-are : cond (eqb (st .channels) 2) 2 1 ≡ st .channels
-    channels-are =
-        split (eqb (st .channels) 2) (λ two. rw two (sym (eqb-true (st .channels) 2 two)))
-        (λ not-two.
-        rw not-two
-        (let one : 1 ≡ st .channels
-        = omega (arith, u .channels-from, u .channels-to, eqb-false (st .channels) 2 not-two) in one))
-
-    pub usual-set : set ≡ settingsOf (st .format) (st .channels) (st .order)
-    usual-set =
-        given
-        ∙ ap (λ (c : ℕ). settingsOf 0x56 c 0) channels-are
-        ∙ ap₂ (λ (f o : ℕ). settingsOf f (st .channels) o) (sym (u .format-is)) (sym (u .order-is))
+    pub usual-settles : set ≡ settingsOf (st .format) (st .channels) (st .order)
+    usual-settles =
+        usual-set (st .channels) given (u .format-is) (u .order-is) (u .channels-from) (u .channels-to)
 
     format-is : set .format ≡ shape 24 4 4
-    format-is =
-        ap (λ (x : Settled). x .format) given
-        ∙ split (eqb (st .channels) 2) (λ two. rw two (ap (λ (x : Settled). x .format) (sym usual-two)))
-        (λ one. rw one (ap (λ (x : Settled). x .format) (sym usual-one)))
+    format-is = usual-is (st .channels) given (λ (x : Settled). x .format ≡ shape 24 4 4) refl refl
 
     in-order : set .«by_channel» ≡ false
-    in-order =
-        ap (λ (x : Settled). x .«by_channel») given
-        ∙ split (eqb (st .channels) 2) (λ two. rw two (ap (λ (x : Settled). x .«by_channel») (sym usual-two)))
-        (λ one. rw one (ap (λ (x : Settled). x .«by_channel») (sym usual-one)))
+    in-order = usual-is (st .channels) given (λ (x : Settled). x .«by_channel» ≡ false) refl refl
 
     named : Named (set .format) 24 4 4 4
     named =

@@ -11,7 +11,7 @@ use Rattle.numbers.proofs.Laws.{entry-lt}
 use Rattle.sender.specs.Packing.{Packable}
 use Rattle.sender.specs.Sender.{sendRefusal}
 use Rattle.sender.proofs.Laws.{writes-refused, can-pack, writes-taken}
-use Rattle.sender.proofs.AllUsed.{usual-set, usual-fillable, usual-packs}
+use Rattle.sender.proofs.AllUsed.{usual-settles, usual-fillable, usual-packs}
 use borrow.Author.Needs.{needs}
 use Rattle.sender.proofs.usual.write_usual.Statement.{statement}
 use Rattle.sender.proofs.usual.write_usual.Tie as tie
@@ -20,7 +20,7 @@ usual-requires : tie.Need-usual-requires
 usual-requires c κs = search needs
 
 send-refusal-requires : tie.Need-send-refusal-requires
-send-refusal-requires c κs = usual-set (now (c .before .before .before .before .before .args .samples)) (c .before .before .before .before .before .pre) (c .usual .ensures)
+send-refusal-requires c κs = usual-settles (now (c .before .before .before .before .before .args .samples)) (c .before .before .before .before .before .pre) (c .usual .ensures)
 
 returns : tie.Need-returns
 returns c =
@@ -39,7 +39,7 @@ sequence-of-requires c κs = search needs
 
 given : (c : tie.Else1)
     → c .before .before .usual .result ≡ settingsOf (c .before .before .before .before .before .before .before .args .state .format) (c .before .before .before .before .before .before .before .args .state .channels) (c .before .before .before .before .before .before .before .args .state .order)
-given c = usual-set (now (c .before .before .before .before .before .before .before .args .samples)) (c .before .before .before .before .before .before .before .pre) (c .before .before .usual .ensures)
+given c = usual-settles (now (c .before .before .before .before .before .before .before .args .samples)) (c .before .before .before .before .before .before .before .pre) (c .before .before .usual .ensures)
 
 none : (c : tie.Else1)
     → 0
