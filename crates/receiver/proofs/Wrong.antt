@@ -141,6 +141,11 @@ module _ (κs : Lfts 4) (c s a m : Place) where
   unfolding unfolded
   spoiled-number-not-taken x v wrong p = let right : x .refusal ≡ 8 = ap (λ (r : Received). r .refusal) (p .answered) in omega arith
 
+  -- 9 before 8: the same taken for a repeat, its number counting as 16, where the last one was 0
+  pub spoiled-number-not-a-repeat : Receiving (archive 0) (set third 5 7) 9 (λ x samples ancillary marks. x .refusal ≡ 9)
+  unfolding unfolded
+  spoiled-number-not-a-repeat x v wrong p = let right : x .refusal ≡ 8 = ap (λ (r : Received). r .refusal) (p .answered) in omega arith
+
   -- a call refused for room: the state moved, and the missing cell filled in already
   pub refused-not-counted : Receiving (archive 1) third 9 (λ x samples ancillary marks. x .state .last ≡ 3)
   unfolding unfolded

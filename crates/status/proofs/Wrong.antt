@@ -53,10 +53,10 @@ module _ (κs : Lfts 0) where
   character-not-from-zeros x v wrong p = omega arith
 
   -- the same, its highest coefficient as the highest bit
-  pub character-not-turned-round : Never check-character-kinds.ps check-character-kinds.r check-character-reads.Post κs
+  pub character-not-highest-first : Never check-character-kinds.ps check-character-kinds.r check-character-reads.Post κs
       (set zeros 0 1, tt) (λ x v. x ≡ 0x4C)
   unfolding unfolded
-  character-not-turned-round x v wrong p = omega arith
+  character-not-highest-first x v wrong p = omega arith
 
   -- C = 1 with B = 0 behind three bits: the highest bit first, or the block left as it was
   pub step-not-highest-bit-first : Never step-kinds.ps step-kinds.r step-reads.Post κs
