@@ -4,3 +4,4 @@ pub mod Marking
 pub mod One
 pub mod Reading
 pub mod Unpacking
+pub mod Wrong

@@ -3,3 +3,4 @@ pub mod Copies
 pub mod Leaves
 pub mod LogsOne
 pub mod StatusesOne
+pub mod Wrong

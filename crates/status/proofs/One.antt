@@ -35,10 +35,10 @@ brought-forward-one κs a x y v w pre p q = (p ∙ sym q, refl)
 
 -- the borrow checker reads no contract with a reference to a struct, so this is stated over the clauses
 module _ {M : Type 1} (𝓤 : URA M) (H : Heap 𝓤) (A : Atoms 𝓤) (mem : Memory → SProp 𝓤) (run : Routine → Fun 𝓤) (κs : Lfts 1) (a : Args bring-forward.signature κs) where
-  abbrev Ensures : Handed → Lasts bring-forward.ended κs a → SProp 𝓤
+  abbrev pub Ensures : Handed → Lasts bring-forward.ended κs a → SProp 𝓤
   Ensures x v = bring-forward.clauses 𝓤 H A mem run κs a .ensures tt x (atExit bring-forward.ended κs a v)
 
-  abbrev Says : Handed → Lasts bring-forward.ended κs a → Type 0
+  abbrev pub Says : Handed → Lasts bring-forward.ended κs a → Type 0
   Says x v = (x ≡ stepOf (a .0 .now) (a .1 .0) (a .1 .1 .0) .handed) × (v .0 ≡ stepOf (a .0 .now) (a .1 .0) (a .1 .1 .0) .block)
 
   pub bring-forward-one : (x y : Handed) (v w : Lasts bring-forward.ended κs a) → ent 𝓤 (sep 𝓤 (Ensures x v) (Ensures y w)) (fact 𝓤 ((x ≡ y) × (v ≡ w)))
