@@ -117,15 +117,18 @@ among-below bound (x ∷ xs) {n} t h =
     rw (ne-eqb x n apart) (among-below bound xs (both-right (ltb x bound) (below bound xs) t) h)
 
 -- a number with more ancillary bits, or beyond an octet, is none of the eleven
-pub beyond : {octet : ℕ} → 127 < octet → isBase octet ≡ false
+pub above : {octet : ℕ} → 127 < octet → isBase octet ≡ false
 unfolding isBase eleven below
-beyond h = among-below 128 eleven tt h
+above h = among-below 128 eleven tt h
+
+pub beyond : {octet : ℕ} → 255 < octet → isBase octet ≡ false
+beyond h = above (omega arith)
 
 base-low : (octet : ℕ) → isBase octet ≡ true → octet < 128
 base-low octet h =
     elim (decLt octet 128) [
       | yes less ↦ less
-      | no above ↦ absurd (false≢true (sym (beyond (le-of-suc-le-suc (lt-of-not-le above))) ∙ h))
+      | no more ↦ absurd (false≢true (sym (above (le-of-suc-le-suc (lt-of-not-le more))) ∙ h))
     ]
 
 pub base-octet : (octet : ℕ) → isBase octet ≡ true → octet < 256

@@ -18,9 +18,10 @@ use Rattle.formats.proofs.Laws.{usual-is, usual-set}
 use Rattle.numbers.specs.Numbers.{numberIn}
 use Rattle.cells.specs.Cells.{subframeAt, sampleIn, ancillaryIn, markIn, eightIn, entriesOf}
 use Rattle.cells.specs.Placement.{slotOf, slotOfEntry}
+use Rattle.tables.specs.Marks.{MarksOf}
 use Rattle.receiver.specs.declared.Receiver.{Receiver}
 use Rattle.receiver.specs.Receiver.{numberNow}
-use Rattle.receiver.specs.Unpacking.{usedIn, ownEntries, twoAt, Unpacks, Writes, Room, Roomy, MarksOf, Usual}
+use Rattle.receiver.specs.Unpacking.{usedIn, ownEntries, twoAt, Unpacks, Writes, Room, Roomy, Usual}
 use Rattle.receiver.proofs.Marking.{sample-over, ancillary-over, mark-on-top}
 use Rattle.receiver.proofs.Reading.{four-read, by-width}
 use Rattle.receiver.proofs.Unpacking.{fill-on, fill-done, own-length, own-at, straight}

@@ -9,7 +9,6 @@ use lib.ListN.{length, getD, take, drop, replicate}
 use Rattle.runs.specs.Runs.{tab, over}
 use Rattle.formats.specs.declared.Format.{Format}
 use Rattle.formats.specs.declared.Settled.{Settled}
-use Rattle.guards.specs.Guards.{tenGuard}
 use Rattle.cells.specs.Cells.{sampleIn, ancillaryIn, markIn, entriesOf}
 use Rattle.receiver.specs.declared.Receiver.{Receiver}
 
@@ -63,14 +62,6 @@ twoAt octets at = getD octets at 0 * 256 + getD octets (at + 1) 0
 -- the slot after this one, where entries go by channel
 unfoldable pub nextSlot : ℕ → ℕ → ℕ → ℕ
 nextSlot times used slot = cond (ltb (slot + times) used) (slot + times) (slot + times - (used - 1))
-
--- the mark of a subframe with these nine top sample bits and these five low bits: V, the sequencing bit, three protection bits
-unfoldable pub markBit : ℕ → ℕ → ℕ
-markBit nine low = cond (eqb (low % 8) (tenGuard (nine * 2 + low / 16))) 0 1
-
--- a number whose bits are the marks of all five low bits
-abbrev pub MarksOf : ℕ → ℕ → Type 0
-MarksOf nine bits = (low : ℕ) → low < 32 → bits / 2 ^ low % 2 ≡ markBit nine low
 
 -- what is read off the entries that a run holds from `at` on
 unfoldable pub held : (ℕ → ℕ) → List ℕ → ℕ → ℕ → List ℕ

@@ -18,7 +18,6 @@ ghost use Rattle.receiver.specs.Unpacking.{
   Together,
   twoAt,
   nextSlot,
-  MarksOf,
   held,
   Splits,
 };
@@ -163,31 +162,6 @@ fn next_slot(times: usize, used: usize, slot: usize) -> usize
     next - (used - 1)
 }
 
-// For nine sample bits folded to seven, the mark of each five low bits of a subframe, as a bit of the answer. It is one load where
-// the program has one call of it.
-fn marks_of(seven: u64) -> u64
-    ensures { λ r. ⌜ MarksOf (seven % 128) r ⌝ }
-{
-    let key = seven % 128;
-    match key {
-        0 | 11 | 22 | 29 | 39 | 44 | 49 | 58 | 69 | 78 | 83 | 88 | 98 | 105 | 116 | 127 =>
-            0xEFEF7F7F,
-        1 | 10 | 23 | 28 | 38 | 45 | 48 | 59 | 68 | 79 | 82 | 89 | 99 | 104 | 117 | 126 =>
-            0xFBFBFDFD,
-        2 | 9 | 20 | 31 | 37 | 46 | 51 | 56 | 71 | 76 | 81 | 90 | 96 | 107 | 118 | 125 =>
-            0xF7F7FEFE,
-        3 | 8 | 21 | 30 | 36 | 47 | 50 | 57 | 70 | 77 | 80 | 91 | 97 | 106 | 119 | 124 =>
-            0xDFDFBFBF,
-        4 | 15 | 18 | 25 | 35 | 40 | 53 | 62 | 65 | 74 | 87 | 92 | 102 | 109 | 112 | 123 =>
-            0xFDFDFBFB,
-        5 | 14 | 19 | 24 | 34 | 41 | 52 | 63 | 75 | 86 | 93 | 103 | 108 | 113 | 122 => 0x7F7FEFEF,
-        64 => 0x7F7FEFEF,
-        6 | 13 | 16 | 27 | 33 | 42 | 55 | 60 | 67 | 72 | 85 | 94 | 100 | 111 | 114 | 121 =>
-            0xBFBFDFDF,
-        _ => 0xFEFEF7F7,
-    }
-}
-
 // Writes zeros to a run's first `count` entries.
 fn zeros(run: &mut [u64], count: usize)
     requires { ⌜ count ≤ length (now run) ⌝ }
@@ -286,7 +260,7 @@ fn split(
         samples[at + i] = sample;
         ancillary[at + i] = (subframe / 16 % 16) as u8;
         let nine = guards::nine_bits(format.sample, sample);
-        marks[at + i] = ((marks_of(nine ^ (nine / 128)) >> (subframe % 32)) % 2) as u8;
+        marks[at + i] = ((tables::marks_of(nine ^ (nine / 128)) >> (subframe % 32)) % 2) as u8;
         i += 1;
     }
 }

@@ -7,7 +7,7 @@ use Prim.Native.Nat.{ℕ, zero, suc, _+_, _*_, _%_, _^_, _≤_, _<_}
 use native.Mathlib.Nat.{suc-ne-zero, mod-lt, mod-eq-of-lt}
 use native.Mathlib.Numerals.{add-one}
 use native.Mathlib.Omega.{arith}
-use borrow.Author.Tests.{lt-ltb, le-ltb, lt-leb, le-leb, ne-eqb, ltb-true, ltb-false, eqb-true, not-false}
+use borrow.Author.Tests.{lt-ltb, le-ltb, lt-leb, le-leb, eq-eqb, ne-eqb, ltb-true, ltb-false, eqb-true, not-false}
 use lib.Bits.{bitOr, or-lt, or-add-and, and-le-l, and-le-r}
 use lib.Dec.{eqb, leb, ltb}
 use lib.ListN.{length, getD, drop, drop-of-length-le}
@@ -83,6 +83,21 @@ module _ (octet channels order number : ℕ) (wanted : Bool) (second : ℕ) wher
       ≡ openedOf octet channels order number wanted second
   unfolding openedOf
   opens e = rw (← e)
+
+-- check 5, one length after the other
+module _ (used : ℕ) (samples ancillary : List ℕ) (room : ℕ) where
+  pub no-room : (room ≡ 48 → ⊥) → true ≡ lengthsRefused used samples ancillary room
+  unfolding lengthsRefused
+  no-room other = rw (ne-eqb room 48 other)
+
+  module _ (whole : room ≡ 48) where
+    pub no-samples : (length samples ≡ used → ⊥) → true ≡ lengthsRefused used samples ancillary room
+    unfolding lengthsRefused
+    no-samples other = rw (eq-eqb room 48 whole, ne-eqb (length samples) used other)
+
+    pub by-ancillary : length samples ≡ used → not (eqb (length ancillary) used) ≡ lengthsRefused used samples ancillary room
+    unfolding lengthsRefused
+    by-ancillary all = rw (eq-eqb room 48 whole, eq-eqb (length samples) used all)
 
 -- numbers are below a power of two just where the bits that any of them has are
 or-below : (a b k : ℕ) → ltb (bitOr a b) (2 ^ k) ≡ ltb a (2 ^ k) && ltb b (2 ^ k)

@@ -4,31 +4,13 @@ ghost use mathlib.Core.Bool.{true};
 ghost use mathlib.Core.Path.{_≡_};
 ghost use Prim.Native.Nat.{_+_, _*_, _%_, _^_, _≤_, _<_};
 ghost use lib.ListN.{length};
-ghost use Rattle.guards.specs.Guards.{tenGuard, sevenGuards};
+ghost use Rattle.guards.specs.Guards.{sevenGuards};
 ghost use Rattle.cells.specs.Cells.{subframeOf};
 ghost use Rattle.sender.specs.Sender.{Writes};
 ghost use Rattle.sender.specs.Packing.{shape, Fillable, inOrder, written, Usual};
 use crate::Sender;
 use crate::fill::put;
 use crate::judge;
-
-// The protection bits of nine sample bits folded to seven, V being 0. It is one load where the program has one call of it.
-fn guard_of(seven: u64) -> u64
-    ensures { λ r. ⌜ r ≡ tenGuard (seven % 128 * 2) ⌝ }
-{
-    let key = seven % 128;
-    match key {
-        0 | 11 | 22 | 29 | 39 | 44 | 49 | 58 | 69 | 78 | 83 | 88 | 98 | 105 | 116 | 127 => 7,
-        1 | 10 | 23 | 28 | 38 | 45 | 48 | 59 | 68 | 79 | 82 | 89 | 99 | 104 | 117 | 126 => 1,
-        2 | 9 | 20 | 31 | 37 | 46 | 51 | 56 | 71 | 76 | 81 | 90 | 96 | 107 | 118 | 125 => 0,
-        3 | 8 | 21 | 30 | 36 | 47 | 50 | 57 | 70 | 77 | 80 | 91 | 97 | 106 | 119 | 124 => 6,
-        4 | 15 | 18 | 25 | 35 | 40 | 53 | 62 | 65 | 74 | 87 | 92 | 102 | 109 | 112 | 123 => 2,
-        5 | 14 | 19 | 24 | 34 | 41 | 52 | 63 | 75 | 86 | 93 | 103 | 108 | 113 | 122 => 4,
-        64 => 4,
-        6 | 13 | 16 | 27 | 33 | 42 | 55 | 60 | 67 | 72 | 85 | 94 | 100 | 111 | 114 | 121 => 5,
-        _ => 3,
-    }
-}
 
 // The ancillary bits in their place in a subframe's last octet, and what V adds to the protection bits.
 fn low_of(four: u64) -> u64
@@ -60,7 +42,7 @@ fn subframe(sample: u64, four: u64, bit: u64) -> u64
     requires { ⌜ (sample < 2 ^ 24) × (four < 16) × (bit < 2) ⌝ }
     ensures { λ r. ⌜ r ≡ subframeOf (shape 24 4 4) sample four bit ⌝ }
 {
-    let low = guard_of((sample / 32768) ^ (sample / 4194304)) ^ low_of(four);
+    let low = tables::guard_of((sample / 32768) ^ (sample / 4194304)) ^ low_of(four);
     sample * 256 + (low + bit * 8)
 }
 

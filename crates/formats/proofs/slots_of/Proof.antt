@@ -8,7 +8,7 @@ use native.Mathlib.Omega.{arith}
 use borrow.Author.Needs.{needs}
 use Rattle.formats.specs.Formats.{isAmong, isBase, formatOf}
 use Rattle.formats.proofs.Laws.{
-  beyond,
+  above,
   no-slots,
   by-overhead,
   by-length,
@@ -23,7 +23,7 @@ use Rattle.formats.proofs.slots_of.Statement.{statement}
 use Rattle.formats.proofs.slots_of.Tie as tie
 
 returns : tie.Need-returns
-returns c = no-slots (c .before .args .octet) (beyond (omega arith))
+returns c = no-slots (c .before .args .octet) (above (omega arith))
 
 returns-2 : tie.Need-returns-2
 returns-2 c = no-slots (c .before .before .args .octet) (by-overhead (omega arith) (c .if2 .taken))

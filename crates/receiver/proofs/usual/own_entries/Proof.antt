@@ -70,7 +70,7 @@ loop-again c =
     entered-on (now (s .args .cell)) (s .args .at) (now (s .args .samples)) (now (s .args .ancillary)) (now (s .args .marks)) (s .pre .1)
     (c .marks-at .result) (c .before .before .before .loop .inv) (c .before .before .loop-test .taken)
     (subframe-is (now (s .args .cell)) (c .before .before .before .loop .i) (s .pre .0) (c .before .before .loop-test .taken) (c .before .in4 .ensures .0))
-    (c .before .in4 .ensures .1) (c .marks-at .ensures)
+    (c .before .in4 .ensures .1) (c .marks-at .ensures .0)
 
 same-length : tie.Need-same-length Inv-loop μ-loop
 same-length c = c .before .loop .inv .samples-so-far .same

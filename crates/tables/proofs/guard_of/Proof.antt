@@ -1,10 +1,10 @@
--- `sender::usual::guard_of` meets its contract: each arm by a test over its keys.
+-- `tables::guard_of` meets its contract: each arm by a test over its keys.
 -- Assumes nothing.
 use mathlib.Core.Path.{sym}
 use Prim.Native.Nat.{_%_}
 use native.Mathlib.Nat.{mod-lt}
 use native.Mathlib.Omega.{arith}
-use Rattle.guards.proofs.Classes.{
+use Rattle.tables.proofs.Classes.{
   of-sevens-7,
   of-sevens-1,
   of-sevens-0,
@@ -15,8 +15,8 @@ use Rattle.guards.proofs.Classes.{
   of-sevens-5,
   of-sevens-3,
 }
-use Rattle.sender.proofs.usual.guard_of.Statement.{statement}
-use Rattle.sender.proofs.usual.guard_of.Tie as tie
+use Rattle.tables.proofs.guard_of.Statement.{statement}
+use Rattle.tables.proofs.guard_of.Tie as tie
 
 returns : tie.Need-returns
 returns c = sym (of-sevens-7 (c .before .args .seven % 128) (c .match .keys1))

@@ -1,9 +1,9 @@
--- `receiver::unpack::marks_of` meets its contract: each arm by a test over its keys.
+-- `tables::marks_of` meets its contract: each arm by a test over its keys.
 -- Assumes nothing.
 use Prim.Native.Nat.{ℕ, _%_, _<_}
 use native.Mathlib.Nat.{mod-lt}
 use native.Mathlib.Omega.{arith}
-use Rattle.guards.proofs.Classes.{
+use Rattle.tables.proofs.Classes.{
   of-sevens-7,
   of-sevens-1,
   of-sevens-0,
@@ -14,9 +14,9 @@ use Rattle.guards.proofs.Classes.{
   of-sevens-5,
   of-sevens-3,
 }
-use Rattle.receiver.proofs.Marking.{marks-0, marks-1, marks-2, marks-3, marks-4, marks-5, marks-6, marks-7}
-use Rattle.receiver.proofs.unpack.marks_of.Statement.{statement}
-use Rattle.receiver.proofs.unpack.marks_of.Tie as tie
+use Rattle.tables.proofs.Laws.{marks-0, marks-1, marks-2, marks-3, marks-4, marks-5, marks-6, marks-7}
+use Rattle.tables.proofs.marks_of.Statement.{statement}
+use Rattle.tables.proofs.marks_of.Tie as tie
 
 few : {key : ℕ} → key < 128 → key < 512
 few less = omega arith

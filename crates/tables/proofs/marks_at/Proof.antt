@@ -1,31 +1,12 @@
--- `receiver::usual::marks_at` meets its contract: each arm by a test over its keys.
+-- `tables::marks_at` meets its contract: each arm by a test over its keys.
 -- Assumes nothing.
 use Prim.Native.Nat.{_%_}
 use native.Mathlib.Nat.{mod-lt}
 use native.Mathlib.Omega.{arith}
-use Rattle.receiver.proofs.Marking.{
-  of-nines-7,
-  of-nines-1,
-  of-nines-0,
-  of-nines-6,
-  of-nines-2,
-  of-nines-2-more,
-  of-nines-4,
-  of-nines-4-more,
-  of-nines-5,
-  of-nines-5-more,
-  of-nines-3,
-  marks-0,
-  marks-1,
-  marks-2,
-  marks-3,
-  marks-4,
-  marks-5,
-  marks-6,
-  marks-7,
-}
-use Rattle.receiver.proofs.usual.marks_at.Statement.{statement}
-use Rattle.receiver.proofs.usual.marks_at.Tie as tie
+use Rattle.tables.proofs.Classes.{of-nines-7, of-nines-1, of-nines-0, of-nines-6, of-nines-2, of-nines-2-more, of-nines-4, of-nines-4-more, of-nines-5, of-nines-5-more, of-nines-3}
+use Rattle.tables.proofs.Laws.{marks-0, marks-1, marks-2, marks-3, marks-4, marks-5, marks-6, marks-7}
+use Rattle.tables.proofs.marks_at.Statement.{statement}
+use Rattle.tables.proofs.marks_at.Tie as tie
 
 returns : tie.Need-returns
 returns c = marks-7 (mod-lt _ (omega arith)) (of-nines-7 (c .before .args .nine % 512) (c .match .keys1))
