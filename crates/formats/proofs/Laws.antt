@@ -9,13 +9,13 @@ use native.Mathlib.Decide.{decLt}
 use native.Mathlib.Nat.{mod-lt, lt-of-not-le, le-of-suc-le-suc, pos-of-ne-zero, mul-div-le, le-div-iff-mul-le}
 use native.Mathlib.Omega.{arith}
 use borrow.Author.Tests
-use borrow.Author.Tests.{eqb-true, eqb-false, ltb-false, lt-ltb, le-ltb, le-leb, lt-leb, ne-eqb, eq-eqb}
+use borrow.Author.Tests.{eqb-true, eqb-false, ltb-true, ltb-false, lt-ltb, le-ltb, le-leb, lt-leb, ne-eqb, eq-eqb}
 use mir.Val.{hasKey}
 use types.Run.{OneOf, hit, miss}
 use lib.Dec.{T, eqb, leb, ltb, ltb→lt, leb→le, eqb→eq}
 use Rattle.runs.specs.Refusals.{orElse}
 use Rattle.runs.specs.Test.{every}
-use Rattle.runs.proofs.Laws.{every-at, both-left, both-right, past, neither, split, first-refuses, then-later}
+use Rattle.runs.proofs.Laws.{every-at, both-left, both-right, past, neither, split, both-true, first-refuses, then-later}
 use Rattle.formats.specs.declared.Format.{Format}
 use Rattle.formats.specs.declared.Settled.{Settled}
 use Rattle.formats.specs.Sound.{Sound, Limits}
@@ -36,6 +36,7 @@ use Rattle.formats.specs.Formats.{
   refusalBy,
   settled,
   unsettledBy,
+  isUsual,
   usualWith,
 }
 
@@ -414,12 +415,18 @@ module _ {set : Settled} (channels : ℕ) (given : set ≡ settingsOf 0x56 (cond
       (λ yes-two. subst P (sym (given ∙ ap (λ (b : Bool). settingsOf 0x56 (cond b 2 1) 0) yes-two ∙ sym usual-two)) two)
       (λ not-two. subst P (sym (given ∙ ap (λ (b : Bool). settingsOf 0x56 (cond b 2 1) 0) not-two ∙ sym usual-one)) one)
 
-  -- they are those of the state that the channels are of
-  pub usual-set : {octet order : ℕ} → octet ≡ 0x56 → order ≡ 0 → 1 ≤ channels → channels ≤ 2 → set ≡ settingsOf octet channels order
-  usual-set octet-is order-is from to =
+  -- they are those of a state that has them
+  pub usual-set : (octet order : ℕ) → isUsual octet channels order ≡ true → set ≡ settingsOf octet channels order
+  unfolding isUsual
+  usual-set octet order is =
+      let first = both-true (eqb octet 0x56) _ is in
+      let next = both-true (eqb order 0) _ (first .1) in
+      let last = both-true (not (ltb channels 1)) _ (next .1) in
+      let from : 1 ≤ channels = ltb-false channels 1 (Tests.not-true (ltb channels 1) (last .0)) in
+      let to : channels < 3 = ltb-true channels 3 (last .1) in
       let same : cond (eqb channels 2) 2 1 ≡ channels
       = split (eqb channels 2) (λ two. rw two (sym (eqb-true channels 2 two)))
       (λ not-two. rw not-two (let one : 1 ≡ channels = omega (arith, eqb-false channels 2 not-two) in one)) in
       given
       ∙ ap (λ (c : ℕ). settingsOf 0x56 c 0) same
-      ∙ ap₂ (λ (f o : ℕ). settingsOf f channels o) (sym octet-is) (sym order-is)
+      ∙ ap₂ (λ (f o : ℕ). settingsOf f channels o) (sym (eqb-true octet 0x56 (first .0))) (sym (eqb-true order 0 (next .0)))

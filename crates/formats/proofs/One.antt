@@ -5,11 +5,16 @@ use mathlib.Core.Path.{refl, sym, _∙_}
 use Rattle.runs.proofs.One.{One}
 use Rattle.formats.proofs.settings.Kinds as settings-kinds
 use Rattle.formats.proofs.settings.Reads as settings-reads
+use Rattle.formats.proofs.is_usual.Kinds as is-usual-kinds
+use Rattle.formats.proofs.is_usual.Reads as is-usual-reads
 use Rattle.formats.proofs.usual.Kinds as usual-kinds
 use Rattle.formats.proofs.usual.Reads as usual-reads
 
 pub settings-one : One settings-kinds.ps settings-kinds.r settings-reads.Pre settings-reads.Post
 settings-one κs a x y v w pre p q = (p ∙ sym q, refl)
+
+pub is-usual-one : One is-usual-kinds.ps is-usual-kinds.r is-usual-reads.Pre is-usual-reads.Post
+is-usual-one κs a x y v w pre p q = (p ∙ sym q, refl)
 
 pub usual-one : One usual-kinds.ps usual-kinds.r usual-reads.Pre usual-reads.Post
 usual-one κs a x y v w pre p q = (p ∙ sym q, refl)

@@ -1,7 +1,7 @@
 -- Wrong answers to the public functions: their contracts rule them out. Stated over the contracts themselves.
 -- Assumes nothing.
-use mathlib.Core.Bool.{true}
-use mathlib.Core.Path.{_≡_, ap}
+use mathlib.Core.Bool.{true, false, true≢false}
+use mathlib.Core.Path.{_≡_, sym, _∙_, ap}
 use native.Mathlib.Omega.{arith}
 use contract.Lifetimes.{Lfts}
 use Rattle.runs.proofs.Wrong.{Never}
@@ -19,15 +19,18 @@ use Rattle.formats.specs.Formats.{
   formatOf,
   settingsRefusal,
   settingsOf,
+  isUsual,
 }
 use Rattle.formats.proofs.settings.Kinds as settings-kinds
 use Rattle.formats.proofs.settings.Reads as settings-reads
+use Rattle.formats.proofs.is_usual.Kinds as is-usual-kinds
+use Rattle.formats.proofs.is_usual.Reads as is-usual-reads
 use Rattle.formats.proofs.usual.Kinds as usual-kinds
 use Rattle.formats.proofs.usual.Reads as usual-reads
 
 -- every definition on the way down to the numbers
 unfoldable pub unfolded : Unit {0}
-unfolding lengthOf sampleBits ancillaryBits overheadBits eleven isAmong isBase widthOf slotsOf formatOf settingsRefusal settingsOf
+unfolding lengthOf sampleBits ancillaryBits overheadBits eleven isAmong isBase widthOf slotsOf formatOf settingsRefusal settingsOf isUsual
 unfolded = tt
 
 module _ (κs : Lfts 0) where
@@ -45,6 +48,16 @@ module _ (κs : Lfts 0) where
   pub times-not-rounded-up : Never settings-kinds.ps settings-kinds.r settings-reads.Post κs (0x56, (5, (0, tt))) (λ x v. x .times ≡ 3)
   unfolding unfolded
   times-not-rounded-up x v wrong p = let right : x .times ≡ 2 = ap (λ (s : Settled). s .times) p in omega arith
+
+  -- three channels taken for two
+  pub is-usual-not-for-three : Never is-usual-kinds.ps is-usual-kinds.r is-usual-reads.Post κs (0x56, (3, (0, tt))) (λ x v. x ≡ true)
+  unfolding unfolded
+  is-usual-not-for-three x v wrong p = true≢false (sym wrong ∙ p)
+
+  -- no call usual
+  pub is-usual-not-always-false : Never is-usual-kinds.ps is-usual-kinds.r is-usual-reads.Post κs (0x56, (2, (0, tt))) (λ x v. x ≡ false)
+  unfolding unfolded
+  is-usual-not-always-false x v wrong p = true≢false (sym p ∙ wrong)
 
   -- one channel where there are two
   pub usual-not-always-mono : Never usual-kinds.ps usual-kinds.r usual-reads.Post κs (true, tt) (λ x v. x .channels ≡ 1)

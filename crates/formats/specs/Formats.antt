@@ -1,6 +1,6 @@
 -- Subframe formats, document 01: what the subframe octet (6.2) says, T, and checks 1 to 3.
 -- Assumes nothing.
-use mathlib.Core.Bool.{Bool, false, cond, not, _||_}
+use mathlib.Core.Bool.{Bool, false, cond, not, _&&_, _||_}
 use mathlib.Core.List.{List, [], _∷_}
 use Prim.Native.Nat.{ℕ, _+_, _*_, _/_, _%_}
 use lib.Dec.{eqb, leb, ltb}
@@ -96,7 +96,11 @@ settingsOf octet channels order =
     (settled octet channels order)
     (unsettledBy (settingsRefusal octet channels order))
 
--- 56 hex in order 0, by C and T
+-- 56 hex in order 0 with one channel or two
+unfoldable pub isUsual : ℕ → ℕ → ℕ → Bool
+isUsual octet channels order = eqb octet 0x56 && (eqb order 0 && (not (ltb channels 1) && ltb channels 3))
+
+-- what it settles, by C and T
 abbrev pub usualWith : ℕ → ℕ → Settled
 usualWith channels times =
     record {

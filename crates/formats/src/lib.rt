@@ -2,7 +2,7 @@
 ghost use mathlib.Core.Bool.{cond};
 ghost use mathlib.Core.Path.{_≡_};
 ghost use Prim.Native.Nat.{_/_, _≤_};
-ghost use Rattle.formats.specs.Formats.{sampleBits, formatOf, refusalBy, settingsOf, unsettledBy, usualWith};
+ghost use Rattle.formats.specs.Formats.{sampleBits, formatOf, refusalBy, settingsOf, unsettledBy, isUsual, usualWith};
 
 // One subframe in bits, and how many octets wide it is; S, the slots in a cell. All zeros stand for no format.
 pub struct Format {
@@ -147,7 +147,23 @@ pub fn settings(octet: u32, channels: u32, order: u32) -> Settled
     }
 }
 
-// 56 hex in order 0 with one channel or two, as most readings are sent: what it settles, at once.
+// Whether these are the usual settings: 56 hex in order 0 with one channel or two, as most readings are sent.
+pub fn is_usual(octet: u8, channels: u8, order: u8) -> bool
+    ensures { λ r. ⌜ r ≡ isUsual octet channels order ⌝ }
+{
+    if octet != 0x56 {
+        return false;
+    }
+    if order != 0 {
+        return false;
+    }
+    if channels < 1 {
+        return false;
+    }
+    channels < 3
+}
+
+// What the usual settings settle, at once.
 pub fn usual(stereo: bool) -> Settled
     ensures { λ r. ⌜ r ≡ settingsOf 0x56 (cond stereo 2 1) 0 ⌝ }
 {

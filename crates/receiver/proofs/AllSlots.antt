@@ -112,7 +112,7 @@ module _ {st : Receiver} {n : ℕ} (u : Usual st n) {set : Settled}
     (given : set ≡ settingsOf 0x56 (cond (eqb (st .channels) 2) 2 1) 0)
   where
     pub usual-settles : set ≡ settingsOf (st .format) (st .channels) (st .order)
-    usual-settles = usual-set (st .channels) given (u .format-is) (u .order-is) (u .channels-from) (u .channels-to)
+    usual-settles = usual-set (st .channels) given (st .format) (st .order) (u .settings-are)
 
     pub usual-sound : Sound (set .format)
     usual-sound = usual-is (st .channels) given (λ (x : Settled). Sound (x .format)) sound-usual sound-usual

@@ -1,6 +1,6 @@
 -- What unpacking asks and leaves, told of the settings.
 -- Assumes nothing.
-use mathlib.Core.Bool.{cond}
+use mathlib.Core.Bool.{true, cond}
 use mathlib.Core.List.{List, _++_}
 use mathlib.Core.Path.{_≡_}
 use Prim.Native.Nat.{ℕ, _+_, _*_, _-_, _≤_}
@@ -9,6 +9,7 @@ use lib.ListN.{length, getD, take, drop, replicate}
 use Rattle.runs.specs.Runs.{tab, over}
 use Rattle.formats.specs.declared.Format.{Format}
 use Rattle.formats.specs.declared.Settled.{Settled}
+use Rattle.formats.specs.Formats.{isUsual}
 use Rattle.cells.specs.Cells.{sampleIn, ancillaryIn, markIn, entriesOf}
 use Rattle.receiver.specs.declared.Receiver.{Receiver}
 
@@ -73,10 +74,7 @@ pub record Splits (f : Format) (at used : ℕ) (samples ancillary marks samples�
   pub ancillary-is : ancillary₁ ≡ written ancillary at (held (ancillaryIn f) samples at used)
   pub marks-are : marks₁ ≡ written marks at (held (markIn f) samples at used)
 
--- the usual call: 56 hex in order 0, one channel or two, a cell of 48 octets
+-- the usual call: the usual settings, and a cell of 48 octets
 pub record Usual (st : Receiver) (cell : ℕ) : Type 0 where
-  pub format-is : st .format ≡ 0x56
-  pub order-is : st .order ≡ 0
-  pub channels-from : 1 ≤ st .channels
-  pub channels-to : st .channels ≤ 2
+  pub settings-are : isUsual (st .format) (st .channels) (st .order) ≡ true
   pub cell-whole : cell ≡ 48

@@ -26,12 +26,6 @@ pub(crate) fn is_usual(
 ) -> bool
     ensures { λ r. ⌜ (r ≡ true → Usual state cell) ⌝ }
 {
-    if state.format != 0x56 {
-        return false;
-    }
-    if state.order != 0 {
-        return false;
-    }
     if cell != 48 {
         return false;
     }
@@ -41,11 +35,7 @@ pub(crate) fn is_usual(
     if marks != samples {
         return false;
     }
-    let channels = state.channels;
-    match channels {
-        1 | 2 => true,
-        _ => false,
-    }
+    formats::is_usual(state.format, state.channels, state.order)
 }
 
 // The cell's number, 16 where its eight bits are none.

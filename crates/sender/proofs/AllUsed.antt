@@ -22,7 +22,7 @@ module _ {st : Sender} (samples : List ℕ) (u : Usual st (length samples)) {set
   where
     pub usual-settles : set ≡ settingsOf (st .format) (st .channels) (st .order)
     usual-settles =
-        usual-set (st .channels) given (u .format-is) (u .order-is) (u .channels-from) (u .channels-to)
+        usual-set (st .channels) given (st .format) (st .order) (u .settings-are)
 
     format-is : set .format ≡ shape 24 4 4
     format-is = usual-is (st .channels) given (λ (x : Settled). x .format ≡ shape 24 4 4) refl refl

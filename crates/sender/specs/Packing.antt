@@ -9,6 +9,7 @@ use lib.ListN.{length, getD, drop}
 use Rattle.runs.specs.Runs.{joined, octetsOf}
 use Rattle.formats.specs.declared.Format.{Format}
 use Rattle.formats.specs.declared.Settled.{Settled}
+use Rattle.formats.specs.Formats.{isUsual}
 use Rattle.formats.specs.Sound.{Sound, Limits}
 use Rattle.guards.specs.Guards.{sevenGuards}
 use Rattle.cells.specs.Cells.{cellOf, subframeOf}
@@ -91,10 +92,7 @@ pub record Continues (width overhead sequence : ℕ) (cell₀ : List ℕ) (from 
 pub record Unites (run : List ℕ) (all : ℕ) : Type 0 where
   pub below : (k : ℕ) → allBelow (2 ^ k) run ≡ ltb all (2 ^ k)
 
--- the usual call: 56 hex in order 0, one channel or two, a run that has all their entries
+-- the usual call: the usual settings, and a run that has all their entries
 pub record Usual (st : Sender) (samples : ℕ) : Type 0 where
-  pub format-is : st .format ≡ 0x56
-  pub order-is : st .order ≡ 0
-  pub channels-from : 1 ≤ st .channels
-  pub channels-to : st .channels ≤ 2
+  pub settings-are : isUsual (st .format) (st .channels) (st .order) ≡ true
   pub samples-are : samples ≡ 12

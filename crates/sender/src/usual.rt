@@ -64,23 +64,13 @@ fn fill_usual(sequence: u64, samples: &[u64], ancillary: &[u8], cell: &mut [u8])
 pub(crate) fn is_usual(state: Sender, samples: usize, ancillary: usize) -> bool
     ensures { λ r. ⌜ (r ≡ true → Usual state samples) ⌝ }
 {
-    if state.format != 0x56 {
-        return false;
-    }
-    if state.order != 0 {
-        return false;
-    }
     if samples != 12 {
         return false;
     }
     if ancillary != 12 {
         return false;
     }
-    let channels = state.channels;
-    match channels {
-        1 | 2 => true,
-        _ => false,
-    }
+    formats::is_usual(state.format, state.channels, state.order)
 }
 
 // Writes the next cell of a usual call, or gives its refusal.
