@@ -20,7 +20,8 @@ use Rattle.log.specs.declared.keep.Kept.{Kept}
 use Rattle.log.specs.Numbers.{numberAt}
 use Rattle.log.specs.Records.{noHeader, headerRefusal, headerOfNumbers, headerOf, secondNumber, thirdNumber}
 use Rattle.log.specs.Written.{Keeps, kept, headerOctets, headerRefused}
-use Rattle.log.proofs.Keeping.{keeps, stored}
+use Rattle.runs.proofs.Filling.{stored}
+use Rattle.log.proofs.Keeping.{keeps}
 use Rattle.log.proofs.Laws.{next-small, groups-1}
 
 pub settled-refusal : (octet channels order : ℕ) → settingsOf octet channels order .refusal ≡ settingsRefusal octet channels order

@@ -4,3 +4,4 @@ pub mod Keeping
 pub mod Laws
 pub mod One
 pub mod Places
+pub mod Walks

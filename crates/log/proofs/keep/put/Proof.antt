@@ -5,7 +5,6 @@ use mathlib.Core.Path.{refl}
 use borrow.Author.Needs.{needs}
 use lib.ListN.{length}
 use Rattle.runs.proofs.Filling.{Filled, begun, turned, done}
-use Rattle.log.specs.Written.{writtenAt}
 use Rattle.log.proofs.keep.put.Statement.{statement}
 use Rattle.log.proofs.keep.put.Tie as tie
 
@@ -43,7 +42,6 @@ same-length : tie.Need-same-length Inv-loop μ-loop
 same-length c = search needs
 
 returns : tie.Need-returns Inv-loop μ-loop
-unfolding writtenAt
 returns c = done _ _ _ (c .before .loop .inv .1) (c .loop-test .left)
 
 pub put-spec : {M : Type 1} → statement M
