@@ -26,18 +26,6 @@ long c = let l : length (c .args .t1) ≡ 25 = c .good .0 .1 .0 .1 in length-dro
 loop-holds : tie.Need-loop-holds Inv-loop μ-loop
 loop-holds c = (omega arith, refl)
 
-add-rest : tie.Need-add-rest Inv-loop μ-loop
-add-rest c = search needs
-
-array-read-rest : tie.Need-array-read-rest Inv-loop μ-loop
-array-read-rest c = search needs
-
-array-write-rest : tie.Need-array-write-rest Inv-loop μ-loop
-array-write-rest c = search needs
-
-add-i : tie.Need-add-i Inv-loop μ-loop
-add-i c = search needs
-
 loop-less : tie.Need-loop-less Inv-loop μ-loop
 loop-less c = omega arith
 
@@ -59,14 +47,4 @@ returns c =
 pub after-first-spec : {M : Type 1} → statement M
 after-first-spec =
     tie.close
-    (tie.spec
-    Inv-loop
-    μ-loop
-    loop-holds
-    add-rest
-    array-read-rest
-    array-write-rest
-    add-i
-    loop-less
-    loop-again
-    returns)
+    (tie.spec Inv-loop μ-loop loop-holds (search needs) (search needs) (search needs) (search needs) loop-less loop-again returns)

@@ -24,18 +24,6 @@ long c = c .good .1 .0 .1 .0 .1
 loop-holds : tie.Need-loop-holds Inv-loop μ-loop
 loop-holds c = (omega arith, refl)
 
-array-read-octets : tie.Need-array-read-octets Inv-loop μ-loop
-array-read-octets c = search needs
-
-add-octets : tie.Need-add-octets Inv-loop μ-loop
-add-octets c = search needs
-
-array-write-octets : tie.Need-array-write-octets Inv-loop μ-loop
-array-write-octets c = search needs
-
-add-i : tie.Need-add-i Inv-loop μ-loop
-add-i c = search needs
-
 loop-less : tie.Need-loop-less Inv-loop μ-loop
 loop-less c = omega arith
 
@@ -58,14 +46,4 @@ returns c =
 pub with-first-spec : {M : Type 1} → statement M
 with-first-spec =
     tie.close
-    (tie.spec
-    Inv-loop
-    μ-loop
-    loop-holds
-    array-read-octets
-    add-octets
-    array-write-octets
-    add-i
-    loop-less
-    loop-again
-    returns)
+    (tie.spec Inv-loop μ-loop loop-holds (search needs) (search needs) (search needs) (search needs) loop-less loop-again returns)
