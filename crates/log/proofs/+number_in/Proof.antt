@@ -62,5 +62,5 @@ pub +number-in-spec : {M : Type 1} → statement M
 +number-in-spec =
     close groups
     (λ t. lts.spec (known t) (given t) number-in.Post
-    (λ c κs. search needs) (returns t) (λ c κs. search needs) (returns-2 t) (λ c. search needs) (λ c κs. search needs) (λ c. search needs)
-    (returns-3 t) (λ c. search needs) (number-in-requires t) (behind-requires t) (returns-4 t))
+    (search needs) (returns t) (search needs) (returns-2 t) (search needs) (search needs) (search needs)
+    (returns-3 t) (search needs) (number-in-requires t) (behind-requires t) (returns-4 t))
