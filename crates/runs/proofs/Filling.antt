@@ -1,12 +1,12 @@
 -- A lent run that a loop fills with given entries from a place on: the loop's invariant, and its three laws.
 -- Assumes nothing.
-use mathlib.Core.List.{List, _∷_, _++_}
+use mathlib.Core.List.{List, _∷_, _++_, append-nil}
 use mathlib.Core.Path.{_≡_, refl, sym, _∙_, ap}
 use Prim.Native.Nat.{ℕ, zero, _+_, _≤_, _<_}
 use native.Mathlib.Nat.{zero-add}
 use native.Mathlib.Numerals.{add-one}
 use native.Mathlib.Omega.{arith}
-use lib.ListN.{length, getD, take, drop, set, length-set}
+use lib.ListN.{length, getD, take, drop, set, length-set, drop-of-length-le}
 use Rattle.runs.specs.Runs.{over, written}
 use lib.Seq.{paste, paste-zero, paste-suc, take-all, sets, sets-eq}
 
@@ -50,6 +50,12 @@ module _ (d₀ vs : List ℕ) where
   pub done-front : {d : List ℕ} {i : ℕ} → Filled d d₀ 0 vs i → length vs ≤ i → d ≡ over vs d₀
   unfolding over
   done-front so-far all = done d₀ 0 vs so-far all ∙ rw (zero-add (length vs))
+
+-- a run that is written to its end
+module _ (d₀ vs : List ℕ) where
+  pub done-to-end : {d : List ℕ} {i : ℕ} (at : ℕ) → Filled d d₀ at vs i → length vs ≤ i → length d₀ ≤ at + length vs → d ≡ take at d₀ ++ vs
+  done-to-end at so-far all end =
+      done d₀ at vs so-far all ∙ ap (λ (l : List ℕ). take at d₀ ++ vs ++ l) (drop-of-length-le d₀ end) ∙ append-nil (take at d₀ ++ vs)
 
 -- entries stored one after the other
 pub stored : (vs run : List ℕ) (at : ℕ) → at + length vs ≤ length run → sets run at vs ≡ written run at vs
