@@ -7,7 +7,7 @@ use native.Mathlib.Omega.{arith}
 use native.Mathlib.Numerals.{add-one}
 use borrow.Author.Tests.{lt-ltb, le-ltb, eq-eqb, ne-eqb, ltb-false, eqb-true}
 use lib.Dec.{eqb, ltb}
-use Rattle.runs.proofs.Laws.{split}
+use Rattle.runs.proofs.Laws.{split, past}
 use lib.ListN.{length, set}
 use lib.Seq.{sets}
 use Rattle.runs.specs.Runs.{written}
@@ -46,11 +46,9 @@ module _ (log : List ℕ) (place n : ℕ) where
   pub number-fits : numberRefusal log place n ≡ 0 → (n ≤ 2097151) × (place + length (groupsOf 3 n) ≤ length log)
   unfolding numberRefusal
   number-fits ok =
-      split (ltb 2097151 n)
-      (λ t. absurd (let z : _≡_ {A = ℕ} 11 0 = rw t at ok in omega arith))
-      (λ t. split (ltb (length log) (place + length (groupsOf 3 n)))
-      (λ u. absurd (let z : _≡_ {A = ℕ} 11 0 = rw (t, u) at ok in omega arith))
-      (λ u. (ltb-false 2097151 n t, ltb-false (length log) (place + length (groupsOf 3 n)) u)))
+      let small = past (ltb 2097151 n) 10 _ ok in
+      let room = past (ltb (length log) (place + length (groupsOf 3 n))) 10 0 (small .1) in
+      (ltb-false 2097151 n (small .0), ltb-false (length log) (place + length (groupsOf 3 n)) (room .0))
 
   -- stores of a number's octets, one after the other, are its shortest form written
   groups-stored : (octets : List ℕ) {after : List ℕ} {answer : Kept} → n ≤ 2097151 → groupsOf 3 n ≡ octets → place + length octets ≤ length log

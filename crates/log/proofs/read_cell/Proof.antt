@@ -1,10 +1,7 @@
 -- `log::read_cell` meets its contract.
 -- Assumes nothing.
-use Rattle.log.specs.Records.{from}
-use Rattle.log.specs.declared.Record.{Record}
 use Rattle.log.proofs.Places.{room-of, part-cell, part-none}
 use native.Mathlib.Omega.{arith}
-use mathlib.Core.Path.{ap}
 use borrow.Author.Needs.{needs}
 use Rattle.log.proofs.read_cell.Statement.{statement}
 use Rattle.log.proofs.read_cell.Tie as tie
@@ -16,19 +13,13 @@ part-result-end : tie.Need-part-result-end
 part-result-end c = omega (arith, room-of _ _ (c .before .before .read-record .ensures))
 
 returns : tie.Need-returns
-returns c = (
-  part-cell _ _ (c .before .before .before .read-record .ensures) (c .before .if1 .taken),
-  ap (λ (r : Record). from (c .before .before .before .before .before .args .log .ptr) (r .start)) (c .before .before .before .read-record .ensures),
-)
+returns c = part-cell _ _ _ (c .before .before .before .read-record .ensures) (c .before .if1 .taken)
 
 part-result-end-2 : tie.Need-part-result-end-2
 part-result-end-2 c = omega (arith, room-of _ _ (c .before .before .read-record .ensures))
 
 returns-2 : tie.Need-returns-2
-returns-2 c = (
-  part-none _ _ (c .before .before .before .read-record .ensures) (c .before .if1 .left),
-  ap (λ (r : Record). from (c .before .before .before .before .before .args .log .ptr) (r .start)) (c .before .before .before .read-record .ensures),
-)
+returns-2 c = part-none _ _ _ (c .before .before .before .read-record .ensures) (c .before .if1 .left)
 
 pub read-cell-spec : {M : Type 1} → statement M
 read-cell-spec =
