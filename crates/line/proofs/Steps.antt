@@ -26,7 +26,6 @@ use Rattle.sender.specs.declared.Sender.{Sender}
 use Rattle.sender.specs.Packing.{Packable}
 use Rattle.sender.specs.Sender as S
 use Rattle.sender.proofs.Laws as SL
-use Rattle.receiver.specs.declared.Receiver.{Receiver}
 use Rattle.receiver.specs.Receiver as R
 use Rattle.receiver.proofs.Laws as RL
 use Rattle.line.specs.Demands.{SendCall, ReceiveCall, Receives, InSettings, GivesBack}
