@@ -3,7 +3,7 @@
 use mathlib.Core.Bool.{Bool, true, false, false≢true, cond, not, _&&_, _||_, Bool·beq}
 use mathlib.Core.List.{List, [], _∷_}
 use mathlib.Core.Logic.{_⊎_, inl, inr, ⊎-elim}
-use mathlib.Core.Path.{_≡_, refl, sym, _∙_, ap}
+use mathlib.Core.Path.{_≡_, refl, sym, _∙_, ap, ap₂, subst}
 use Prim.Native.Nat.{ℕ, suc, _+_, _*_, _/_, _%_, _≤_, _<_}
 use native.Mathlib.Decide.{decLt}
 use native.Mathlib.Nat.{mod-lt, lt-of-not-le, le-of-suc-le-suc, pos-of-ne-zero, mul-div-le, le-div-iff-mul-le}
@@ -29,11 +29,14 @@ use Rattle.formats.specs.Formats.{
   eleven,
   isAmong,
   isBase,
+  noFormat,
   formatOf,
   settingsRefusal,
   settingsOf,
+  refusalBy,
   settled,
   unsettledBy,
+  usualWith,
 }
 
 pub length-low : {code : ℕ} → code < 2 → lengthOf code ≡ 0
@@ -62,13 +65,13 @@ wholes = 8 ∷ 16 ∷ 24 ∷ 32 ∷ 48 ∷ []
 abbrev pub bitsOf : ℕ → ℕ → ℕ
 bitsOf sample octet = sample + 4 * (octet / 64) + 4 * (octet / 16 % 4)
 
--- the rules of the paper's first paragraph, with overhead alone left out as not yet in the base
+-- the rules of the paper's first paragraph for an octet with no or four ancillary bits, with overhead alone left out as not yet
+-- in the base
 pub ruled : ℕ → Bool
 ruled octet =
-    cond (ltb 1 (octet / 64)) false
-    (cond (ltb (octet / 64) (octet / 16 % 4)) false
+    cond (ltb (octet / 64) (octet / 16 % 4)) false
     (cond (eqb (sampleBits octet) 0) false
-    (isAmong (bitsOf (sampleBits octet) octet) wholes)))
+    (isAmong (bitsOf (sampleBits octet) octet) wholes))
 
 beq-eq : (a b : Bool) → T (Bool·beq a b) → a ≡ b
 beq-eq true true t = refl
@@ -77,10 +80,10 @@ beq-eq false true t = absurd t
 beq-eq false false t = refl
 
 -- the rules and the table say the same of each octet
-pub ruled-base : {octet : ℕ} → octet < 256 → ruled octet ≡ isBase octet
+pub ruled-base : {octet : ℕ} → octet < 128 → ruled octet ≡ isBase octet
 unfolding ruled isBase isAmong eleven sampleBits lengthOf every
 ruled-base {octet} h =
-    beq-eq (ruled octet) (isBase octet) (every-at (λ k. Bool·beq (ruled k) (isBase k)) 256 tt octet h)
+    beq-eq (ruled octet) (isBase octet) (every-at (λ k. Bool·beq (ruled k) (isBase k)) 128 tt octet h)
 
 -- a `match`'s arm is taken where the number is among its keys
 among-key : (keys : List ℕ) (n : ℕ) → hasKey keys n ≡ isAmong n keys
@@ -113,45 +116,32 @@ among-below bound (x ∷ xs) {n} t h =
     let apart : x ≡ n → ⊥ = λ e. omega (arith, ltb→lt x bound (both-left (ltb x bound) (below bound xs) t)) in
     rw (ne-eqb x n apart) (among-below bound xs (both-right (ltb x bound) (below bound xs) t) h)
 
--- a number beyond an octet is none of the eleven
-pub beyond : {octet : ℕ} → 255 < octet → isBase octet ≡ false
+-- a number with more ancillary bits, or beyond an octet, is none of the eleven
+pub above : {octet : ℕ} → 127 < octet → isBase octet ≡ false
 unfolding isBase eleven below
-beyond h = among-below 256 eleven tt h
+above h = among-below 128 eleven tt h
 
--- what each rule refuses, and what the last one decides
-module _ {octet : ℕ} (h : octet < 256) where
-  pub by-ancillary : 1 < octet / 64 → false ≡ isBase octet
-  unfolding ruled
-  by-ancillary above = rw (← ruled-base h, lt-ltb _ _ above)
+pub beyond : {octet : ℕ} → 255 < octet → isBase octet ≡ false
+beyond h = above (omega arith)
 
-  pub by-overhead : octet / 64 ≤ 1 → octet / 64 < octet / 16 % 4 → false ≡ isBase octet
-  unfolding ruled
-  by-overhead one alone = rw (← ruled-base h, le-ltb _ _ one, lt-ltb _ _ alone)
-
-  pub by-length : octet / 64 ≤ 1 → octet / 16 % 4 ≤ octet / 64 → sampleBits octet ≡ 0 → false ≡ isBase octet
-  unfolding ruled
-  by-length one with reserved = rw (← ruled-base h, le-ltb _ _ one, le-ltb _ _ with, eq-eqb _ _ reserved)
-
-  pub by-bits : octet / 64 ≤ 1 → octet / 16 % 4 ≤ octet / 64 → (sampleBits octet ≡ 0 → ⊥)
-      → isAmong (bitsOf (sampleBits octet) octet) wholes ≡ isBase octet
-  unfolding ruled
-  by-bits one with known = rw (← ruled-base h, le-ltb _ _ one, le-ltb _ _ with, ne-eqb _ _ known)
+base-low : (octet : ℕ) → isBase octet ≡ true → octet < 128
+base-low octet h =
+    elim (decLt octet 128) [
+      | yes less ↦ less
+      | no more ↦ absurd (false≢true (sym (above (le-of-suc-le-suc (lt-of-not-le more))) ∙ h))
+    ]
 
 pub base-octet : (octet : ℕ) → isBase octet ≡ true → octet < 256
-base-octet octet h =
-    elim (decLt octet 256) [
-      | yes less ↦ less
-      | no above ↦ absurd (false≢true (sym (beyond (le-of-suc-le-suc (lt-of-not-le above))) ∙ h))
-    ]
+base-octet octet h = omega (arith, base-low octet h)
 
 by-bool : (b x : Bool) → b ≡ true → T (not b || x) → T x
 by-bool true x h t = t
 by-bool false x h t = absurd (false≢true h)
 
 -- what a test shows of each of the eleven octets
-of-base : (test : ℕ → Bool) → T (every (λ k. not (isBase k) || test k) 256) → (octet : ℕ) → isBase octet ≡ true → T (test octet)
+of-base : (test : ℕ → Bool) → T (every (λ k. not (isBase k) || test k) 128) → (octet : ℕ) → isBase octet ≡ true → T (test octet)
 of-base test t octet h =
-    by-bool (isBase octet) (test octet) h (every-at (λ k. not (isBase k) || test k) 256 t octet (base-octet octet h))
+    by-bool (isBase octet) (test octet) h (every-at (λ k. not (isBase k) || test k) 128 t octet (base-low octet h))
 
 -- the format of an octet of the eleven
 abbrev pub fieldsOf : ℕ → Format
@@ -189,23 +179,48 @@ sound-fields octet h =
 pub sound-format : (octet : ℕ) → isBase octet ≡ true → Sound (formatOf octet)
 sound-format octet h = rw (base-format octet h) (sound-fields octet h)
 
--- the format that the octet's fields and these sample bits make
-abbrev pub made : ℕ → ℕ → Format
-made sample octet =
+-- S by the rules: what each refuses, and what the last one decides
+pub no-slots : (octet : ℕ) → isBase octet ≡ false → 0 ≡ formatOf octet .slots
+unfolding formatOf
+no-slots octet h = rw h
+
+module _ {octet : ℕ} (h : octet < 128) where
+  pub by-overhead : octet / 64 < octet / 16 % 4 → isBase octet ≡ false
+  unfolding ruled
+  by-overhead alone = rw (← ruled-base h, lt-ltb _ _ alone)
+
+  module _ (with : octet / 16 % 4 ≤ octet / 64) where
+    pub by-length : sampleBits octet ≡ 0 → isBase octet ≡ false
+    unfolding ruled
+    by-length reserved = rw (← ruled-base h, le-ltb _ _ with, eq-eqb _ _ reserved)
+
+    pub by-bits : (sampleBits octet ≡ 0 → ⊥) → isAmong (bitsOf (sampleBits octet) octet) wholes ≡ isBase octet
+    unfolding ruled
+    by-bits known = rw (← ruled-base h, le-ltb _ _ with, ne-eqb _ _ known)
+
+pub slots-by-bits : (octet : ℕ) {bits : ℕ} → isBase octet ≡ true → bitsOf (sampleBits octet) octet ≡ bits
+    → 48 / (bits / 8) ≡ formatOf octet .slots
+unfolding slotsOf widthOf ancillaryBits overheadBits
+slots-by-bits octet {bits} h e =
+    let whole : bits ≡ sampleBits octet + octet / 64 * 4 + octet / 16 % 4 * 4 = omega (arith, e) in
+    ap (λ (n : ℕ). 48 / (n / 8)) whole ∙ ap (λ (f : Format). f .slots) (sym (base-format octet h))
+
+-- the format that the octet's fields, these sample bits and these slots make
+abbrev pub made : ℕ → ℕ → ℕ → Format
+made sample slots octet =
     record {
       sample = sample;
       ancillary = octet / 64 * 4;
       overhead = octet / 16 % 4 * 4;
       width = (sample + octet / 64 * 4 + octet / 16 % 4 * 4) / 8;
-      slots = 48 / ((sample + octet / 64 * 4 + octet / 16 % 4 * 4) / 8);
+      slots = slots;
     }
 
-pub made-format : {sample : ℕ} (octet : ℕ) → sample ≡ sampleBits octet → isBase octet ≡ true → made sample octet ≡ formatOf octet
-unfolding ancillaryBits overheadBits widthOf slotsOf
-made-format octet e h = ap (λ (s : ℕ). made s octet) e ∙ sym (base-format octet h)
-
-pub made-sound : {sample : ℕ} (octet : ℕ) → sample ≡ sampleBits octet → isBase octet ≡ true → Sound (made sample octet)
-made-sound octet e h = rw (made-format octet e h) (sound-format octet h)
+pub made-format : {sample slots : ℕ} (octet : ℕ) → sample ≡ sampleBits octet → slots ≡ formatOf octet .slots → isBase octet ≡ true
+    → made sample slots octet ≡ formatOf octet
+unfolding ancillaryBits overheadBits widthOf
+made-format octet e n h =
+    ap₂ (λ (s k : ℕ). made s k octet) e (n ∙ ap (λ (f : Format). f .slots) (base-format octet h)) ∙ sym (base-format octet h)
 
 base-or-not : (octet : ℕ) → (isBase octet ≡ true) ⊎ (isBase octet ≡ false)
 base-or-not octet = go (isBase octet)
@@ -218,62 +233,88 @@ pub not-base : (octet : ℕ) → formatOf octet .slots ≡ 0 → isBase octet �
 not-base octet e =
     ⊎-elim (λ h. absurd (let l = sound-format octet h .slots-from in omega arith)) (λ h. h) (base-or-not octet)
 
+pub no-format : (octet : ℕ) → formatOf octet .slots ≡ 0 → noFormat ≡ formatOf octet
+unfolding formatOf
+no-format octet e = rw (not-base octet e)
+
 pub is-base : (octet : ℕ) → (formatOf octet .slots ≡ 0 → ⊥) → isBase octet ≡ true
 unfolding formatOf
 is-base octet some = ⊎-elim (λ h. h) (λ h. absurd (some (rw h))) (base-or-not octet)
 
--- what each of checks 1 to 3 refuses, and what they settle, by the format that the octet gives
-module _ {f : Format} (octet channels order : ℕ) (given : f ≡ formatOf octet) where
-  by-refusal : {n : ℕ} → settingsRefusal octet channels order ≡ suc n → unsettledBy (suc n) ≡ settingsOf octet channels order
-  unfolding settingsOf
-  by-refusal e = rw (e, eqb·suc-zero)
+-- checks 1 to 3 by S, one after the other
+module _ (slots channels order : ℕ) where
+  pub by-1 : slots ≡ 0 → 1 ≡ refusalBy slots channels order
+  by-1 none = rw (eq-eqb slots 0 none)
 
-  pub refuses-1 : f .slots ≡ 0 → unsettledBy 1 ≡ settingsOf octet channels order
-  unfolding settingsRefusal
-  refuses-1 none = by-refusal (rw (not-base octet (ap (λ (g : Format). g .slots) (sym given) ∙ none)))
-
-  module _ (some : f .slots ≡ 0 → ⊥) where
-    base : isBase octet ≡ true
-    base = is-base octet (λ e. some (ap (λ (g : Format). g .slots) given ∙ e))
-
-    slots : f .slots ≡ slotsOf octet
-    slots = ap (λ (g : Format). g .slots) (given ∙ base-format octet base)
-
-    pub refuses-2 : channels ≡ 0 → unsettledBy 2 ≡ settingsOf octet channels order
-    unfolding settingsRefusal
-    refuses-2 none = by-refusal (rw (base, eq-eqb _ _ none))
+  module _ (some : slots ≡ 0 → ⊥) where
+    pub by-2 : channels ≡ 0 → 2 ≡ refusalBy slots channels order
+    by-2 none = rw (ne-eqb slots 0 some, eq-eqb channels 0 none)
 
     module _ (any : channels ≡ 0 → ⊥) where
-      pub refuses-2-above : f .slots < channels → unsettledBy 2 ≡ settingsOf octet channels order
-      unfolding settingsRefusal
-      refuses-2-above many =
-          let above : slotsOf octet < channels = rw slots at many in
-          by-refusal (rw (base, ne-eqb _ _ any, lt-ltb _ _ above))
+      pub by-2-above : slots < channels → 2 ≡ refusalBy slots channels order
+      by-2-above many = rw (ne-eqb slots 0 some, ne-eqb channels 0 any, lt-ltb slots channels many)
 
-      module _ (few : channels ≤ f .slots) where
-        fit : channels ≤ slotsOf octet
-        fit = rw slots at few
+      module _ (fit : channels ≤ slots) where
+        pub by-3 : 1 < order → 3 ≡ refusalBy slots channels order
+        by-3 above = rw (ne-eqb slots 0 some, ne-eqb channels 0 any, le-ltb slots channels fit, lt-ltb 1 order above)
 
-        pub refuses-3 : 1 < order → unsettledBy 3 ≡ settingsOf octet channels order
-        unfolding settingsRefusal
-        refuses-3 above = by-refusal (rw (base, ne-eqb _ _ any, le-ltb _ _ fit, lt-ltb _ _ above))
+        pub by-no : order ≤ 1 → 0 ≡ refusalBy slots channels order
+        by-no within = rw (ne-eqb slots 0 some, ne-eqb channels 0 any, le-ltb slots channels fit, le-ltb 1 order within)
 
-        pub settles : order ≤ 1
-            → record { refusal = 0; format = f; channels = channels; times = f .slots / channels; «by_channel» = eqb order 1 }
-            ≡ settingsOf octet channels order
-        unfolding settingsOf settingsRefusal
-        settles within =
-            ap
-            (λ (g : Format).
-            record {
-              refusal = 0;
-              format = g;
-              channels = channels;
-              times = g .slots / channels;
-              «by_channel» = eqb order 1;
-            })
-            given
-            ∙ rw (base, ne-eqb _ _ any, le-ltb _ _ fit, le-ltb _ _ within)
+-- and by the octet
+by-base : (octet channels order : ℕ) → isBase octet ≡ true
+    → refusalBy (formatOf octet .slots) channels order ≡ settingsRefusal octet channels order
+unfolding settingsRefusal
+by-base octet channels order h =
+    let some : slotsOf octet ≡ 0 → ⊥ = λ e. omega (arith, e, sound-fields octet h .slots-from) in
+    rw (h, base-format octet h, ne-eqb _ _ some)
+
+by-none : (octet channels order : ℕ) → isBase octet ≡ false
+    → refusalBy (formatOf octet .slots) channels order ≡ settingsRefusal octet channels order
+unfolding settingsRefusal formatOf
+by-none octet channels order h = rw h
+
+pub refusal-by : {slots : ℕ} (octet channels order : ℕ) → slots ≡ formatOf octet .slots
+    → refusalBy slots channels order ≡ settingsRefusal octet channels order
+refusal-by octet channels order given =
+    ap (λ (n : ℕ). refusalBy n channels order) given
+    ∙ ⊎-elim (by-base octet channels order) (by-none octet channels order) (base-or-not octet)
+
+pub some-channels : (slots channels order : ℕ) → refusalBy slots channels order ≡ 0 → 1 ≤ channels
+some-channels slots channels order e =
+    let second = past (eqb channels 0 || ltb slots channels) 1 _ (past (eqb slots 0) 0 _ e .1) in
+    pos-of-ne-zero (eqb-false channels 0 (neither (eqb channels 0) (ltb slots channels) (second .0) .0))
+
+-- what they refuse and settle, by the format that the octet gives
+module _ {f : Format} {n : ℕ} (octet channels order : ℕ) (given : f ≡ formatOf octet) (is : n ≡ refusalBy (f .slots) channels order)
+  where
+    refused-is : n ≡ settingsRefusal octet channels order
+    refused-is = is ∙ refusal-by octet channels order (ap (λ (g : Format). g .slots) given)
+
+    pub refuses : (n ≡ 0 → ⊥) → unsettledBy n ≡ settingsOf octet channels order
+    unfolding settingsOf
+    refuses some = rw (← refused-is, ne-eqb _ _ some)
+
+    pub settles : n ≡ 0 → {times : ℕ} → times ≡ f .slots / channels
+        → record { refusal = 0; format = f; channels = channels; times = times; «by_channel» = eqb order 1 }
+        ≡ settingsOf octet channels order
+    unfolding settingsOf
+    settles none {times} e =
+        ap
+        (λ (t : ℕ).
+        record { refusal = 0; format = f; channels = channels; times = t; «by_channel» = eqb order 1 })
+        e
+        ∙ ap
+        (λ (g : Format).
+        record {
+          refusal = 0;
+          format = g;
+          channels = channels;
+          times = g .slots / channels;
+          «by_channel» = eqb order 1;
+        })
+        given
+        ∙ rw (← refused-is, none)
 
 -- checks 1 to 3 passed: what they leave
 pub record Settles (octet channels order : ℕ) : Type 0 where
@@ -355,3 +396,30 @@ module _ {set : Settled} (octet channels order later : ℕ) (given : set ≡ set
 
     pub given-later : orElse (settingsRefusal octet channels order) later ≡ later
     given-later = then-later later given-none
+
+-- 56 hex in order 0, with one channel and with two
+pub usual-one : usualWith 1 12 ≡ settingsOf 0x56 1 0
+unfolding settingsOf settingsRefusal formatOf isBase isAmong eleven sampleBits lengthOf ancillaryBits overheadBits widthOf slotsOf
+usual-one = refl
+
+pub usual-two : usualWith 2 6 ≡ settingsOf 0x56 2 0
+unfolding settingsOf settingsRefusal formatOf isBase isAmong eleven sampleBits lengthOf ancillaryBits overheadBits widthOf slotsOf
+usual-two = refl
+
+module _ {set : Settled} (channels : ℕ) (given : set ≡ settingsOf 0x56 (cond (eqb channels 2) 2 1) 0) where
+  -- what holds of both holds of either
+  pub usual-is : (P : Settled → Type 0) → P (usualWith 1 12) → P (usualWith 2 6) → P set
+  usual-is P one two =
+      split (eqb channels 2)
+      (λ yes-two. subst P (sym (given ∙ ap (λ (b : Bool). settingsOf 0x56 (cond b 2 1) 0) yes-two ∙ sym usual-two)) two)
+      (λ not-two. subst P (sym (given ∙ ap (λ (b : Bool). settingsOf 0x56 (cond b 2 1) 0) not-two ∙ sym usual-one)) one)
+
+  -- they are those of the state that the channels are of
+  pub usual-set : {octet order : ℕ} → octet ≡ 0x56 → order ≡ 0 → 1 ≤ channels → channels ≤ 2 → set ≡ settingsOf octet channels order
+  usual-set octet-is order-is from to =
+      let same : cond (eqb channels 2) 2 1 ≡ channels
+      = split (eqb channels 2) (λ two. rw two (sym (eqb-true channels 2 two)))
+      (λ not-two. rw not-two (let one : 1 ≡ channels = omega (arith, eqb-false channels 2 not-two) in one)) in
+      given
+      ∙ ap (λ (c : ℕ). settingsOf 0x56 c 0) same
+      ∙ ap₂ (λ (f o : ℕ). settingsOf f channels o) (sym octet-is) (sym order-is)

@@ -1,6 +1,8 @@
 // Subframe formats, document 01: what the subframe octet says, and checks 1 to 3 (octet, C, order) in the paper's order.
+ghost use mathlib.Core.Bool.{cond};
 ghost use mathlib.Core.Path.{_≡_};
-ghost use Rattle.formats.specs.Formats.{sampleBits, isBase, formatOf, settingsOf, unsettledBy};
+ghost use Prim.Native.Nat.{_/_, _≤_};
+ghost use Rattle.formats.specs.Formats.{sampleBits, formatOf, refusalBy, settingsOf, unsettledBy, usualWith};
 
 // One subframe in bits, and how many octets wide it is; S, the slots in a cell. All zeros stand for no format.
 pub struct Format {
@@ -36,30 +38,31 @@ fn sample_bits(octet: u32) -> u32
     }
 }
 
-// Whether an octet, as a number that is not cut to an octet before, is one of the eleven base formats. It goes by the rules of
-// the paper's first paragraph, and not by its table.
-fn is_base(octet: u32) -> bool
-    ensures { λ r. ⌜ r ≡ isBase octet ⌝ }
+// S, the slots in a cell, for an octet with these sample bits: 0 where the octet, as a number that is not cut to an octet before,
+// is none of the eleven base formats. It goes by the rules of the paper's first paragraph, and not by its table.
+fn slots_of(octet: u32, sample: u32) -> usize
+    requires { ⌜ sample ≡ sampleBits octet ⌝ }
+    ensures { λ r. ⌜ r ≡ formatOf octet .slots ⌝ }
 {
-    if 255 < octet {
-        return false;
-    }
     let ancillary = octet / 64;
     if 1 < ancillary {
-        return false;
+        return 0;
     }
     let overhead = octet / 16 % 4;
     if ancillary < overhead {
-        return false;
+        return 0;
     }
-    let sample = sample_bits(octet);
     if sample == 0 {
-        return false;
+        return 0;
     }
     let bits = sample + 4 * ancillary + 4 * overhead;
     match bits {
-        8 | 16 | 24 | 32 | 48 => true,
-        _ => false,
+        8 => 48,
+        16 => 24,
+        24 => 16,
+        32 => 12,
+        48 => 8,
+        _ => 0,
     }
 }
 
@@ -67,7 +70,9 @@ fn is_base(octet: u32) -> bool
 fn format_of(octet: u32) -> Format
     ensures { λ r. ⌜ r ≡ formatOf octet ⌝ }
 {
-    if !is_base(octet) {
+    let sample = sample_bits(octet);
+    let slots = slots_of(octet, sample);
+    if slots == 0 {
         return Format {
             sample: 0,
             ancillary: 0,
@@ -76,45 +81,97 @@ fn format_of(octet: u32) -> Format
             slots: 0,
         };
     }
-    let sample = sample_bits(octet);
     let ancillary = octet / 64 * 4;
     let overhead = octet / 16 % 4 * 4;
     let width = (sample + ancillary + overhead) / 8;
-    let slots = 48 / width;
     Format {
         sample: sample as u64,
         ancillary: ancillary as u64,
         overhead: overhead as u64,
         width: width as usize,
-        slots: slots as usize,
+        slots,
     }
 }
 
-// Checks 1 to 3 on numbers as they stand, never cut before: the refusal, or what they settle.
+// T; no division, the dearest step of all, for one channel or two.
+fn times_of(slots: usize, channels: usize) -> usize
+    requires { ⌜ 1 ≤ channels ⌝ }
+    ensures { λ r. ⌜ r ≡ slots / channels ⌝ }
+{
+    if channels == 1 {
+        return slots;
+    }
+    if channels == 2 {
+        return slots / 2;
+    }
+    slots / channels
+}
+
+// Checks 1 to 3 on numbers as they stand, never cut before, by the slots of the octet's format: the refusal, 0 where there is none.
+fn refusal_of(slots: usize, channels: u32, order: u32) -> u8
+    ensures { λ r. ⌜ r ≡ refusalBy slots channels order ⌝ }
+{
+    if slots == 0 {
+        return 1;
+    }
+    if channels == 0 {
+        return 2;
+    }
+    if slots < channels as usize {
+        return 2;
+    }
+    if 1 < order {
+        return 3;
+    }
+    0
+}
+
+// Checks 1 to 3: the refusal, or what they settle.
 pub fn settings(octet: u32, channels: u32, order: u32) -> Settled
     ensures { λ r. ⌜ r ≡ settingsOf octet channels order ⌝ }
 {
     let format = format_of(octet);
     let slots = format.slots;
-    if slots == 0 {
-        return unsettled(1);
+    let refusal = refusal_of(slots, channels, order);
+    if refusal != 0 {
+        return unsettled(refusal);
     }
     let wanted = channels as usize;
-    if wanted == 0 {
-        return unsettled(2);
-    }
-    if slots < wanted {
-        return unsettled(2);
-    }
-    if 1 < order {
-        return unsettled(3);
-    }
+    let times = times_of(slots, wanted);
     Settled {
         refusal: 0,
         format,
         channels: wanted,
-        times: slots / wanted,
+        times,
         by_channel: order == 1,
+    }
+}
+
+// 56 hex in order 0 with one channel or two, as most readings are sent: what it settles, at once.
+pub fn usual(stereo: bool) -> Settled
+    ensures { λ r. ⌜ r ≡ settingsOf 0x56 (cond stereo 2 1) 0 ⌝ }
+{
+    if stereo {
+        return usual_with(2, 6);
+    }
+    usual_with(1, 12)
+}
+
+fn usual_with(channels: usize, times: usize) -> Settled
+    ensures { λ r. ⌜ r ≡ usualWith channels times ⌝ }
+{
+    Settled {
+        refusal: 0,
+        format: Format {
+            sample: 24,
+            ancillary: 4,
+            overhead: 4,
+            width: 4,
+            slots: 12,
+        },
+        channels,
+        times,
+        by_channel: false,
     }
 }
 

@@ -56,6 +56,10 @@ pub guard-le : (length sample v : ℕ) → guardOf length sample v ≤ 7
 unfolding guardOf tenGuard
 guard-le length sample v = omega arith
 
+pub ten-guard-lt : (ten : ℕ) → tenGuard ten < 8
+unfolding tenGuard
+ten-guard-lt ten = omega arith
+
 -- the nine top bits by one shift, where a sample has no bits above its length
 pub nine-top : (length : ℕ) {sample : ℕ} → 8 ≤ length → sample < 2 ^ length → sample * 2 / 2 ^ (length - 8) ≡ nineOf length sample
 unfolding nineOf
@@ -81,3 +85,18 @@ pub seven-guard : {ten : ℕ} (length sample v : ℕ) → ten ≡ nineOf length 
 unfolding guardOf
 seven-guard {ten} length sample v e =
     fold-right (omega (arith, e, nine-lt length sample)) ∙ ap tenGuard e
+
+-- what V adds to the bits of nine sample bits, and those by the seven that they are folded to
+pub with-v : {nine v : ℕ} → nine < 512 → v < 2 → bitXor (tenGuard (nine * 2)) (v * 3) ≡ tenGuard (nine * 2 + v)
+unfolding every tenGuard coefficients divided takenDown
+with-v {nine} {v} h l =
+    let half : (nine * 2 + v) / 2 ≡ nine = omega arith in
+    let odd : (nine * 2 + v) % 2 ≡ v = omega arith in
+    ap₂ (λ (n b : ℕ). bitXor (tenGuard (n * 2)) (b * 3)) (sym half) (sym odd)
+    ∙ eqb→eq _ _
+    (every-at (λ k. eqb (bitXor (tenGuard (k / 2 * 2)) (k % 2 * 3)) (tenGuard k)) 1024 tt (nine * 2 + v) (omega arith))
+
+pub fold-nine : {nine : ℕ} → nine < 512 → tenGuard (bitXor nine (nine / 128) % 128 * 2) ≡ tenGuard (nine * 2)
+unfolding every tenGuard coefficients divided takenDown
+fold-nine {nine} h =
+    eqb→eq _ _ (every-at (λ k. eqb (tenGuard (bitXor k (k / 128) % 128 * 2)) (tenGuard (k * 2))) 512 tt nine h)

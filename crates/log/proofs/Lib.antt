@@ -5,3 +5,4 @@ pub mod Laws
 pub mod One
 pub mod Places
 pub mod Walks
+pub mod Wrong

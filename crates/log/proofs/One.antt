@@ -84,7 +84,7 @@ read-cell-one κs a x y v w pre p q = (p .0 ∙ sym (q .0), p .1 ∙ sym (q .1))
 -- the borrow checker reads no contract with a struct that holds a slice, so these are stated over the clauses
 module _ {M : Type 1} (𝓤 : URA M) (H : Heap 𝓤) (A : Atoms 𝓤) (mem : Memory → SProp 𝓤) (run : Routine → Fun 𝓤) (κs : Lfts 1) where
   module _ (a : Args new.signature κs) where
-    abbrev NewEnsures : Reader → SProp 𝓤
+    abbrev pub NewEnsures : Reader → SProp 𝓤
     NewEnsures x = new.clauses 𝓤 H A mem run κs a .ensures tt x (atExit new.ended κs a (tt, (tt, tt)))
 
     pub new-one : (x y : Reader) → ent 𝓤 (sep 𝓤 (NewEnsures x) (NewEnsures y)) (fact 𝓤 (x ≡ y))
@@ -93,7 +93,7 @@ module _ {M : Type 1} (𝓤 : URA M) (H : Heap 𝓤) (A : Atoms 𝓤) (mem : Mem
         (λ x y p q i. record { log = (p .0 ∙ sym (q .0)) i; place = (p .1 ∙ sym (q .1)) i })
 
   module _ (a : Args next.signature κs) where
-    abbrev NextEnsures : Record → SProp 𝓤
+    abbrev pub NextEnsures : Record → SProp 𝓤
     NextEnsures x = next.clauses 𝓤 H A mem run κs a .ensures tt x (atExit next.ended κs a (tt, tt))
 
     pub next-one : (x y : Record) → ent 𝓤 (sep 𝓤 (NextEnsures x) (NextEnsures y)) (fact 𝓤 (x ≡ y))
@@ -101,7 +101,7 @@ module _ {M : Type 1} (𝓤 : URA M) (H : Heap 𝓤) (A : Atoms 𝓤) (mem : Mem
         both 𝓤 NextEnsures (λ x. x ≡ recordAt (now (a .0 .log)) (a .0 .place)) (λ x y. x ≡ y) (λ x. id⊢ 𝓤 _) (λ x y p q. p ∙ sym q)
 
   module _ (a : Args cell.signature κs) where
-    abbrev CellEnsures : RefT (List ℕ) → SProp 𝓤
+    abbrev pub CellEnsures : RefT (List ℕ) → SProp 𝓤
     CellEnsures x = cell.clauses 𝓤 H A mem run κs a .ensures tt x (atExit cell.ended κs a (tt, tt))
 
     pub cell-one : (x y : RefT (List ℕ)) → ent 𝓤 (sep 𝓤 (CellEnsures x) (CellEnsures y)) (fact 𝓤 (Same x y))
@@ -113,7 +113,7 @@ module _ {M : Type 1} (𝓤 : URA M) (H : Heap 𝓤) (A : Atoms 𝓤) (mem : Mem
         (λ x y p q. (p .0 ∙ sym (q .0), p .1 ∙ sym (q .1)))
 
   module _ (a : Args onward.signature κs) where
-    abbrev OnwardEnsures : Reader → SProp 𝓤
+    abbrev pub OnwardEnsures : Reader → SProp 𝓤
     OnwardEnsures x = onward.clauses 𝓤 H A mem run κs a .ensures tt x (atExit onward.ended κs a (tt, tt))
 
     pub onward-one : (x y : Reader) → ent 𝓤 (sep 𝓤 (OnwardEnsures x) (OnwardEnsures y)) (fact 𝓤 (x ≡ y))
@@ -124,7 +124,7 @@ module _ {M : Type 1} (𝓤 : URA M) (H : Heap 𝓤) (A : Atoms 𝓤) (mem : Mem
         (λ x y p q i. record { log = (p .0 ∙ sym (q .0)) i; place = (p .1 ∙ sym (q .1)) i })
 
   module _ (a : Args read.signature κs) where
-    abbrev ReadEnsures : Record → SProp 𝓤
+    abbrev pub ReadEnsures : Record → SProp 𝓤
     ReadEnsures x = read.clauses 𝓤 H A mem run κs a .ensures tt x (atExit read.ended κs a (tt, (tt, tt)))
 
     pub read-one : (x y : Record) → ent 𝓤 (sep 𝓤 (ReadEnsures x) (ReadEnsures y)) (fact 𝓤 (x ≡ y))

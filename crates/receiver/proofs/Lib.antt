@@ -1,5 +1,7 @@
+pub mod AllSlots
 pub mod Laws
 pub mod Marking
 pub mod One
 pub mod Reading
 pub mod Unpacking
+pub mod Wrong

@@ -19,7 +19,7 @@ use Rattle.formats.specs.Sound.{Sound, Limits}
 use Rattle.cells.specs.Cells.{subframeAt, sampleIn, ancillaryIn, markIn, entriesOf}
 use Rattle.cells.specs.Placement.{slotOf, slotOfEntry}
 use Rattle.cells.proofs.Placement.{slot-lt}
-use Rattle.receiver.specs.Unpacking.{usedIn, ownEntries, written, Unpacks, Writes, Room, Roomy, held, Splits}
+use Rattle.receiver.specs.Unpacking.{usedIn, ownEntries, written, Unpacks, Writes, Room, Misses, Roomy, held, Splits}
 
 -- a run that a loop fills with as many entries as it counts
 module _ (d₀ : List ℕ) (at : ℕ) (vs : List ℕ) {used : ℕ} (long : length vs ≡ used) (room : at + used ≤ length d₀) where
@@ -225,19 +225,18 @@ from-front run new = rw (zero-add (length new))
 pub writes : (set : Settled) (cell : List ℕ) (missing : ℕ) (samples ancillary marks : List ℕ)
     {samples₁ ancillary₁ marks₁ samples₂ ancillary₂ marks₂ : List ℕ}
     → Roomy set missing samples ancillary marks
-    → samples₁ ≡ over (replicate missing 0) samples → ancillary₁ ≡ written ancillary 0 (replicate missing 0)
-    → marks₁ ≡ written marks 0 (replicate missing 2)
+    → Misses missing samples ancillary marks samples₁ ancillary₁ marks₁
     → Unpacks set cell missing samples₁ ancillary₁ marks₁ samples₂ ancillary₂ marks₂
     → Writes set cell missing samples ancillary marks samples₂ ancillary₂ marks₂
-writes set cell missing samples ancillary marks roomy s a m own =
+writes set cell missing samples ancillary marks roomy lost own =
     record {
       samples-are =
-          over-then (replicate missing 0) _ samples (length-replicate missing 0) (omega (arith, roomy .samples-room)) s
+          over-then (replicate missing 0) _ samples (length-replicate missing 0) (omega (arith, roomy .samples-room)) (lost .samples-are)
           (own .samples-are);
       ancillary-is =
-          over-then (replicate missing 0) _ ancillary (length-replicate missing 0) (omega (arith, roomy .ancillary-room)) (a ∙ from-front ancillary _)
+          over-then (replicate missing 0) _ ancillary (length-replicate missing 0) (omega (arith, roomy .ancillary-room)) (lost .ancillary-is ∙ from-front ancillary _)
           (own .ancillary-is);
       marks-are =
-          over-then (replicate missing 2) _ marks (length-replicate missing 2) (omega (arith, roomy .marks-room)) (m ∙ from-front marks _)
+          over-then (replicate missing 2) _ marks (length-replicate missing 2) (omega (arith, roomy .marks-room)) (lost .marks-are ∙ from-front marks _)
           (own .marks-are);
     }

@@ -9,8 +9,8 @@ use lib.ListN.{length, getD, take, drop, replicate}
 use Rattle.runs.specs.Runs.{tab, over}
 use Rattle.formats.specs.declared.Format.{Format}
 use Rattle.formats.specs.declared.Settled.{Settled}
-use Rattle.guards.specs.Guards.{tenGuard}
 use Rattle.cells.specs.Cells.{sampleIn, ancillaryIn, markIn, entriesOf}
+use Rattle.receiver.specs.declared.Receiver.{Receiver}
 
 -- C×T of the settings
 abbrev pub usedIn : Settled → ℕ
@@ -42,6 +42,12 @@ pub record Room (at used : ℕ) (samples ancillary marks : List ℕ) : Type 0 wh
   pub ancillary-room : at + used ≤ length ancillary
   pub marks-room : at + used ≤ length marks
 
+-- three runs after the entries of missing cells were written from their start
+pub record Misses (missing : ℕ) (samples ancillary marks samples₁ ancillary₁ marks₁ : List ℕ) : Type 0 where
+  pub samples-are : samples₁ ≡ over (replicate missing 0) samples
+  pub ancillary-is : ancillary₁ ≡ written ancillary 0 (replicate missing 0)
+  pub marks-are : marks₁ ≡ written marks 0 (replicate missing 2)
+
 abbrev pub Roomy : Settled → ℕ → List ℕ → List ℕ → List ℕ → Type 0
 Roomy set at samples ancillary marks = Room at (usedIn set) samples ancillary marks
 
@@ -57,14 +63,6 @@ twoAt octets at = getD octets at 0 * 256 + getD octets (at + 1) 0
 unfoldable pub nextSlot : ℕ → ℕ → ℕ → ℕ
 nextSlot times used slot = cond (ltb (slot + times) used) (slot + times) (slot + times - (used - 1))
 
--- the mark of a subframe with these nine top sample bits and these five low bits: V, the sequencing bit, three protection bits
-unfoldable pub markBit : ℕ → ℕ → ℕ
-markBit nine low = cond (eqb (low % 8) (tenGuard (nine * 2 + low / 16))) 0 1
-
--- a number whose bits are the marks of all five low bits
-abbrev pub MarksOf : ℕ → ℕ → Type 0
-MarksOf nine bits = (low : ℕ) → low < 32 → bits / 2 ^ low % 2 ≡ markBit nine low
-
 -- what is read off the entries that a run holds from `at` on
 unfoldable pub held : (ℕ → ℕ) → List ℕ → ℕ → ℕ → List ℕ
 held read run at used = tab (λ i. read (getD run (at + i) 0)) used
@@ -74,3 +72,11 @@ pub record Splits (f : Format) (at used : ℕ) (samples ancillary marks samples�
   pub samples-are : samples₁ ≡ written samples at (held (sampleIn f) samples at used)
   pub ancillary-is : ancillary₁ ≡ written ancillary at (held (ancillaryIn f) samples at used)
   pub marks-are : marks₁ ≡ written marks at (held (markIn f) samples at used)
+
+-- the usual call: 56 hex in order 0, one channel or two, a cell of 48 octets
+pub record Usual (st : Receiver) (cell : ℕ) : Type 0 where
+  pub format-is : st .format ≡ 0x56
+  pub order-is : st .order ≡ 0
+  pub channels-from : 1 ≤ st .channels
+  pub channels-to : st .channels ≤ 2
+  pub cell-whole : cell ≡ 48

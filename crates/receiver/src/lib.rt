@@ -4,6 +4,7 @@ ghost use Rattle.receiver.specs.Receiver.{openedOf, Receives};
 
 mod judge;
 mod unpack;
+mod usual;
 
 // A receiver's state, in the paper's words: the subframe octet, C, the order, whether it is started, and the last number.
 pub struct Receiver {
@@ -60,10 +61,8 @@ pub fn opened(format: u32, channels: u32, order: u32) -> Ready
     }
 }
 
-// Takes a cell: C×T entries of zero with mark 2 for each missing cell, then the cell's own, go into the three runs from their
-// start; what stands past these stays. Refused: 1 to 5, 8, 9, 10, and then the state comes back as it went in and nothing is
-// written.
-pub fn receive(
+// Takes a cell, whatever the call.
+fn receive_any(
     state: Receiver,
     cell: &[u8],
     indication: bool,
@@ -117,4 +116,29 @@ pub fn receive(
         second,
         indication,
     }
+}
+
+// Takes a cell: C×T entries of zero with mark 2 for each missing cell, then the cell's own, go into the three runs from their
+// start; what stands past these stays. Refused: 1 to 5, 8, 9, 10, and then the state comes back as it went in and nothing is
+// written.
+pub fn receive(
+    state: Receiver,
+    cell: &[u8],
+    indication: bool,
+    samples: &mut [u64],
+    ancillary: &mut [u8],
+    marks: &mut [u8],
+) -> Received
+    ensures { λ r. ⌜ Receives state (now (cell .entry)) indication (now (samples .entry)) (now (ancillary .entry)) (now (marks .entry)) r (now (samples .exit)) (now (ancillary .exit)) (now (marks .exit)) ⌝ }
+{
+    if usual::is_usual(
+        state,
+        cell.len(),
+        samples.len(),
+        ancillary.len(),
+        marks.len(),
+    ) {
+        return usual::receive(state, cell, indication, samples, ancillary, marks);
+    }
+    receive_any(state, cell, indication, samples, ancillary, marks)
 }

@@ -14,10 +14,10 @@ ghost use Rattle.receiver.specs.Unpacking.{
   Unpacks,
   Writes,
   Room,
+  Misses,
   Together,
   twoAt,
   nextSlot,
-  MarksOf,
   held,
   Splits,
 };
@@ -48,7 +48,7 @@ fn in3(octets: &[u8], at: usize) -> u64
 }
 
 // Four octets likewise.
-fn in4(octets: &[u8], at: usize) -> u64
+pub(crate) fn in4(octets: &[u8], at: usize) -> u64
     requires { ⌜ at + 4 ≤ length (now octets) ⌝ }
     ensures { λ r. ⌜ (r ≡ twoAt (now (octets .entry)) at * 65536 + twoAt (now (octets .entry)) (at + 2)) × (r < 4294967296) ⌝ }
 {
@@ -97,7 +97,7 @@ fn bit_in(format: Format, cell: &[u8], slot: usize) -> u8
 }
 
 // The first eight sequencing bits.
-fn eight_in(format: Format, cell: &[u8]) -> u8
+pub(crate) fn eight_in(format: Format, cell: &[u8]) -> u8
     requires { ⌜ Sound format × (length (now cell) ≡ 48) ⌝ }
     ensures { λ r. ⌜ r ≡ eightIn format (now (cell .entry)) ⌝ }
 {
@@ -162,31 +162,6 @@ fn next_slot(times: usize, used: usize, slot: usize) -> usize
     next - (used - 1)
 }
 
-// For nine sample bits folded to seven, the mark of each five low bits of a subframe, as a bit of the answer. It is one load where
-// the program has one call of it.
-fn marks_of(seven: u64) -> u64
-    ensures { λ r. ⌜ MarksOf (seven % 128) r ⌝ }
-{
-    let key = seven % 128;
-    match key {
-        0 | 11 | 22 | 29 | 39 | 44 | 49 | 58 | 69 | 78 | 83 | 88 | 98 | 105 | 116 | 127 =>
-            0xEFEF7F7F,
-        1 | 10 | 23 | 28 | 38 | 45 | 48 | 59 | 68 | 79 | 82 | 89 | 99 | 104 | 117 | 126 =>
-            0xFBFBFDFD,
-        2 | 9 | 20 | 31 | 37 | 46 | 51 | 56 | 71 | 76 | 81 | 90 | 96 | 107 | 118 | 125 =>
-            0xF7F7FEFE,
-        3 | 8 | 21 | 30 | 36 | 47 | 50 | 57 | 70 | 77 | 80 | 91 | 97 | 106 | 119 | 124 =>
-            0xDFDFBFBF,
-        4 | 15 | 18 | 25 | 35 | 40 | 53 | 62 | 65 | 74 | 87 | 92 | 102 | 109 | 112 | 123 =>
-            0xFDFDFBFB,
-        5 | 14 | 19 | 24 | 34 | 41 | 52 | 63 | 75 | 86 | 93 | 103 | 108 | 113 | 122 => 0x7F7FEFEF,
-        64 => 0x7F7FEFEF,
-        6 | 13 | 16 | 27 | 33 | 42 | 55 | 60 | 67 | 72 | 85 | 94 | 100 | 111 | 114 | 121 =>
-            0xBFBFDFDF,
-        _ => 0xFEFEF7F7,
-    }
-}
-
 // Writes zeros to a run's first `count` entries.
 fn zeros(run: &mut [u64], count: usize)
     requires { ⌜ count ≤ length (now run) ⌝ }
@@ -209,6 +184,21 @@ fn octets(run: &mut [u8], at: usize, count: usize, value: u8)
         run[at + i] = value;
         i += 1;
     }
+}
+
+// Writes `missing` entries of zero with mark 2 to the three runs.
+pub(crate) fn missing_entries(
+    missing: usize,
+    samples: &mut [u64],
+    ancillary: &mut [u8],
+    marks: &mut [u8],
+)
+    requires { ⌜ Room missing 0 (now samples) (now ancillary) (now marks) ⌝ }
+    ensures { λ r. ⌜ Misses missing (now (samples .entry)) (now (ancillary .entry)) (now (marks .entry)) (now (samples .exit)) (now (ancillary .exit)) (now (marks .exit)) ⌝ }
+{
+    zeros(samples, missing);
+    octets(ancillary, 0, missing, 0);
+    octets(marks, 0, missing, 2);
 }
 
 // The subframes of the used slots, in order 0.
@@ -270,7 +260,7 @@ fn split(
         samples[at + i] = sample;
         ancillary[at + i] = (subframe / 16 % 16) as u8;
         let nine = guards::nine_bits(format.sample, sample);
-        marks[at + i] = ((marks_of(nine ^ (nine / 128)) >> (subframe % 32)) % 2) as u8;
+        marks[at + i] = ((tables::marks_of(nine ^ (nine / 128)) >> (subframe % 32)) % 2) as u8;
         i += 1;
     }
 }
@@ -343,8 +333,6 @@ pub(crate) fn write(
     requires { ⌜ Limits set × Together (set .format) × (length (now cell) ≡ 48) × Room missing (usedIn set) (now samples) (now ancillary) (now marks) ⌝ }
     ensures { λ r. ⌜ Writes set (now (cell .entry)) missing (now (samples .entry)) (now (ancillary .entry)) (now (marks .entry)) (now (samples .exit)) (now (ancillary .exit)) (now (marks .exit)) ⌝ }
 {
-    zeros(samples, missing);
-    octets(ancillary, 0, missing, 0);
-    octets(marks, 0, missing, 2);
+    missing_entries(missing, samples, ancillary, marks);
     own_entries(set, cell, missing, samples, ancillary, marks);
 }

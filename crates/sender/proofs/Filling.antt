@@ -1,29 +1,32 @@
 -- Laws of filling: the code's arithmetic on one subframe, and a cell that is filled slot after slot.
 -- Assumes nothing.
 use mathlib.Core.Bool.{true}
-use mathlib.Core.List.{List, _++_, append-nil}
-use mathlib.Core.Path.{_≡_, refl, sym, _∙_, ap, ap₂}
+use mathlib.Core.List.{List, [], _∷_, _++_, append-nil}
+use mathlib.Core.Path.{_≡_, refl, sym, _∙_, ap, ap₂, subst}
 use Prim.Native.Nat.{ℕ, zero, suc, _+_, _*_, _/_, _%_, _-_, _^_, _≤_, _<_}
-use native.Mathlib.Nat.{mul-one, zero-mul, zero-mod, zero-div, suc-mul, pow-le-pow-right, not-suc-le-zero, le-of-suc-le-suc}
+use native.Mathlib.Nat.{mul-one, zero-mul, zero-mod, zero-div, suc-mul, pow-le-pow-right, mod-lt, not-suc-le-zero, le-of-suc-le-suc}
 use native.Mathlib.Numerals.{add-one}
 use native.Mathlib.Omega.{arith}
 use borrow.Author.Tests.{ne-eqb}
 use lib.Arith.{digits-lt}
 use lib.Bits.{bitXor}
+use lib.Dec.{eqb, eqb→eq}
 use lib.ListN.{length, getD, take, drop}
 use lib.Pow.{pow-add, pow-mono, shl-exact}
 use lib.Seq.{take-at, drop-drop, drop-append-add, drop-length}
 use Rattle.runs.specs.Runs.{joined, octetsOf}
-use Rattle.runs.proofs.Laws.{length-joined, length-octets}
+use Rattle.runs.specs.Test.{every}
+use Rattle.runs.proofs.Arms.{NoneOf, orListed, others}
+use Rattle.runs.proofs.Laws.{every-at, length-joined, length-octets}
 use Rattle.formats.specs.declared.Format.{Format}
 use Rattle.formats.specs.Sound.{Sound}
-use Rattle.guards.specs.Guards.{nineOf, sevenGuards, guardOf}
-use Rattle.guards.proofs.Laws.{nine-lt, nine-top, seven-guard}
+use Rattle.guards.specs.Guards.{nineOf, tenGuard, sevenGuards, guardOf}
+use Rattle.guards.proofs.Laws.{nine-lt, nine-top, nine-long, seven-guard, with-v, fold-nine, ten-guard-lt}
 use Rattle.cells.specs.Cells.{overheadOf, subframeOf}
 use Rattle.cells.specs.Placement.{entryOfSlot, nextEntry}
 use Rattle.cells.proofs.Placement.{entry-lt, entry-next}
 use Rattle.cells.proofs.Subframes.{subframe-lt, octets-pow, slot-room, four}
-use Rattle.sender.specs.Packing.{Fillable, Turnable, byChannel, slotWith, written, idleNumber, Continues}
+use Rattle.sender.specs.Packing.{shape, Fillable, Turnable, byChannel, slotWith, written, idleNumber, Continues}
 
 module _ {f : Format} (s : Sound f) {sample ancillary bit : ℕ}
     (hs : sample < 2 ^ f .sample) (ha : ancillary < 2 ^ f .ancillary) (hb : bit < 2)
@@ -91,6 +94,61 @@ module _ {f : Format} (s : Sound f) {sample ancillary bit : ℕ}
       guarded-fits e =
           let far : 256 ^ f .width ≤ 256 ^ 6 = pow-le-pow-right (omega arith) (s .width-to) in
           omega (arith, subframe-guarded e, subframe-lt s hs ha hb)
+
+-- the last octet of a subframe of 56 hex, by the bits of the folded sample and those of the ancillary number
+low-parts : {guard four : ℕ} → guard < 8 → four < 16
+    → bitXor guard (four % 16 * 16 + four % 16 % 2 * 3) ≡ four * 16 + bitXor guard (four % 2 * 3)
+unfolding every
+low-parts {guard} {four} hg hf =
+    let high : (guard * 16 + four) / 16 ≡ guard = omega arith in
+    let rest : (guard * 16 + four) % 16 ≡ four = omega arith in
+    subst
+    (λ (g : ℕ). bitXor g (four % 16 * 16 + four % 16 % 2 * 3) ≡ four * 16 + bitXor g (four % 2 * 3)) high
+    (subst
+    (λ (a : ℕ).
+    bitXor ((guard * 16 + four) / 16) (a % 16 * 16 + a % 16 % 2 * 3) ≡ a * 16 + bitXor ((guard * 16 + four) / 16) (a % 2 * 3))
+    rest
+    (eqb→eq _ _
+    (every-at
+    (λ k.
+    eqb (bitXor (k / 16) (k % 16 % 16 * 16 + k % 16 % 16 % 2 * 3)) (k % 16 * 16 + bitXor (k / 16) (k % 16 % 2 * 3)))
+    128 tt (guard * 16 + four) (omega arith))))
+
+-- the last arm of the ancillary number's part of it
+abbrev firsts : List (List ℕ)
+firsts =
+    (14 ∷ []) ∷ (13 ∷ []) ∷ (12 ∷ []) ∷ (11 ∷ []) ∷ (10 ∷ []) ∷ (9 ∷ []) ∷ (8 ∷ []) ∷ (7 ∷ []) ∷ (6 ∷ []) ∷ (5 ∷ []) ∷ (4 ∷ [])
+    ∷ (3 ∷ []) ∷ (2 ∷ []) ∷ (1 ∷ []) ∷ (0 ∷ []) ∷ []
+
+pub low-rest : (X : Type 0) (four : ℕ) → four < 16 → NoneOf X firsts four → 243 ≡ four * 16 + four % 2 * 3
+unfolding every orListed
+low-rest X four less none = eqb→eq _ _ (others X firsts (λ k. eqb 243 (k * 16 + k % 2 * 3)) 16 tt four less none)
+
+module _ {sample four : ℕ} (hs : sample < 2 ^ 24) (hf : four < 16) where
+  abbrev nine : ℕ
+  nine = sample / 32768
+
+  nine-is : nine ≡ nineOf 24 sample
+  nine-is = (let whole : nine ≡ sample / 32768 % 512 = omega arith in whole) ∙ nine-long sample 24 (omega arith)
+
+  pub usual-low : {guard low : ℕ} → guard ≡ tenGuard (bitXor nine (sample / 4194304) % 128 * 2)
+      → low ≡ four % 16 * 16 + four % 16 % 2 * 3
+      → bitXor guard low ≡ four * 16 + guardOf 24 sample four
+  unfolding guardOf
+  usual-low {guard} {low} guard-is low-is =
+      let further : sample / 4194304 ≡ nine / 128 = omega arith in
+      let few : nine < 512 = omega arith in
+      let own : guard ≡ tenGuard (nine * 2)
+      = guard-is ∙ ap (λ (n : ℕ). tenGuard (bitXor nine n % 128 * 2)) further ∙ fold-nine few in
+      ap₂ bitXor own low-is
+      ∙ low-parts (ten-guard-lt (nine * 2)) hf
+      ∙ ap (λ (g : ℕ). four * 16 + g)
+      (with-v {nine = nine} few (mod-lt four (omega arith)) ∙ ap (λ (n : ℕ). tenGuard (n * 2 + four % 2)) nine-is)
+
+pub usual-subframe : (sample four bit : ℕ) {low : ℕ} → low ≡ four * 16 + guardOf 24 sample four
+    → sample * 256 + (low + bit * 8) ≡ subframeOf (shape 24 4 4) sample four bit
+unfolding subframeOf overheadOf
+usual-subframe sample four bit e = omega (arith, e)
 
 -- octet i of a number, as the code shifts it out
 pub octet-at : (w n i : ℕ) → i < w → n / 2 ^ (8 * (w - 1 - i)) % 256 ≡ getD (octetsOf w n) i 0

@@ -7,7 +7,7 @@ use Prim.Native.Nat.{ℕ, zero, suc, _+_, _*_, _%_, _^_, _≤_, _<_}
 use native.Mathlib.Nat.{suc-ne-zero, mod-lt, mod-eq-of-lt}
 use native.Mathlib.Numerals.{add-one}
 use native.Mathlib.Omega.{arith}
-use borrow.Author.Tests.{lt-ltb, le-ltb, lt-leb, le-leb, ne-eqb, ltb-true, ltb-false, eqb-true, not-false}
+use borrow.Author.Tests.{lt-ltb, le-ltb, lt-leb, le-leb, eq-eqb, ne-eqb, ltb-true, ltb-false, eqb-true, not-false}
 use lib.Bits.{bitOr, or-lt, or-add-and, and-le-l, and-le-r}
 use lib.Dec.{eqb, leb, ltb}
 use lib.ListN.{length, getD, drop, drop-of-length-le}
@@ -31,7 +31,7 @@ use Rattle.formats.proofs.Laws.{
 use Rattle.sender.specs.declared.Sender.{Sender}
 use Rattle.numbers.specs.Numbers.{entryOf}
 use Rattle.sender.specs.Packing.{Packable, packed, Unites}
-use Rattle.sender.specs.Sender.{zeroState, openState, openedOf, numbersRefused, stateRefusal, usedNow, allBelow, lengthsRefused, valuesRefused, indicationRefused, sendRefusal, secondNow, after, cellNow, sentOf, cellAfter, Sends}
+use Rattle.sender.specs.Sender.{zeroState, openState, openedOf, numbersRefused, stateRefusal, usedNow, allBelow, lengthsRefused, valuesRefused, indicationRefused, sendRefusal, secondNow, after, cellNow, sentOf, cellAfter, Writes, Sends}
 
 -- checks 1 to 4, by the settings
 module _ {set : Settled} (octet channels order number : ℕ) (wanted : Bool) (second : ℕ)
@@ -83,6 +83,21 @@ module _ (octet channels order number : ℕ) (wanted : Bool) (second : ℕ) wher
       ≡ openedOf octet channels order number wanted second
   unfolding openedOf
   opens e = rw (← e)
+
+-- check 5, one length after the other
+module _ (used : ℕ) (samples ancillary : List ℕ) (room : ℕ) where
+  pub no-room : (room ≡ 48 → ⊥) → true ≡ lengthsRefused used samples ancillary room
+  unfolding lengthsRefused
+  no-room other = rw (ne-eqb room 48 other)
+
+  module _ (whole : room ≡ 48) where
+    pub no-samples : (length samples ≡ used → ⊥) → true ≡ lengthsRefused used samples ancillary room
+    unfolding lengthsRefused
+    no-samples other = rw (eq-eqb room 48 whole, ne-eqb (length samples) used other)
+
+    pub by-ancillary : length samples ≡ used → not (eqb (length ancillary) used) ≡ lengthsRefused used samples ancillary room
+    unfolding lengthsRefused
+    by-ancillary all = rw (eq-eqb room 48 whole, eq-eqb (length samples) used all)
 
 -- numbers are below a power of two just where the bits that any of them has are
 or-below : (a b k : ℕ) → ltb (bitOr a b) (2 ^ k) ≡ ltb a (2 ^ k) && ltb b (2 ^ k)
@@ -290,13 +305,12 @@ second-lt st indication to = either (st .wanted && (indication && st .sent))
     either true = mod-lt (st .second + 1) (omega arith)
     either false = omega arith
 
--- a call of `send`, refused and taken
+-- a cell refused, and written
 module _ (st : Sender) (indication : Bool) (samples ancillary cell : List ℕ) where
-  pub sends-refused : {n : ℕ} → (n ≡ 0 → ⊥) → n ≡ sendRefusal st indication samples ancillary (length cell)
-      → Sends st indication samples ancillary cell (record { refusal = n; state = st }) cell
-  unfolding sentOf cellAfter
-  sends-refused some e =
-      record { answered = rw (← e, ne-eqb _ _ some); cell-after = rw (← e, ne-eqb _ _ some) }
+  pub writes-refused : {n : ℕ} → (n ≡ 0 → ⊥) → n ≡ sendRefusal st indication samples ancillary (length cell)
+      → Writes st indication samples ancillary cell n cell
+  unfolding cellAfter
+  writes-refused some e = record { refused = e; cell-after = rw (← e, ne-eqb _ _ some) }
 
   module _ {set : Settled} (given : set ≡ settingsOf (st .format) (st .channels) (st .order))
       (none : 0 ≡ sendRefusal st indication samples ancillary (length cell))
@@ -315,8 +329,39 @@ module _ (st : Sender) (indication : Bool) (samples ancillary cell : List ℕ) w
         room-is st indication samples ancillary (length cell) (sym none),
       )
 
-      pub sends-taken : {second word : ℕ} {cell₁ : List ℕ} → second ≡ secondNow st indication → word ≡ entryOf (st .number % 16)
+      pub writes-taken : {second word : ℕ} {cell₁ : List ℕ} → second ≡ secondNow st indication → word ≡ entryOf (st .number % 16)
           → cell₁ ≡ packed set word second samples ancillary
+          → Writes st indication samples ancillary cell 0 cell₁
+      unfolding cellAfter cellNow
+      writes-taken {second} {word} second-is word-is written =
+          let number-to = passes st indication samples ancillary (length cell) (sym none) .number-to in
+          let low : st .number % 16 ≡ st .number = mod-eq-of-lt (omega arith) in
+          record {
+            refused = none;
+            cell-after =
+                written
+                ∙ ap (λ (x : Settled). packed x word second samples ancillary) set-is
+                ∙ ap₂ (λ (w n : ℕ). packed (settled (st .format) (st .channels) (st .order)) w n samples ancillary)
+                (word-is ∙ ap entryOf low) second-is
+                ∙ rw (← none);
+          }
+
+  -- and the answer to it
+  module _ {refusal : ℕ} {cell₁ : List ℕ} (writes : Writes st indication samples ancillary cell refusal cell₁) where
+    pub sends-refused : (refusal ≡ 0 → ⊥) → Sends st indication samples ancillary cell (record { refusal = refusal; state = st }) cell₁
+    unfolding sentOf
+    sends-refused some =
+        record { answered = rw (← writes .refused, ne-eqb _ _ some); cell-after = writes .cell-after }
+
+    module _ (taken : refusal ≡ 0) where
+      pub number-lt : st .number < 16
+      number-lt =
+          omega (
+            arith,
+            passes st indication samples ancillary (length cell) (sym (writes .refused) ∙ taken) .number-to,
+          )
+
+      pub sends-taken : {second : ℕ} → second ≡ secondNow st indication
           → Sends st indication samples ancillary cell
           (record {
             refusal = 0;
@@ -332,16 +377,6 @@ module _ (st : Sender) (indication : Bool) (samples ancillary cell : List ℕ) w
                 };
           })
           cell₁
-      unfolding sentOf after cellAfter cellNow
-      sends-taken {second} {word} second-is word-is written =
-          let number-to = passes st indication samples ancillary (length cell) (sym none) .number-to in
-          let low : st .number % 16 ≡ st .number = mod-eq-of-lt (omega arith) in
-          record {
-            answered = rw (← none, second-is);
-            cell-after =
-                written
-                ∙ ap (λ (x : Settled). packed x word second samples ancillary) set-is
-                ∙ ap₂ (λ (w n : ℕ). packed (settled (st .format) (st .channels) (st .order)) w n samples ancillary)
-                (word-is ∙ ap entryOf low) second-is
-                ∙ rw (← none);
-          }
+      unfolding sentOf after
+      sends-taken second-is =
+          record { answered = rw (← writes .refused, taken, second-is); cell-after = writes .cell-after }

@@ -13,6 +13,7 @@ use Rattle.formats.specs.Sound.{Sound, Limits}
 use Rattle.guards.specs.Guards.{sevenGuards}
 use Rattle.cells.specs.Cells.{cellOf, subframeOf}
 use Rattle.cells.specs.Placement.{entryOfSlot}
+use Rattle.sender.specs.declared.Sender.{Sender}
 use Rattle.sender.specs.Sender.{allBelow}
 
 pub record Packable (set : Settled) (samples ancillary : List ℕ) : Type 0 where
@@ -89,3 +90,11 @@ pub record Continues (width overhead sequence : ℕ) (cell₀ : List ℕ) (from 
 -- the bits that any number of a run has: below a power of two just where all the numbers are
 pub record Unites (run : List ℕ) (all : ℕ) : Type 0 where
   pub below : (k : ℕ) → allBelow (2 ^ k) run ≡ ltb all (2 ^ k)
+
+-- the usual call: 56 hex in order 0, one channel or two, a run that has all their entries
+pub record Usual (st : Sender) (samples : ℕ) : Type 0 where
+  pub format-is : st .format ≡ 0x56
+  pub order-is : st .order ≡ 0
+  pub channels-from : 1 ≤ st .channels
+  pub channels-to : st .channels ≤ 2
+  pub samples-are : samples ≡ 12

@@ -114,6 +114,11 @@ unfoldable pub cellAfter : Sender → Bool → List ℕ → List ℕ → List �
 cellAfter st indication samples ancillary cell =
     cond (eqb (sendRefusal st indication samples ancillary (length cell)) 0) (cellNow st indication samples ancillary) cell
 
+-- what writing the cell promises: the refusal, and the cell
+pub record Writes (st : Sender) (indication : Bool) (samples ancillary cell : List ℕ) (refusal : ℕ) (written : List ℕ) : Type 0 where
+  pub refused : refusal ≡ sendRefusal st indication samples ancillary (length cell)
+  pub cell-after : written ≡ cellAfter st indication samples ancillary cell
+
 -- the whole promise of sending
 pub record Sends (st : Sender) (indication : Bool) (samples ancillary cell : List ℕ) (answer : Sent) (written : List ℕ) : Type 0 where
   pub answered : answer ≡ sentOf st indication samples ancillary (length cell)

@@ -1,10 +1,11 @@
 // The sender's box, document 01: opening and sending, refusals 1 to 7.
 ghost use mathlib.Core.Path.{_≡_};
-ghost use Rattle.sender.specs.Sender.{openedOf, Sends};
+ghost use Rattle.sender.specs.Sender.{openedOf, Writes, Sends};
 
 mod fill;
 mod judge;
 mod pack;
+mod usual;
 
 // A sender's state, in the paper's words: the subframe octet, C, the order, the next cell's number, whether second numbers are
 // kept, the last one (the given start before the first cell), and whether a cell was sent.
@@ -65,6 +66,47 @@ pub fn opened(
     }
 }
 
+// Writes the next cell, or gives the refusal.
+fn write_any(
+    state: Sender,
+    indication: bool,
+    samples: &[u64],
+    ancillary: &[u8],
+    cell: &mut [u8],
+) -> u8
+    ensures { λ r. ⌜ Writes state indication (now (samples .entry)) (now (ancillary .entry)) (now (cell .entry)) r (now (cell .exit)) ⌝ }
+{
+    let set = formats::settings(
+        state.format as u32,
+        state.channels as u32,
+        state.order as u32,
+    );
+    let refusal = judge::send_refusal(set, state, indication, samples, ancillary, cell.len());
+    if refusal != 0 {
+        return refusal;
+    }
+    let second = judge::second_now(state, indication);
+    pack::pack(
+        set,
+        numbers::entry_of(state.number),
+        second,
+        samples,
+        ancillary,
+        cell,
+    );
+    0
+}
+
+// The same, the usual call by its own way.
+fn write(state: Sender, indication: bool, samples: &[u64], ancillary: &[u8], cell: &mut [u8]) -> u8
+    ensures { λ r. ⌜ Writes state indication (now (samples .entry)) (now (ancillary .entry)) (now (cell .entry)) r (now (cell .exit)) ⌝ }
+{
+    if usual::is_usual(state, samples.len(), ancillary.len()) {
+        return usual::write_usual(state, indication, samples, ancillary, cell);
+    }
+    write_any(state, indication, samples, ancillary, cell)
+}
+
 // Writes the next cell: C×T samples and ancillary numbers, time after time, go into the 48 octets of `cell`. Refused: 1 to 7, and
 // then the state comes back as it went in and the cell is not written.
 pub fn send(
@@ -76,24 +118,11 @@ pub fn send(
 ) -> Sent
     ensures { λ r. ⌜ Sends state indication (now (samples .entry)) (now (ancillary .entry)) (now (cell .entry)) r (now (cell .exit)) ⌝ }
 {
-    let set = formats::settings(
-        state.format as u32,
-        state.channels as u32,
-        state.order as u32,
-    );
-    let refusal = judge::send_refusal(set, state, indication, samples, ancillary, cell.len());
+    let refusal = write(state, indication, samples, ancillary, cell);
     if refusal != 0 {
         return Sent { refusal, state };
     }
     let second = judge::second_now(state, indication);
-    pack::pack(
-        set,
-        numbers::entry_of(state.number),
-        second,
-        samples,
-        ancillary,
-        cell,
-    );
     Sent {
         refusal: 0,
         state: Sender {

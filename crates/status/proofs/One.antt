@@ -34,16 +34,14 @@ brought-forward-one κs a x y v w pre p q = (p ∙ sym q, refl)
 
 -- the borrow checker reads no contract with a reference to a struct, so this is stated over the clauses
 module _ {M : Type 1} (𝓤 : URA M) (H : Heap 𝓤) (A : Atoms 𝓤) (mem : Memory → SProp 𝓤) (run : Routine → Fun 𝓤) (κs : Lfts 1) (a : Args bring-forward.signature κs) where
-  -- an answer, and what the lent block is at exit
-  abbrev Left : Type 0
-  Left = Handed × Lasts bring-forward.ended κs a
+  abbrev pub Ensures : Handed → Lasts bring-forward.ended κs a → SProp 𝓤
+  Ensures x v = bring-forward.clauses 𝓤 H A mem run κs a .ensures tt x (atExit bring-forward.ended κs a v)
 
-  abbrev Ensures : Left → SProp 𝓤
-  Ensures x = bring-forward.clauses 𝓤 H A mem run κs a .ensures tt (x .0) (atExit bring-forward.ended κs a (x .1))
+  abbrev pub Says : Handed → Lasts bring-forward.ended κs a → Type 0
+  Says x v = (x ≡ stepOf (a .0 .now) (a .1 .0) (a .1 .1 .0) .handed) × (v .0 ≡ stepOf (a .0 .now) (a .1 .0) (a .1 .1 .0) .block)
 
-  pub bring-forward-one : (x y : Left) → ent 𝓤 (sep 𝓤 (Ensures x) (Ensures y)) (fact 𝓤 (x ≡ y))
-  bring-forward-one =
-      both 𝓤 Ensures
-      (λ x. (x .0 ≡ stepOf (a .0 .now) (a .1 .0) (a .1 .1 .0) .handed) × (x .1 .0 ≡ stepOf (a .0 .now) (a .1 .0) (a .1 .1 .0) .block))
-      (λ x y. x ≡ y) (λ x. id⊢ 𝓤 _)
-      (λ x y p q i. ((p .0 ∙ sym (q .0)) i, ((p .1 ∙ sym (q .1)) i, (tt, (tt, tt)))))
+  pub bring-forward-one : (x y : Handed) (v w : Lasts bring-forward.ended κs a) → ent 𝓤 (sep 𝓤 (Ensures x v) (Ensures y w)) (fact 𝓤 ((x ≡ y) × (v ≡ w)))
+  bring-forward-one x y v w =
+      both 𝓤 (λ (z : Handed × Lasts bring-forward.ended κs a). Ensures (z .0) (z .1)) (λ z. Says (z .0) (z .1))
+      (λ z u. (z .0 ≡ u .0) × (z .1 ≡ u .1)) (λ z. id⊢ 𝓤 _)
+      (λ z u p q. (p .0 ∙ sym (q .0), λ i. ((p .1 ∙ sym (q .1)) i, (tt, (tt, tt))))) (x, v) (y, w)

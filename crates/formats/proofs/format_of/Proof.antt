@@ -1,33 +1,22 @@
 -- `formats::format_of` meets its contract.
 -- Assumes nothing.
-use mathlib.Core.Bool.{Bool, true, cond}
-use mathlib.Core.Path.{_≡_, _∙_, sym, ap}
+use mathlib.Core.Bool.{true}
+use mathlib.Core.Path.{_≡_, _∙_, sym}
 use native.Mathlib.Omega.{arith}
 use borrow.Author.Needs.{needs}
-use borrow.Author.Tests.{not-true, not-false}
-use Rattle.formats.specs.Formats.{isBase, formatOf, noFormat}
-use Rattle.formats.specs.Sound.{Sound}
-use Rattle.formats.proofs.Laws.{fieldsOf, made, made-format, made-sound, sample-le}
+use Rattle.formats.specs.Formats.{isBase, formatOf}
+use Rattle.formats.proofs.Laws.{no-format, is-base, made-format, sample-le}
 use Rattle.formats.proofs.format_of.Statement.{statement}
 use Rattle.formats.proofs.format_of.Tie as tie
-
-is-base-requires : tie.Need-is-base-requires
-is-base-requires c κs = search needs
-
-returns : tie.Need-returns
-unfolding formatOf
-returns c =
-    sym
-    (ap (λ (b : Bool). cond b (fieldsOf (c .before .before .args .octet)) noFormat) (sym (c .before .is-base .ensures) ∙ not-true _ (c .if1 .taken)))
 
 sample-bits-requires : tie.Need-sample-bits-requires
 sample-bits-requires c κs = search needs
 
-base : (c : tie.After-sample-bits) → isBase (c .before .before .before .args .octet) ≡ true
-base c = sym (c .before .before .is-base .ensures) ∙ not-false _ (c .before .if1 .left)
+slots-of-requires : tie.Need-slots-of-requires
+slots-of-requires c κs = search needs
 
-sound : (c : tie.After-sample-bits) → Sound (made (c .sample-bits .result) (c .before .before .before .args .octet))
-sound c = made-sound (c .before .before .before .args .octet) (c .sample-bits .ensures) (base c)
+returns : tie.Need-returns
+returns c = no-format (c .before .before .before .args .octet) (sym (c .before .slots-of .ensures) ∙ c .if1 .taken)
 
 mul-ancillary : tie.Need-mul-ancillary
 mul-ancillary c = search needs
@@ -36,13 +25,13 @@ mul-overhead : tie.Need-mul-overhead
 mul-overhead c = search needs
 
 add-width : tie.Need-add-width
-add-width c = omega (arith, sample-le (c .before .before .before .args .octet), c .sample-bits .ensures)
+add-width c = omega (arith, sample-le (c .before .before .before .args .octet), c .before .before .sample-bits .ensures)
 
 add-width-2 : tie.Need-add-width-2
-add-width-2 c = omega (arith, sample-le (c .before .before .before .args .octet), c .sample-bits .ensures)
+add-width-2 c = omega (arith, sample-le (c .before .before .before .args .octet), c .before .before .sample-bits .ensures)
 
-div-slots : tie.Need-div-slots
-div-slots c = sound c .width-from
+cast-t10 : tie.Need-cast-t10
+cast-t10 c = search needs
 
 cast-t11 : tie.Need-cast-t11
 cast-t11 c = search needs
@@ -53,30 +42,25 @@ cast-t12 c = search needs
 cast-t13 : tie.Need-cast-t13
 cast-t13 c = search needs
 
-cast-t14 : tie.Need-cast-t14
-cast-t14 c = search needs
-
-cast-t15 : tie.Need-cast-t15
-cast-t15 c = omega (arith, sound c .slots-to)
-
 returns-2 : tie.Need-returns-2
-returns-2 c = made-format (c .before .before .before .args .octet) (c .sample-bits .ensures) (base c)
+returns-2 c =
+    let octet = c .before .before .before .args .octet in
+    let slots = c .before .slots-of .ensures in
+    made-format octet (c .before .before .sample-bits .ensures) slots (is-base octet (λ e. c .if1 .left (slots ∙ e)))
 
 pub format-of-spec : {M : Type 1} → statement M
 format-of-spec =
     tie.close
     (tie.spec
-    is-base-requires
-    returns
     sample-bits-requires
+    slots-of-requires
+    returns
     mul-ancillary
     mul-overhead
     add-width
     add-width-2
-    div-slots
+    cast-t10
     cast-t11
     cast-t12
     cast-t13
-    cast-t14
-    cast-t15
     returns-2)

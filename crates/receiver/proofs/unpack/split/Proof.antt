@@ -106,7 +106,7 @@ loop-again c =
     (held (sampleIn (s .args .format)) (now (s .args .samples)) (s .args .at) (s .args .used))
     (held-length (sampleIn (s .args .format)) (now (s .args .samples)) (s .args .at) (s .args .used)) (s .pre .2 .samples-room)
     (inv .0) in
-    (fill-on (now (s .args .samples)) (s .args .at) (held (sampleIn (s .args .format)) (now (s .args .samples)) (s .args .at) (s .args .used)) (held-length (sampleIn (s .args .format)) (now (s .args .samples)) (s .args .at) (s .args .used)) (s .pre .2 .samples-room) (inv .0) less (sample-over (s .args .format) (s .pre .0) (s .pre .1) word ∙ ap (sampleIn (s .args .format)) was ∙ held-at (sampleIn (s .args .format)) (now (s .args .samples)) (s .args .at) (s .args .used) less), fill-on (now (s .args .ancillary)) (s .args .at) (held (ancillaryIn (s .args .format)) (now (s .args .samples)) (s .args .at) (s .args .used)) (held-length (ancillaryIn (s .args .format)) (now (s .args .samples)) (s .args .at) (s .args .used)) (s .pre .2 .ancillary-room) (inv .1) less (ancillary-over (s .args .format) (s .pre .0) (s .pre .1) word ∙ ap (ancillaryIn (s .args .format)) was ∙ held-at (ancillaryIn (s .args .format)) (now (s .args .samples)) (s .args .at) (s .args .used) less), fill-on (now (s .args .marks)) (s .args .at) (held (markIn (s .args .format)) (now (s .args .samples)) (s .args .at) (s .args .used)) (held-length (markIn (s .args .format)) (now (s .args .samples)) (s .args .at) (s .args .used)) (s .pre .2 .marks-room) (inv .2) less (mark-over (s .args .format) (s .pre .0) (s .pre .1) word (c .marks-of .result) (c .before .nine-bits .ensures) (c .marks-of .ensures) ∙ ap (markIn (s .args .format)) was ∙ held-at (markIn (s .args .format)) (now (s .args .samples)) (s .args .at) (s .args .used) less))
+    (fill-on (now (s .args .samples)) (s .args .at) (held (sampleIn (s .args .format)) (now (s .args .samples)) (s .args .at) (s .args .used)) (held-length (sampleIn (s .args .format)) (now (s .args .samples)) (s .args .at) (s .args .used)) (s .pre .2 .samples-room) (inv .0) less (sample-over (s .args .format) (s .pre .0) (s .pre .1) word ∙ ap (sampleIn (s .args .format)) was ∙ held-at (sampleIn (s .args .format)) (now (s .args .samples)) (s .args .at) (s .args .used) less), fill-on (now (s .args .ancillary)) (s .args .at) (held (ancillaryIn (s .args .format)) (now (s .args .samples)) (s .args .at) (s .args .used)) (held-length (ancillaryIn (s .args .format)) (now (s .args .samples)) (s .args .at) (s .args .used)) (s .pre .2 .ancillary-room) (inv .1) less (ancillary-over (s .args .format) (s .pre .0) (s .pre .1) word ∙ ap (ancillaryIn (s .args .format)) was ∙ held-at (ancillaryIn (s .args .format)) (now (s .args .samples)) (s .args .at) (s .args .used) less), fill-on (now (s .args .marks)) (s .args .at) (held (markIn (s .args .format)) (now (s .args .samples)) (s .args .at) (s .args .used)) (held-length (markIn (s .args .format)) (now (s .args .samples)) (s .args .at) (s .args .used)) (s .pre .2 .marks-room) (inv .2) less (mark-over (s .args .format) (s .pre .0) (s .pre .1) word (c .marks-of .result) (c .before .nine-bits .ensures) (c .marks-of .ensures .0) ∙ ap (markIn (s .args .format)) was ∙ held-at (markIn (s .args .format)) (now (s .args .samples)) (s .args .at) (s .args .used) less))
 
 same-length : tie.Need-same-length Inv-loop μ-loop
 same-length c = c .before .loop .inv .0 .same

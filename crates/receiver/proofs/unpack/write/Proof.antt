@@ -6,20 +6,12 @@ use borrow.Author.Needs.{needs}
 use Rattle.receiver.proofs.unpack.write.Statement.{statement}
 use Rattle.receiver.proofs.unpack.write.Tie as tie
 
-zeros-requires : tie.Need-zeros-requires
-zeros-requires c κs = search needs
-
-octets-requires : tie.Need-octets-requires
-octets-requires c κs = search needs
-
-octets-requires-2 : tie.Need-octets-requires-2
-octets-requires-2 c κs = search needs
+missing-entries-requires : tie.Need-missing-entries-requires
+missing-entries-requires c κs = search needs
 
 own-entries-requires : tie.Need-own-entries-requires
 own-entries-requires c κs =
-    let s =
-    c .before .before .before .before .before .before .before .before .before .before .before .before .before .before .before .before .before .before .before
-    in
+    let s = c .before .before .before .before .before .before .before .before .before .before .before .before .before .before .before .before .before in
     (s .pre .0, s .pre .1, s .pre .2, record { samples-room = search needs; ancillary-room = search needs; marks-room = search needs })
 
 same-length : tie.Need-same-length
@@ -33,22 +25,15 @@ same-length-3 c = search needs
 
 returns : tie.Need-returns
 returns c =
-    let s =
-    c .before .before .before .before .before .before .before .before .before .before .before .before .before .before .before .before .before .before .before .before .before .before .before .before .before .before
-    in writes (s .args .set) (now (s .args .cell)) (s .args .missing) (now (s .args .samples)) (now (s .args .ancillary))
-    (now (s .args .marks)) (s .pre .3)
-    (c .before .before .before .before .before .before .before .before .before .before .before .before .before .before .before .before .before .before .before .before .zeros .ensures)
-    (c .before .before .before .before .before .before .before .before .before .before .before .before .before .before .before .before .octets .ensures)
-    (c .before .before .before .before .before .before .before .before .before .before .before .before .octets2 .ensures)
-    (c .before .before .before .before .before .before .own-entries .ensures)
+    let s = c .before .before .before .before .before .before .before .before .before .before .before .before .before .before .before .before .before .before .before .before .before .before .before .before in
+    writes (s .args .set) (now (s .args .cell)) (s .args .missing) (now (s .args .samples)) (now (s .args .ancillary))
+    (now (s .args .marks)) (s .pre .3) (c .before .before .before .before .before .before .before .before .before .before .before .before .before .before .before .before .missing-entries .ensures) (c .before .before .before .before .before .before .own-entries .ensures)
 
 pub write-spec : {M : Type 1} → statement M
 write-spec =
     tie.close
     (tie.spec
-    zeros-requires
-    octets-requires
-    octets-requires-2
+    missing-entries-requires
     own-entries-requires
     same-length
     same-length-2

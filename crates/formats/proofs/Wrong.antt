@@ -1,0 +1,45 @@
+-- Wrong answers to the public function: its contract rules them out. Stated over the contract itself.
+-- Assumes nothing.
+use mathlib.Core.Path.{_≡_, ap}
+use Prim.Native.Nat.{ℕ}
+use native.Mathlib.Omega.{arith}
+use contract.Lifetimes.{Lfts}
+use Rattle.runs.proofs.Wrong.{Never}
+use Rattle.formats.specs.declared.Settled.{Settled}
+use Rattle.formats.specs.Formats.{
+  lengthOf,
+  sampleBits,
+  ancillaryBits,
+  overheadBits,
+  eleven,
+  isAmong,
+  isBase,
+  widthOf,
+  slotsOf,
+  formatOf,
+  settingsRefusal,
+  settingsOf,
+}
+use Rattle.formats.proofs.settings.Kinds as settings-kinds
+use Rattle.formats.proofs.settings.Reads as settings-reads
+
+-- every definition on the way down to the numbers
+unfoldable pub unfolded : Unit {0}
+unfolding lengthOf sampleBits ancillaryBits overheadBits eleven isAmong isBase widthOf slotsOf formatOf settingsRefusal settingsOf
+unfolded = tt
+
+module _ (κs : Lfts 0) where
+  -- settings that nothing is wrong with refused, by whatever number
+  pub not-always-refused : Never settings-kinds.ps settings-kinds.r settings-reads.Post κs (0x56, (2, (0, tt))) (λ x v. x .refusal ≡ 0 → ⊥)
+  unfolding unfolded
+  not-always-refused x v wrong p = wrong (ap (λ (s : Settled). s .refusal) p)
+
+  -- a number above an octet taken for its low octet
+  pub not-cut-to-an-octet : Never settings-kinds.ps settings-kinds.r settings-reads.Post κs (0x156, (2, (0, tt))) (λ x v. x .refusal ≡ 0)
+  unfolding unfolded
+  not-cut-to-an-octet x v wrong p = let right : x .refusal ≡ 1 = ap (λ (s : Settled). s .refusal) p in omega arith
+
+  -- T rounded up: five channels in twelve slots
+  pub times-not-rounded-up : Never settings-kinds.ps settings-kinds.r settings-reads.Post κs (0x56, (5, (0, tt))) (λ x v. x .times ≡ 3)
+  unfolding unfolded
+  times-not-rounded-up x v wrong p = let right : x .times ≡ 2 = ap (λ (s : Settled). s .times) p in omega arith

@@ -1,0 +1,44 @@
+-- Wrong answers, two for each public function: its contract rules them out. Stated over the contracts themselves.
+-- Assumes nothing.
+use mathlib.Core.List.{List}
+use mathlib.Core.Path.{_≡_, sym, _∙_, ap}
+use Prim.Native.Nat.{ℕ}
+use native.Mathlib.Omega.{arith}
+use contract.Lifetimes.{Lfts}
+use lib.ListN.{getD}
+use Rattle.runs.specs.Division.{coefficients, divided, takenDown}
+use Rattle.runs.proofs.Laws.{getD-tab}
+use Rattle.runs.proofs.Wrong.{Never}
+use Rattle.guards.specs.Guards.{nineOf, tenGuard, sevenGuards, guardOf}
+use Rattle.guards.proofs.nine_bits.Kinds as nine-bits-kinds
+use Rattle.guards.proofs.nine_bits.Reads as nine-bits-reads
+use Rattle.guards.proofs.sevens.Kinds as sevens-kinds
+use Rattle.guards.proofs.sevens.Reads as sevens-reads
+
+-- every definition on the way down to the numbers
+unfoldable pub unfolded : Unit {0}
+unfolding coefficients divided takenDown nineOf tenGuard sevenGuards guardOf
+unfolded = tt
+
+module _ (κs : Lfts 0) where
+  -- the ninth bit of an 8-bit sample set
+  pub nine-not-with-a-ninth-bit : Never nine-bits-kinds.ps nine-bits-kinds.r nine-bits-reads.Post κs (8, (1, tt)) (λ x v. x ≡ 3)
+  unfolding unfolded
+  nine-not-with-a-ninth-bit x v wrong p = omega arith
+
+  -- the nine low bits of a 24-bit sample
+  pub nine-not-the-low-ones : Never nine-bits-kinds.ps nine-bits-kinds.r nine-bits-reads.Post κs (24, (0x123456, tt)) (λ x v. x ≡ 0x056)
+  unfolding unfolded
+  nine-not-the-low-ones x v wrong p = omega arith
+
+  -- remainders and not their complements: nothing is protected by 000
+  pub sevens-not-the-remainders-themselves : Never sevens-kinds.ps sevens-kinds.r sevens-reads.Post κs tt (λ x v. getD x 0 0 ≡ 0)
+  unfolding unfolded
+  sevens-not-the-remainders-themselves x v wrong p =
+      let first : getD x 0 0 ≡ 7 = ap (λ (l : List ℕ). getD l 0 0) p ∙ getD-tab tenGuard 128 {i = 0} (omega arith) in omega arith
+
+  -- V alone divided by x^3 + x^2 + 1
+  pub sevens-not-by-another-polynomial : Never sevens-kinds.ps sevens-kinds.r sevens-reads.Post κs tt (λ x v. getD x 1 0 ≡ 2)
+  unfolding unfolded
+  sevens-not-by-another-polynomial x v wrong p =
+      let second : getD x 1 0 ≡ 4 = ap (λ (l : List ℕ). getD l 1 0) p ∙ getD-tab tenGuard 128 {i = 1} (omega arith) in omega arith

@@ -1,0 +1,157 @@
+-- Wrong answers to the public functions: their contracts rule them out. Stated over the contracts themselves.
+-- Assumes nothing.
+use mathlib.Core.Bool.{true, false, true≢false}
+use mathlib.Core.List.{List, [], _∷_}
+use mathlib.Core.Path.{_≡_, sym, _∙_, ap}
+use Prim.Native.Nat.{ℕ}
+use native.Mathlib.Omega.{arith}
+use contract.Lifetimes.{Lfts}
+use lib.ListN.{getD, set, replicate}
+use Rattle.runs.specs.Refusals.{orElse}
+use Rattle.runs.specs.Runs.{tab, joined, octetsOf, readOn, over}
+use Rattle.runs.proofs.Wrong.{Never, Place, lent}
+use Rattle.formats.specs.Formats.{formatOf}
+use Rattle.formats.proofs.Wrong as formats
+use Rattle.numbers.specs.Numbers.{entryOf}
+use Rattle.numbers.proofs.Wrong as numbers
+use Rattle.guards.proofs.Wrong as guards
+use Rattle.cells.specs.Cells.{
+  overheadOf,
+  subframeOf,
+  slotOctets,
+  cellOf,
+  subframeAt,
+  sampleIn,
+  ancillaryIn,
+  markIn,
+  bitIn,
+  eightIn,
+  secondIn,
+  entriesOf,
+}
+use Rattle.cells.specs.Placement.{slotOf, slotOfEntry, entryOfSlot, carried}
+use Rattle.receiver.specs.declared.Receiver.{Receiver}
+use Rattle.receiver.specs.declared.Ready.{Ready}
+use Rattle.receiver.specs.declared.Received.{Received}
+use Rattle.receiver.specs.Receiver.{
+  openedOf,
+  lastRefused,
+  stateRefusal,
+  lengthsRefused,
+  numberNow,
+  gapNow,
+  receiveRefusal,
+  entriesNow,
+  secondNow,
+  after,
+  receivedOf,
+  given,
+}
+use Rattle.receiver.proofs.opened.Kinds as opened-kinds
+use Rattle.receiver.proofs.opened.Reads as opened-reads
+use Rattle.receiver.proofs.receive.Kinds as receive-kinds
+use Rattle.receiver.proofs.receive.Reads as receive-reads
+
+-- every definition on the way down to the numbers
+unfoldable pub unfolded : Unit {0}
+unfolding orElse tab joined octetsOf readOn over formats.unfolded numbers.unfolded guards.unfolded overheadOf subframeOf slotOctets cellOf subframeAt sampleIn ancillaryIn markIn bitIn eightIn secondIn entriesOf slotOf slotOfEntry entryOfSlot carried openedOf lastRefused stateRefusal lengthsRefused numberNow gapNow receiveRefusal entriesNow secondNow after receivedOf given
+unfolded = tt
+
+-- openings: format, C, order
+module _ (κs : Lfts 0) where
+  -- an opening that nothing is wrong with refused, by whatever number
+  pub opening-not-always-refused : Never opened-kinds.ps opened-kinds.r opened-reads.Post κs (0x56, (2, (1, tt))) (λ x v. x .refusal ≡ 0 → ⊥)
+  unfolding unfolded
+  opening-not-always-refused x v wrong p = wrong (ap (λ (s : Ready). s .refusal) p)
+
+  -- an order above 1 taken
+  pub opening-not-of-order-2 : Never opened-kinds.ps opened-kinds.r opened-reads.Post κs (0x56, (2, (2, tt))) (λ x v. x .refusal ≡ 0)
+  unfolding unfolded
+  opening-not-of-order-2 x v wrong p = let right : x .refusal ≡ 3 = ap (λ (s : Ready). s .refusal) p in omega arith
+
+  -- a receiver opened as started already, so that the first cell's number would be held against 0
+  pub opening-not-started : Never opened-kinds.ps opened-kinds.r opened-reads.Post κs (0x56, (2, (1, tt))) (λ x v. x .state .started ≡ true)
+  unfolding unfolded
+  opening-not-started x v wrong p = true≢false (sym wrong ∙ ap (λ (s : Ready). s .state .started) p)
+
+-- a receiver of one channel in 5A hex, eight samples of forty bits in a cell, that last took the cell of this number
+abbrev archive : ℕ → Receiver
+archive last = record { format = 0x5A; channels = 1; order = 0; started = true; last = last }
+
+abbrev eight : List ℕ
+eight = 1 ∷ 2 ∷ 3 ∷ 4 ∷ 5 ∷ 6 ∷ 7 ∷ 8 ∷ []
+
+-- cell number 3, with the eight samples
+abbrev third : List ℕ
+third = cellOf (formatOf 0x5A) false 1 8 (entryOf 3) 0 eight (replicate 8 0)
+
+module _ (κs : Lfts 4) (c s a m : Place) where
+  -- a call with this cell, on three runs of so many sevens
+  abbrev Receiving : Receiver → List ℕ → ℕ → (Received → List ℕ → List ℕ → List ℕ → Type 0) → Type 0
+  Receiving st cell room Wrong =
+      Never receive-kinds.ps receive-kinds.r receive-reads.Post κs
+      (st, (lent c cell, (false, (lent s (replicate room 7), (lent a (replicate room 7), (lent m (replicate room 7), tt))))))
+      (λ x v. Wrong x (v .1 .1 .1 .0) (v .1 .1 .1 .1 .0) (v .1 .1 .1 .1 .1 .0))
+
+  -- refused although nothing is wrong, by whatever number
+  pub not-always-refused : Receiving (archive 2) third 9 (λ x samples ancillary marks. x .refusal ≡ 0 → ⊥)
+  unfolding unfolded
+  not-always-refused x v wrong p = wrong (ap (λ (r : Received). r .refusal) (p .answered))
+
+  -- the box that writes nothing: a run left as it was lent
+  pub samples-not-left : Receiving (archive 2) third 9 (λ x samples ancillary marks. samples ≡ replicate 9 7)
+  unfolding unfolded
+  samples-not-left x v wrong p =
+      let first : _≡_ {A = ℕ} 7 1 = ap (λ (l : List ℕ). getD l 0 0) (sym wrong ∙ p .samples-after) in omega arith
+
+  pub ancillary-not-left : Receiving (archive 2) third 9 (λ x samples ancillary marks. ancillary ≡ replicate 9 7)
+  unfolding unfolded
+  ancillary-not-left x v wrong p =
+      let first : _≡_ {A = ℕ} 7 0 = ap (λ (l : List ℕ). getD l 0 0) (sym wrong ∙ p .ancillary-after) in omega arith
+
+  pub marks-not-left : Receiving (archive 2) third 9 (λ x samples ancillary marks. marks ≡ replicate 9 7)
+  unfolding unfolded
+  marks-not-left x v wrong p =
+      let first : _≡_ {A = ℕ} 7 0 = ap (λ (l : List ℕ). getD l 0 0) (sym wrong ∙ p .marks-after) in omega arith
+
+  -- an entry past the cell's own cleared
+  pub past-not-cleared : Receiving (archive 2) third 9 (λ x samples ancillary marks. getD samples 8 0 ≡ 0)
+  unfolding unfolded
+  past-not-cleared x v wrong p = let right : getD (v .1 .1 .1 .0) 8 0 ≡ 7 = ap (λ (l : List ℕ). getD l 8 0) (p .samples-after) in omega arith
+
+  -- a missing cell invented
+  pub missing-not-invented : Receiving (archive 2) third 9 (λ x samples ancillary marks. x .missing ≡ 1)
+  unfolding unfolded
+  missing-not-invented x v wrong p = let right : x .missing ≡ 0 = ap (λ (r : Received). r .missing) (p .answered) in omega arith
+
+  -- a missing cell left out: the cell's own entries in its place
+  pub missing-not-left-out : Receiving (archive 1) third 16 (λ x samples ancillary marks. getD marks 0 0 ≡ 0)
+  unfolding unfolded
+  missing-not-left-out x v wrong p =
+      let right : getD (v .1 .1 .1 .1 .1 .0) 0 0 ≡ 2 = ap (λ (l : List ℕ). getD l 0 0) (p .marks-after) in omega arith
+
+  -- mark 0 for a spoiled sample: the top bit of the first one is altered
+  pub spoiled-not-marked-sound : Receiving (archive 2) (set third 0 128) 9 (λ x samples ancillary marks. getD marks 0 0 ≡ 0)
+  unfolding unfolded
+  spoiled-not-marked-sound x v wrong p =
+      let right : getD (v .1 .1 .1 .1 .1 .0) 0 0 ≡ 1 = ap (λ (l : List ℕ). getD l 0 0) (p .marks-after) in omega arith
+
+  -- a spoiled number taken: the first sequencing bit is altered
+  pub spoiled-number-not-taken : Receiving (archive 2) (set third 5 7) 9 (λ x samples ancillary marks. x .refusal ≡ 0)
+  unfolding unfolded
+  spoiled-number-not-taken x v wrong p = let right : x .refusal ≡ 8 = ap (λ (r : Received). r .refusal) (p .answered) in omega arith
+
+  -- 9 before 8: the same taken for a repeat, its number counting as 16, where the last one was 0
+  pub spoiled-number-not-a-repeat : Receiving (archive 0) (set third 5 7) 9 (λ x samples ancillary marks. x .refusal ≡ 9)
+  unfolding unfolded
+  spoiled-number-not-a-repeat x v wrong p = let right : x .refusal ≡ 8 = ap (λ (r : Received). r .refusal) (p .answered) in omega arith
+
+  -- a call refused for room: the state moved, and the missing cell filled in already
+  pub refused-not-counted : Receiving (archive 1) third 9 (λ x samples ancillary marks. x .state .last ≡ 3)
+  unfolding unfolded
+  refused-not-counted x v wrong p = let right : x .state .last ≡ 1 = ap (λ (r : Received). r .state .last) (p .answered) in omega arith
+
+  pub refused-not-written : Receiving (archive 1) third 9 (λ x samples ancillary marks. getD marks 0 0 ≡ 2)
+  unfolding unfolded
+  refused-not-written x v wrong p =
+      let right : getD (v .1 .1 .1 .1 .1 .0) 0 0 ≡ 7 = ap (λ (l : List ℕ). getD l 0 0) (p .marks-after) in omega arith

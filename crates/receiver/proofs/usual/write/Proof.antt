@@ -1,0 +1,40 @@
+-- `receiver::usual::write` meets its contract.
+-- Assumes nothing.
+use denote.Ref.{now}
+use Rattle.formats.specs.Formats.{usualWith}
+use Rattle.receiver.proofs.Unpacking.{writes}
+use borrow.Author.Needs.{needs}
+use Rattle.receiver.proofs.usual.write.Statement.{statement}
+use Rattle.receiver.proofs.usual.write.Tie as tie
+
+missing-entries-requires : tie.Need-missing-entries-requires
+missing-entries-requires c κs = search needs
+
+own-entries-requires : tie.Need-own-entries-requires
+own-entries-requires c κs = search needs
+
+same-length : tie.Need-same-length
+same-length c = search needs
+
+same-length-2 : tie.Need-same-length-2
+same-length-2 c = search needs
+
+same-length-3 : tie.Need-same-length-3
+same-length-3 c = search needs
+
+returns : tie.Need-returns
+returns c =
+    let s = c .before .before .before .before .before .before .before .before .before .before .before .before .before .before .before .before .before .before .before .before .before .before .before .before in
+    writes (usualWith 1 12) (now (s .args .cell)) (s .args .missing) (now (s .args .samples)) (now (s .args .ancillary))
+    (now (s .args .marks)) (s .pre .1) (c .before .before .before .before .before .before .before .before .before .before .before .before .before .before .before .before .missing-entries .ensures) (c .before .before .before .before .before .before .own-entries .ensures)
+
+pub write-spec : {M : Type 1} → statement M
+write-spec =
+    tie.close
+    (tie.spec
+    missing-entries-requires
+    own-entries-requires
+    same-length
+    same-length-2
+    same-length-3
+    returns)

@@ -1,0 +1,90 @@
+-- `sender::usual::write_usual` meets its contract.
+-- Assumes nothing.
+use mathlib.Core.Path.{_≡_, _∙_, sym}
+use Prim.Native.Nat.{_<_}
+use native.Mathlib.Nat.{mod-lt}
+use native.Mathlib.Omega.{arith}
+use denote.Ref.{now}
+use lib.ListN.{length}
+use Rattle.formats.specs.Formats.{settingsOf}
+use Rattle.numbers.proofs.Laws.{entry-lt}
+use Rattle.sender.specs.Packing.{Packable}
+use Rattle.sender.specs.Sender.{sendRefusal}
+use Rattle.sender.proofs.Laws.{writes-refused, can-pack, writes-taken}
+use Rattle.sender.proofs.AllUsed.{usual-settles, usual-fillable, usual-packs}
+use borrow.Author.Needs.{needs}
+use Rattle.sender.proofs.usual.write_usual.Statement.{statement}
+use Rattle.sender.proofs.usual.write_usual.Tie as tie
+
+usual-requires : tie.Need-usual-requires
+usual-requires c κs = search needs
+
+send-refusal-requires : tie.Need-send-refusal-requires
+send-refusal-requires c κs = usual-settles (now (c .before .before .before .before .before .args .samples)) (c .before .before .before .before .before .pre) (c .usual .ensures)
+
+returns : tie.Need-returns
+returns c =
+    let a = c .before .before .before .before .before .before .before .args in
+    writes-refused (a .state) (a .indication) (now (a .samples)) (now (a .ancillary)) (now (a .cell)) (c .if1 .taken)
+    (c .before .send-refusal .ensures)
+
+second-now-requires : tie.Need-second-now-requires
+second-now-requires c κs = search needs
+
+entry-of-requires : tie.Need-entry-of-requires
+entry-of-requires c κs = search needs
+
+sequence-of-requires : tie.Need-sequence-of-requires
+sequence-of-requires c κs = search needs
+
+given : (c : tie.Else1)
+    → c .before .before .usual .result ≡ settingsOf (c .before .before .before .before .before .before .before .args .state .format) (c .before .before .before .before .before .before .before .args .state .channels) (c .before .before .before .before .before .before .before .args .state .order)
+given c = usual-settles (now (c .before .before .before .before .before .before .before .args .samples)) (c .before .before .before .before .before .before .before .pre) (c .before .before .usual .ensures)
+
+none : (c : tie.Else1)
+    → 0
+    ≡ sendRefusal (c .before .before .before .before .before .before .before .args .state) (c .before .before .before .before .before .before .before .args .indication) (now (c .before .before .before .before .before .before .before .args .samples)) (now (c .before .before .before .before .before .before .before .args .ancillary)) (length (now (c .before .before .before .before .before .before .before .args .cell)))
+none c = sym (c .if1 .left) ∙ c .before .send-refusal .ensures
+
+ready : (c : tie.After-second-now)
+    → Packable (c .before .before .before .usual .result) (now (c .before .before .before .before .before .before .before .before .args .samples)) (now (c .before .before .before .before .before .before .before .before .args .ancillary))
+    × (c .second-now .result < 16)
+    × (length (now (c .before .before .before .before .before .before .before .before .args .cell)) ≡ 48)
+ready c =
+    let a = c .before .before .before .before .before .before .before .before .args in
+    can-pack (a .state) (a .indication) (now (a .samples)) (now (a .ancillary)) (now (a .cell)) (given (c .before))
+    (none (c .before)) (c .second-now .ensures)
+
+fill-usual-requires : tie.Need-fill-usual-requires
+fill-usual-requires c κs =
+    let can = ready (c .before .before .before) in
+    usual-fillable (now (c .before .before .before .before .before .before .before .before .before .before .before .args .samples)) (c .before .before .before .before .before .before .before .before .before .before .before .pre) (c .before .before .before .before .before .before .usual .ensures) (can .0) (can .2)
+
+same-length : tie.Need-same-length
+same-length c = search needs
+
+returns-2 : tie.Need-returns-2
+returns-2 c =
+    let a = c .before .before .before .before .before .before .before .before .before .before .before .before .before .before .args in
+    let octet : c .before .before .before .before .before .entry-of .result < 256
+    = rw (c .before .before .before .before .before .entry-of .ensures) (entry-lt (mod-lt (a .state .number) (omega arith))) in
+    let can = ready (c .before .before .before .before .before .before) in
+    writes-taken (a .state) (a .indication) (now (a .samples)) (now (a .ancillary)) (now (a .cell)) (given (c .before .before .before .before .before .before .before))
+    (none (c .before .before .before .before .before .before .before)) (c .before .before .before .before .before .before .second-now .ensures) (c .before .before .before .before .before .entry-of .ensures)
+    (usual-packs (now (a .samples)) (c .before .before .before .before .before .before .before .before .before .before .before .before .before .before .pre) (c .before .before .before .before .before .before .before .before .before .usual .ensures) (can .0) (c .before .before .before .before .before .entry-of .result)
+    (c .before .before .before .before .before .before .second-now .result) (c .before .before .before .before .sequence-of .result) (now (a .cell)) octet (can .1) (can .2)
+    (c .before .before .before .before .sequence-of .ensures) (c .before .before .fill-usual .ensures))
+
+pub write-usual-spec : {M : Type 1} → statement M
+write-usual-spec =
+    tie.close
+    (tie.spec
+    usual-requires
+    send-refusal-requires
+    returns
+    second-now-requires
+    entry-of-requires
+    sequence-of-requires
+    fill-usual-requires
+    same-length
+    returns-2)

@@ -1,0 +1,4 @@
+pub mod Classes
+pub mod Laws
+pub mod One
+pub mod Wrong

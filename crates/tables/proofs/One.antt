@@ -1,0 +1,26 @@
+-- No second answer: two answers that meet a public function's contract for the same inputs are equal. Stated over the contracts
+-- themselves.
+-- Assumes nothing.
+use mathlib.Core.Path.{_≡_, refl, sym, _∙_}
+use Prim.Native.Nat.{ℕ, _<_}
+use Rattle.runs.proofs.One.{One}
+use Rattle.tables.specs.Marks.{MarksOf}
+use Rattle.tables.proofs.Laws.{same-bits}
+use Rattle.tables.proofs.guard_of.Kinds as guard-of-kinds
+use Rattle.tables.proofs.guard_of.Reads as guard-of-reads
+use Rattle.tables.proofs.marks_of.Kinds as marks-of-kinds
+use Rattle.tables.proofs.marks_of.Reads as marks-of-reads
+use Rattle.tables.proofs.marks_at.Kinds as marks-at-kinds
+use Rattle.tables.proofs.marks_at.Reads as marks-at-reads
+
+pub guard-of-one : One guard-of-kinds.ps guard-of-kinds.r guard-of-reads.Pre guard-of-reads.Post
+guard-of-one κs a x y v w pre p q = (p ∙ sym q, refl)
+
+one-number : (nine : ℕ) {x y : ℕ} → MarksOf nine x × (x < 4294967296) → MarksOf nine y × (y < 4294967296) → x ≡ y
+one-number nine p q = same-bits 32 (p .1) (q .1) (λ low less. p .0 low less ∙ sym (q .0 low less))
+
+pub marks-of-one : One marks-of-kinds.ps marks-of-kinds.r marks-of-reads.Pre marks-of-reads.Post
+marks-of-one κs a x y v w pre p q = (one-number _ p q, refl)
+
+pub marks-at-one : One marks-at-kinds.ps marks-at-kinds.r marks-at-reads.Pre marks-at-reads.Post
+marks-at-one κs a x y v w pre p q = (one-number _ p q, refl)
