@@ -4,7 +4,7 @@ use mathlib.Core.Bool.{Bool, true, false, false≢true, cond, not, _&&_, _||_, B
 use mathlib.Core.List.{List, [], _∷_}
 use mathlib.Core.Logic.{_⊎_, inl, inr, ⊎-elim}
 use mathlib.Core.Path.{_≡_, refl, sym, _∙_, ap, ap₂, subst}
-use Prim.Native.Nat.{ℕ, suc, _+_, _*_, _/_, _%_, _≤_, _<_}
+use Prim.Native.Nat.{ℕ, _+_, _*_, _/_, _%_, _≤_, _<_}
 use native.Mathlib.Decide.{decLt}
 use native.Mathlib.Nat.{mod-lt, lt-of-not-le, le-of-suc-le-suc, pos-of-ne-zero, mul-div-le, le-div-iff-mul-le}
 use native.Mathlib.Omega.{arith}
@@ -12,7 +12,7 @@ use borrow.Author.Tests
 use borrow.Author.Tests.{eqb-true, eqb-false, ltb-false, lt-ltb, le-ltb, le-leb, lt-leb, ne-eqb, eq-eqb}
 use mir.Val.{hasKey}
 use types.Run.{OneOf, hit, miss}
-use lib.Dec.{T, eqb, leb, ltb, ltb→lt, leb→le, eqb→eq, eqb·suc-zero}
+use lib.Dec.{T, eqb, leb, ltb, ltb→lt, leb→le, eqb→eq}
 use Rattle.runs.specs.Refusals.{orElse}
 use Rattle.runs.specs.Test.{every}
 use Rattle.runs.proofs.Laws.{every-at, both-left, both-right, past, neither, split, first-refuses, then-later}

@@ -1,7 +1,7 @@
--- Wrong answers to the public function: its contract rules them out. Stated over the contract itself.
+-- Wrong answers to the public functions: their contracts rule them out. Stated over the contracts themselves.
 -- Assumes nothing.
+use mathlib.Core.Bool.{true}
 use mathlib.Core.Path.{_≡_, ap}
-use Prim.Native.Nat.{ℕ}
 use native.Mathlib.Omega.{arith}
 use contract.Lifetimes.{Lfts}
 use Rattle.runs.proofs.Wrong.{Never}
@@ -22,6 +22,8 @@ use Rattle.formats.specs.Formats.{
 }
 use Rattle.formats.proofs.settings.Kinds as settings-kinds
 use Rattle.formats.proofs.settings.Reads as settings-reads
+use Rattle.formats.proofs.usual.Kinds as usual-kinds
+use Rattle.formats.proofs.usual.Reads as usual-reads
 
 -- every definition on the way down to the numbers
 unfoldable pub unfolded : Unit {0}
@@ -43,3 +45,13 @@ module _ (κs : Lfts 0) where
   pub times-not-rounded-up : Never settings-kinds.ps settings-kinds.r settings-reads.Post κs (0x56, (5, (0, tt))) (λ x v. x .times ≡ 3)
   unfolding unfolded
   times-not-rounded-up x v wrong p = let right : x .times ≡ 2 = ap (λ (s : Settled). s .times) p in omega arith
+
+  -- one channel where there are two
+  pub usual-not-always-mono : Never usual-kinds.ps usual-kinds.r usual-reads.Post κs (true, tt) (λ x v. x .channels ≡ 1)
+  unfolding unfolded
+  usual-not-always-mono x v wrong p = let right : x .channels ≡ 2 = ap (λ (s : Settled). s .channels) p in omega arith
+
+  -- as many times as slots with two channels too
+  pub usual-not-12-times : Never usual-kinds.ps usual-kinds.r usual-reads.Post κs (true, tt) (λ x v. x .times ≡ 12)
+  unfolding unfolded
+  usual-not-12-times x v wrong p = let right : x .times ≡ 6 = ap (λ (s : Settled). s .times) p in omega arith

@@ -1,7 +1,7 @@
 -- Wrong answers, two for each public function: its contract rules them out. Stated over the contracts themselves.
 -- Assumes nothing.
 use mathlib.Core.List.{List}
-use mathlib.Core.Path.{_≡_, sym, _∙_, ap}
+use mathlib.Core.Path.{_≡_, _∙_, ap}
 use Prim.Native.Nat.{ℕ}
 use native.Mathlib.Omega.{arith}
 use contract.Lifetimes.{Lfts}

@@ -2,7 +2,7 @@
 // cost: the settings are constants, and what protects a sample is one load.
 ghost use mathlib.Core.Bool.{true};
 ghost use mathlib.Core.Path.{_≡_};
-ghost use Prim.Native.Nat.{_+_, _*_, _%_, _^_, _≤_, _<_};
+ghost use Prim.Native.Nat.{_+_, _*_, _%_, _^_, _<_};
 ghost use lib.ListN.{length};
 ghost use Rattle.guards.specs.Guards.{sevenGuards};
 ghost use Rattle.cells.specs.Cells.{subframeOf};

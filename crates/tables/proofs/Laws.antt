@@ -1,12 +1,14 @@
 -- Laws of marks: the number of all five low bits by the protection bits, and that its bits fix it.
 -- Assumes nothing.
 use mathlib.Core.Bool.{Bool, cond}
+use mathlib.Core.List.{List, [], _∷_}
 use mathlib.Core.Path.{_≡_, sym, _∙_, ap}
 use Prim.Native.Nat.{ℕ, zero, suc, _+_, _*_, _/_, _%_, _^_, _<_}
 use native.Mathlib.Nat.{div-one, pow-suc}
 use native.Mathlib.Omega.{arith}
 use lib.Bits.{bitXor}
-use lib.Dec.{T, eqb, eqb→eq}
+use lib.Dec.{T, eqb, ltb, eqb→eq, ltb→lt}
+use lib.ListN.{getD}
 use lib.Pow.{shr-shr}
 use Rattle.runs.specs.Test.{every}
 use Rattle.runs.proofs.Laws.{every-at}
@@ -26,37 +28,17 @@ marks-by guard bits t {nine} h e low less =
     ∙ ap (λ (x : ℕ). cond (eqb (low % 8) x) 0 1)
     (ap (λ (x : ℕ). bitXor x (low / 16 * 3)) (sym e) ∙ with-v {nine = nine} h (omega arith))
 
-pub marks-7 : {nine : ℕ} → nine < 512 → tenGuard (nine * 2) ≡ 7 → MarksOf nine 0xEFEF7F7F × (0xEFEF7F7F < 4294967296)
-unfolding fits every
-marks-7 h e = (marks-by 7 0xEFEF7F7F tt h e, omega arith)
+-- for the protection bits 0 to 7
+abbrev pub words : List ℕ
+words = 0xF7F7FEFE ∷ 0xFBFBFDFD ∷ 0xFDFDFBFB ∷ 0xFEFEF7F7 ∷ 0x7F7FEFEF ∷ 0xBFBFDFDF ∷ 0xDFDFBFBF ∷ 0xEFEF7F7F ∷ []
 
-pub marks-1 : {nine : ℕ} → nine < 512 → tenGuard (nine * 2) ≡ 1 → MarksOf nine 0xFBFBFDFD × (0xFBFBFDFD < 4294967296)
-unfolding fits every
-marks-1 h e = (marks-by 1 0xFBFBFDFD tt h e, omega arith)
-
-pub marks-0 : {nine : ℕ} → nine < 512 → tenGuard (nine * 2) ≡ 0 → MarksOf nine 0xF7F7FEFE × (0xF7F7FEFE < 4294967296)
-unfolding fits every
-marks-0 h e = (marks-by 0 0xF7F7FEFE tt h e, omega arith)
-
-pub marks-6 : {nine : ℕ} → nine < 512 → tenGuard (nine * 2) ≡ 6 → MarksOf nine 0xDFDFBFBF × (0xDFDFBFBF < 4294967296)
-unfolding fits every
-marks-6 h e = (marks-by 6 0xDFDFBFBF tt h e, omega arith)
-
-pub marks-2 : {nine : ℕ} → nine < 512 → tenGuard (nine * 2) ≡ 2 → MarksOf nine 0xFDFDFBFB × (0xFDFDFBFB < 4294967296)
-unfolding fits every
-marks-2 h e = (marks-by 2 0xFDFDFBFB tt h e, omega arith)
-
-pub marks-4 : {nine : ℕ} → nine < 512 → tenGuard (nine * 2) ≡ 4 → MarksOf nine 0x7F7FEFEF × (0x7F7FEFEF < 4294967296)
-unfolding fits every
-marks-4 h e = (marks-by 4 0x7F7FEFEF tt h e, omega arith)
-
-pub marks-5 : {nine : ℕ} → nine < 512 → tenGuard (nine * 2) ≡ 5 → MarksOf nine 0xBFBFDFDF × (0xBFBFDFDF < 4294967296)
-unfolding fits every
-marks-5 h e = (marks-by 5 0xBFBFDFDF tt h e, omega arith)
-
-pub marks-3 : {nine : ℕ} → nine < 512 → tenGuard (nine * 2) ≡ 3 → MarksOf nine 0xFEFEF7F7 × (0xFEFEF7F7 < 4294967296)
-unfolding fits every
-marks-3 h e = (marks-by 3 0xFEFEF7F7 tt h e, omega arith)
+pub marks : (guard : ℕ) → guard < 8 → {nine : ℕ} → nine < 512 → tenGuard (nine * 2) ≡ guard
+    → MarksOf nine (getD words guard 0) × (getD words guard 0 < 4294967296)
+unfolding every fits
+marks guard few h e = (
+  marks-by guard (getD words guard 0) (every-at (λ g. fits (getD words g 0) g) 8 tt guard few) h e,
+  ltb→lt _ _ (every-at (λ g. ltb (getD words g 0) 4294967296) 8 tt guard few),
+)
 
 -- numbers below a power of two with the same bits are equal
 pub same-bits : (n : ℕ) {x y : ℕ} → x < 2 ^ n → y < 2 ^ n → ((low : ℕ) → low < n → x / 2 ^ low % 2 ≡ y / 2 ^ low % 2) → x ≡ y

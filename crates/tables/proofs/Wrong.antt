@@ -1,6 +1,6 @@
 -- Wrong answers to the public functions: their contracts rule them out. Stated over the contracts themselves.
 -- Assumes nothing.
-use mathlib.Core.Path.{_≡_, sym, _∙_, ap}
+use mathlib.Core.Path.{_≡_, ap}
 use Prim.Native.Nat.{ℕ, _/_, _%_, _^_}
 use native.Mathlib.Omega.{arith}
 use contract.Lifetimes.{Lfts}

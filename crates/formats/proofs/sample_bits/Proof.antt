@@ -8,9 +8,6 @@ use Rattle.formats.proofs.Laws.{length-low, length-four, length-high}
 use Rattle.formats.proofs.sample_bits.Statement.{statement}
 use Rattle.formats.proofs.sample_bits.Tie as tie
 
-mul-result : tie.Need-mul-result
-mul-result c = search needs
-
 returns : tie.Need-returns
 unfolding sampleBits lengthOf
 returns c = sym (ap lengthOf (c .match .keys1))
@@ -31,9 +28,6 @@ returns-5 : tie.Need-returns-5
 unfolding sampleBits
 returns-5 c = sym (length-high (omega arith))
 
-returns-6 : tie.Need-returns-6
-returns-6 c = search needs
-
 pub sample-bits-spec : {M : Type 1} → statement M
 sample-bits-spec =
-    tie.close (tie.spec mul-result returns returns-2 returns-3 returns-4 returns-5 returns-6)
+    tie.close (tie.spec (search needs) returns returns-2 returns-3 returns-4 returns-5 (search needs))

@@ -6,15 +6,6 @@ use Rattle.formats.proofs.Laws.{refuses, settles, some-channels}
 use Rattle.formats.proofs.settings.Statement.{statement}
 use Rattle.formats.proofs.settings.Tie as tie
 
-format-of-requires : tie.Need-format-of-requires
-format-of-requires c κs = search needs
-
-refusal-of-requires : tie.Need-refusal-of-requires
-refusal-of-requires c κs = search needs
-
-unsettled-requires : tie.Need-unsettled-requires
-unsettled-requires c κs = search needs
-
 returns : tie.Need-returns
 returns c =
     let a = c .before .before .before .before .args in
@@ -37,10 +28,4 @@ returns-2 c =
 pub settings-spec : {M : Type 1} → statement M
 settings-spec =
     tie.close
-    (tie.spec
-    format-of-requires
-    refusal-of-requires
-    unsettled-requires
-    returns
-    times-of-requires
-    returns-2)
+    (tie.spec (search needs) (search needs) (search needs) returns times-of-requires returns-2)

@@ -34,14 +34,8 @@ returns-3 c =
     no-slots octet
     (by-length {octet = octet} (omega arith) (omega arith) (sym (c .before .before .before .pre) ∙ c .if3 .taken))
 
-mul-bits : tie.Need-mul-bits
-mul-bits c = search needs
-
 add-bits : tie.Need-add-bits
 add-bits c = omega (arith, sample-le (c .before .before .before .args .octet), c .before .before .before .pre)
-
-mul-bits-2 : tie.Need-mul-bits-2
-mul-bits-2 c = search needs
 
 add-bits-2 : tie.Need-add-bits-2
 add-bits-2 c = omega (arith, sample-le (c .before .before .before .args .octet), c .before .before .before .pre)
@@ -95,4 +89,5 @@ returns-9 c =
 pub slots-of-spec : {M : Type 1} → statement M
 slots-of-spec =
     tie.close
-    (tie.spec returns returns-2 returns-3 mul-bits add-bits mul-bits-2 add-bits-2 returns-4 returns-5 returns-6 returns-7 returns-8 returns-9)
+    (tie.spec returns returns-2 returns-3 (search needs) add-bits (search needs) add-bits-2 returns-4 returns-5 returns-6
+    returns-7 returns-8 returns-9)

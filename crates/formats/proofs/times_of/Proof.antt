@@ -1,6 +1,6 @@
 -- `formats::times_of` meets its contract.
 -- Assumes nothing.
-use mathlib.Core.Path.{_≡_, sym, _∙_, ap}
+use mathlib.Core.Path.{sym, _∙_, ap}
 use Prim.Native.Nat.{ℕ, _/_}
 use native.Mathlib.Nat.{div-one}
 use borrow.Author.Needs.{needs}
@@ -15,11 +15,5 @@ returns-2 : tie.Need-returns-2
 returns-2 c =
     let slots = c .before .before .args .slots in ap (λ (n : ℕ). slots / n) (sym (c .if2 .taken))
 
-div-result : tie.Need-div-result
-div-result c = search needs
-
-returns-3 : tie.Need-returns-3
-returns-3 c = search needs
-
 pub times-of-spec : {M : Type 1} → statement M
-times-of-spec = tie.close (tie.spec returns returns-2 div-result returns-3)
+times-of-spec = tie.close (tie.spec returns returns-2 (search needs) (search needs))

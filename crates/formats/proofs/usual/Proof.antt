@@ -8,19 +8,13 @@ use Rattle.formats.proofs.Laws.{usual-one, usual-two}
 use Rattle.formats.proofs.usual.Statement.{statement}
 use Rattle.formats.proofs.usual.Tie as tie
 
-usual-with-requires : tie.Need-usual-with-requires
-usual-with-requires c κs = search needs
-
 returns : tie.Need-returns
 returns c =
     c .usual-with .ensures ∙ usual-two ∙ ap (λ (b : Bool). settingsOf 0x56 (cond b 2 1) 0) (sym (c .before .if1 .taken))
-
-usual-with-requires-2 : tie.Need-usual-with-requires-2
-usual-with-requires-2 c κs = search needs
 
 returns-2 : tie.Need-returns-2
 returns-2 c =
     c .usual-with2 .ensures ∙ usual-one ∙ ap (λ (b : Bool). settingsOf 0x56 (cond b 2 1) 0) (sym (c .before .if1 .left))
 
 pub usual-spec : {M : Type 1} → statement M
-usual-spec = tie.close (tie.spec usual-with-requires returns usual-with-requires-2 returns-2)
+usual-spec = tie.close (tie.spec (search needs) returns (search needs) returns-2)

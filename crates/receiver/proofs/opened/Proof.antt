@@ -7,9 +7,6 @@ use borrow.Author.Needs.{needs}
 use Rattle.receiver.proofs.opened.Statement.{statement}
 use Rattle.receiver.proofs.opened.Tie as tie
 
-settings-requires : tie.Need-settings-requires
-settings-requires c κs = search needs
-
 returns : tie.Need-returns
 returns c =
     let a = c .before .before .args in
@@ -36,4 +33,4 @@ returns-2 c =
     opens (a .format) (a .channels) (a .order) (c .before .settings .ensures) (c .if1 .left)
 
 pub opened-spec : {M : Type 1} → statement M
-opened-spec = tie.close (tie.spec settings-requires returns cast-t8 cast-t9 cast-t10 returns-2)
+opened-spec = tie.close (tie.spec (search needs) returns cast-t8 cast-t9 cast-t10 returns-2)

@@ -8,9 +8,6 @@ use borrow.Author.Needs.{needs}
 use Rattle.sender.proofs.opened.Statement.{statement}
 use Rattle.sender.proofs.opened.Tie as tie
 
-state-refusal-requires : tie.Need-state-refusal-requires
-state-refusal-requires c κs = search needs
-
 returns : tie.Need-returns
 returns c =
     let a = c .before .before .args in
@@ -49,12 +46,4 @@ returns-2 c =
 pub opened-spec : {M : Type 1} → statement M
 opened-spec =
     tie.close
-    (tie.spec
-    state-refusal-requires
-    returns
-    cast-t10
-    cast-t11
-    cast-t12
-    cast-t13
-    cast-t14
-    returns-2)
+    (tie.spec (search needs) returns cast-t10 cast-t11 cast-t12 cast-t13 cast-t14 returns-2)

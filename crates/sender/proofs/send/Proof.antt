@@ -7,28 +7,16 @@ use borrow.Author.Needs.{needs}
 use Rattle.sender.proofs.send.Statement.{statement}
 use Rattle.sender.proofs.send.Tie as tie
 
-write-requires : tie.Need-write-requires
-write-requires c κs = search needs
-
-same-length : tie.Need-same-length
-same-length c = search needs
-
 returns : tie.Need-returns
 returns c =
     let a = c .before .before .before .before .before .before .before .before .args in
     sends-refused (a .state) (a .indication) (now (a .samples)) (now (a .ancillary)) (now (a .cell))
     (c .before .before .before .write .ensures) (c .if1 .taken)
 
-second-now-requires : tie.Need-second-now-requires
-second-now-requires c κs = search needs
-
 add-t11 : tie.Need-add-t11
 add-t11 c =
     let a = c .before .before .before .before .before .before .before .before .before .before .args in omega
     (arith, number-lt (a .state) (a .indication) (now (a .samples)) (now (a .ancillary)) (now (a .cell)) (c .before .before .before .before .before .write .ensures) (c .before .before .if1 .left))
-
-same-length-2 : tie.Need-same-length-2
-same-length-2 c = search needs
 
 returns-2 : tie.Need-returns-2
 returns-2 c =
@@ -39,11 +27,4 @@ returns-2 c =
 pub send-spec : {M : Type 1} → statement M
 send-spec =
     tie.close
-    (tie.spec
-    write-requires
-    same-length
-    returns
-    second-now-requires
-    add-t11
-    same-length-2
-    returns-2)
+    (tie.spec (search needs) (search needs) returns (search needs) add-t11 (search needs) returns-2)

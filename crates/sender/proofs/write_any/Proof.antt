@@ -1,7 +1,6 @@
 -- `sender::write_any` meets its contract.
 -- Assumes nothing.
 use mathlib.Core.Path.{_≡_, _∙_, sym}
-use native.Mathlib.Omega.{arith}
 use denote.Ref.{now}
 use lib.ListN.{length}
 use Rattle.sender.specs.Sender.{sendRefusal}

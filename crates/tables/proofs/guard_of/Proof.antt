@@ -1,49 +1,39 @@
--- `tables::guard_of` meets its contract: each arm by a test over its keys.
+-- `tables::guard_of` meets its contract: each arm by the test over its keys.
 -- Assumes nothing.
 use mathlib.Core.Path.{sym}
 use Prim.Native.Nat.{_%_}
 use native.Mathlib.Nat.{mod-lt}
 use native.Mathlib.Omega.{arith}
-use Rattle.tables.proofs.Classes.{
-  of-sevens-7,
-  of-sevens-1,
-  of-sevens-0,
-  of-sevens-6,
-  of-sevens-2,
-  of-sevens-4,
-  of-sevens-4-more,
-  of-sevens-5,
-  of-sevens-3,
-}
+use Rattle.tables.proofs.Classes.{of-seven, of-seven-last}
 use Rattle.tables.proofs.guard_of.Statement.{statement}
 use Rattle.tables.proofs.guard_of.Tie as tie
 
 returns : tie.Need-returns
-returns c = sym (of-sevens-7 (c .before .args .seven % 128) (c .match .keys1))
+returns c = sym (of-seven 0 (c .before .args .seven % 128) (c .match .keys1))
 
 returns-2 : tie.Need-returns-2
-returns-2 c = sym (of-sevens-1 (c .before .args .seven % 128) (c .match .keys2))
+returns-2 c = sym (of-seven 1 (c .before .args .seven % 128) (c .match .keys2))
 
 returns-3 : tie.Need-returns-3
-returns-3 c = sym (of-sevens-0 (c .before .args .seven % 128) (c .match .keys3))
+returns-3 c = sym (of-seven 2 (c .before .args .seven % 128) (c .match .keys3))
 
 returns-4 : tie.Need-returns-4
-returns-4 c = sym (of-sevens-6 (c .before .args .seven % 128) (c .match .keys4))
+returns-4 c = sym (of-seven 3 (c .before .args .seven % 128) (c .match .keys4))
 
 returns-5 : tie.Need-returns-5
-returns-5 c = sym (of-sevens-2 (c .before .args .seven % 128) (c .match .keys5))
+returns-5 c = sym (of-seven 4 (c .before .args .seven % 128) (c .match .keys5))
 
 returns-6 : tie.Need-returns-6
-returns-6 c = sym (of-sevens-4 (c .before .args .seven % 128) (c .match .keys6))
+returns-6 c = sym (of-seven 5 (c .before .args .seven % 128) (c .match .keys6))
 
 returns-7 : tie.Need-returns-7
-returns-7 c = sym (of-sevens-4-more (c .before .args .seven % 128) (c .match .keys7))
+returns-7 c = sym (of-seven 6 (c .before .args .seven % 128) (c .match .keys7))
 
 returns-8 : tie.Need-returns-8
-returns-8 c = sym (of-sevens-5 (c .before .args .seven % 128) (c .match .keys8))
+returns-8 c = sym (of-seven 7 (c .before .args .seven % 128) (c .match .keys8))
 
 returns-9 : tie.Need-returns-9
-returns-9 c = sym (of-sevens-3 _ (c .before .args .seven % 128) (mod-lt _ (omega arith)) (c .match .rest))
+returns-9 c = sym (of-seven-last _ (c .before .args .seven % 128) (mod-lt _ (omega arith)) (c .match .rest))
 
 pub guard-of-spec : {M : Type 1} → statement M
 guard-of-spec =

@@ -1,45 +1,45 @@
--- `tables::marks_at` meets its contract: each arm by a test over its keys.
+-- `tables::marks_at` meets its contract: each arm by the test over its keys.
 -- Assumes nothing.
 use Prim.Native.Nat.{_%_}
 use native.Mathlib.Nat.{mod-lt}
 use native.Mathlib.Omega.{arith}
-use Rattle.tables.proofs.Classes.{of-nines-7, of-nines-1, of-nines-0, of-nines-6, of-nines-2, of-nines-2-more, of-nines-4, of-nines-4-more, of-nines-5, of-nines-5-more, of-nines-3}
-use Rattle.tables.proofs.Laws.{marks-0, marks-1, marks-2, marks-3, marks-4, marks-5, marks-6, marks-7}
+use Rattle.tables.proofs.Classes.{of-nine, of-nine-last}
+use Rattle.tables.proofs.Laws.{marks}
 use Rattle.tables.proofs.marks_at.Statement.{statement}
 use Rattle.tables.proofs.marks_at.Tie as tie
 
 returns : tie.Need-returns
-returns c = marks-7 (mod-lt _ (omega arith)) (of-nines-7 (c .before .args .nine % 512) (c .match .keys1))
+returns c = marks 7 (omega arith) (mod-lt _ (omega arith)) (of-nine 0 (c .before .args .nine % 512) (c .match .keys1))
 
 returns-2 : tie.Need-returns-2
-returns-2 c = marks-1 (mod-lt _ (omega arith)) (of-nines-1 (c .before .args .nine % 512) (c .match .keys2))
+returns-2 c = marks 1 (omega arith) (mod-lt _ (omega arith)) (of-nine 1 (c .before .args .nine % 512) (c .match .keys2))
 
 returns-3 : tie.Need-returns-3
-returns-3 c = marks-0 (mod-lt _ (omega arith)) (of-nines-0 (c .before .args .nine % 512) (c .match .keys3))
+returns-3 c = marks 0 (omega arith) (mod-lt _ (omega arith)) (of-nine 2 (c .before .args .nine % 512) (c .match .keys3))
 
 returns-4 : tie.Need-returns-4
-returns-4 c = marks-6 (mod-lt _ (omega arith)) (of-nines-6 (c .before .args .nine % 512) (c .match .keys4))
+returns-4 c = marks 6 (omega arith) (mod-lt _ (omega arith)) (of-nine 3 (c .before .args .nine % 512) (c .match .keys4))
 
 returns-5 : tie.Need-returns-5
-returns-5 c = marks-2 (mod-lt _ (omega arith)) (of-nines-2 (c .before .args .nine % 512) (c .match .keys5))
+returns-5 c = marks 2 (omega arith) (mod-lt _ (omega arith)) (of-nine 4 (c .before .args .nine % 512) (c .match .keys5))
 
 returns-6 : tie.Need-returns-6
-returns-6 c = marks-2 (mod-lt _ (omega arith)) (of-nines-2-more (c .before .args .nine % 512) (c .match .keys6))
+returns-6 c = marks 2 (omega arith) (mod-lt _ (omega arith)) (of-nine 5 (c .before .args .nine % 512) (c .match .keys6))
 
 returns-7 : tie.Need-returns-7
-returns-7 c = marks-4 (mod-lt _ (omega arith)) (of-nines-4 (c .before .args .nine % 512) (c .match .keys7))
+returns-7 c = marks 4 (omega arith) (mod-lt _ (omega arith)) (of-nine 6 (c .before .args .nine % 512) (c .match .keys7))
 
 returns-8 : tie.Need-returns-8
-returns-8 c = marks-4 (mod-lt _ (omega arith)) (of-nines-4-more (c .before .args .nine % 512) (c .match .keys8))
+returns-8 c = marks 4 (omega arith) (mod-lt _ (omega arith)) (of-nine 7 (c .before .args .nine % 512) (c .match .keys8))
 
 returns-9 : tie.Need-returns-9
-returns-9 c = marks-5 (mod-lt _ (omega arith)) (of-nines-5 (c .before .args .nine % 512) (c .match .keys9))
+returns-9 c = marks 5 (omega arith) (mod-lt _ (omega arith)) (of-nine 8 (c .before .args .nine % 512) (c .match .keys9))
 
 returns-10 : tie.Need-returns-10
-returns-10 c = marks-5 (mod-lt _ (omega arith)) (of-nines-5-more (c .before .args .nine % 512) (c .match .keys10))
+returns-10 c = marks 5 (omega arith) (mod-lt _ (omega arith)) (of-nine 9 (c .before .args .nine % 512) (c .match .keys10))
 
 returns-11 : tie.Need-returns-11
-returns-11 c = marks-3 (mod-lt _ (omega arith)) (of-nines-3 _ (c .before .args .nine % 512) (mod-lt _ (omega arith)) (c .match .rest))
+returns-11 c = marks 3 (omega arith) (mod-lt _ (omega arith)) (of-nine-last _ (c .before .args .nine % 512) (mod-lt _ (omega arith)) (c .match .rest))
 
 pub marks-at-spec : {M : Type 1} → statement M
 marks-at-spec =

@@ -14,9 +14,6 @@ returns-2 : tie.Need-returns-2
 unfolding gapNow
 returns-2 c = rw (not-false (c .before .before .before .args .started) (c .before .before .if1 .left), eq-eqb _ _ (c .if2 .taken))
 
-difference-requires : tie.Need-difference-requires
-difference-requires c κs = search needs
-
 returns-3 : tie.Need-returns-3
 unfolding gapNow
 returns-3 c =
@@ -25,4 +22,4 @@ returns-3 c =
     (c .difference .ensures)
 
 pub gap-now-spec : {M : Type 1} → statement M
-gap-now-spec = tie.close (tie.spec returns returns-2 difference-requires returns-3)
+gap-now-spec = tie.close (tie.spec returns returns-2 (search needs) returns-3)

@@ -19,18 +19,12 @@ returns c =
     receives-settings (a .state) (now (a .cell)) (a .samples) (a .ancillary) (a .marks) (c .before .before .pre .0)
     (c .if1 .taken)
 
-last-refused-requires : tie.Need-last-refused-requires
-last-refused-requires c κs = search needs
-
 returns-2 : tie.Need-returns-2
 returns-2 c =
     let a = c .before .before .before .before .before .args in
     receives-4 (a .state) (now (a .cell)) (a .samples) (a .ancillary) (a .marks)
     (c .before .before .before .before .before .pre .0) (c .before .before .before .if1 .left)
     (sym (c .if2 .taken) ∙ c .before .last-refused .ensures)
-
-lengths-refused-requires : tie.Need-lengths-refused-requires
-lengths-refused-requires c κs = search needs
 
 fourth : (c : tie.Else2) → false ≡ lastRefused (c .before .before .before .before .before .args .set .format) (c .before .before .before .before .before .args .state .started) (c .before .before .before .before .before .args .state .last)
 fourth c = sym (c .if2 .left) ∙ c .before .last-refused .ensures
@@ -59,9 +53,6 @@ returns-4 c =
     (c .before .before .before .before .before .before .if1 .left) (fourth (c .before .before .before)) (fifth (c .before))
     (number-is (c .before)) (c .if4 .taken)
 
-gap-now-requires : tie.Need-gap-now-requires
-gap-now-requires c κs = search needs
-
 returns-5 : tie.Need-returns-5
 returns-5 c =
     let a = c .before .before .before .before .before .before .before .before .before .before .args in
@@ -70,9 +61,6 @@ returns-5 c =
     (c .before .before .before .before .before .before .before .before .if1 .left)
     (fourth (c .before .before .before .before .before)) (fifth (c .before .before .before))
     (number-is (c .before .before .before)) (c .before .before .if4 .left) (c .before .gap-now .ensures) (c .if5 .taken)
-
-cast-if6 : tie.Need-cast-if6
-cast-if6 c = search needs
 
 mul-if6 : tie.Need-mul-if6
 mul-if6 c =
@@ -117,17 +105,5 @@ returns-7 c =
 pub receive-refusal-spec : {M : Type 1} → statement M
 receive-refusal-spec =
     tie.close
-    (tie.spec
-    returns
-    last-refused-requires
-    returns-2
-    lengths-refused-requires
-    returns-3
-    returns-4
-    gap-now-requires
-    returns-5
-    cast-if6
-    mul-if6
-    mul-if6-2
-    returns-6
-    returns-7)
+    (tie.spec returns (search needs) returns-2 (search needs) returns-3 returns-4 (search needs) returns-5 (search needs) mul-if6
+    mul-if6-2 returns-6 returns-7)

@@ -10,17 +10,8 @@ use borrow.Author.Needs.{needs}
 use Rattle.receiver.proofs.unpack.in2.Statement.{statement}
 use Rattle.receiver.proofs.unpack.in2.Tie as tie
 
-shared-slice-read-turned2 : tie.Need-shared-slice-read-turned2
-shared-slice-read-turned2 c = search needs
-
 cast-turned2 : tie.Need-cast-turned2
 cast-turned2 c = omega (arith, c .shared-slice-known2 .given (c .before .before .args .at))
-
-add-turned2 : tie.Need-add-turned2
-add-turned2 c = search needs
-
-shared-slice-read-turned2-2 : tie.Need-shared-slice-read-turned2-2
-shared-slice-read-turned2-2 c = search needs
 
 cast-turned2-2 : tie.Need-cast-turned2-2
 cast-turned2-2 c = omega (arith, c .shared-slice-known3 .given (c .before .before .before .args .at + 1))
@@ -33,9 +24,6 @@ add-turned2-2 c =
     omega
     (arith, c .shared-slice-known3 .given (c .before .before .before .args .at), c .shared-slice-known3 .given (c .before .before .before .args .at + 1))
 
-turned2-requires : tie.Need-turned2-requires
-turned2-requires c κs = search needs
-
 returns : tie.Need-returns
 returns c =
     let s = c .before .before .before .before in let known = c .before .shared-slice-known3 .given in let first = known
@@ -47,13 +35,5 @@ returns c =
 pub in2-spec : {M : Type 1} → statement M
 in2-spec =
     tie.close
-    (tie.spec
-    shared-slice-read-turned2
-    cast-turned2
-    add-turned2
-    shared-slice-read-turned2-2
-    cast-turned2-2
-    mul-turned2
-    add-turned2-2
-    turned2-requires
+    (tie.spec (search needs) cast-turned2 (search needs) (search needs) cast-turned2-2 mul-turned2 add-turned2-2 (search needs)
     returns)

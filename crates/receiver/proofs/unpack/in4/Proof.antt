@@ -10,17 +10,8 @@ use borrow.Author.Needs.{needs}
 use Rattle.receiver.proofs.unpack.in4.Statement.{statement}
 use Rattle.receiver.proofs.unpack.in4.Tie as tie
 
-shared-slice-read-turned4 : tie.Need-shared-slice-read-turned4
-shared-slice-read-turned4 c = search needs
-
 cast-turned4 : tie.Need-cast-turned4
 cast-turned4 c = omega (arith, c .shared-slice-known2 .given (c .before .before .args .at))
-
-add-turned4 : tie.Need-add-turned4
-add-turned4 c = search needs
-
-shared-slice-read-turned4-2 : tie.Need-shared-slice-read-turned4-2
-shared-slice-read-turned4-2 c = search needs
 
 cast-turned4-2 : tie.Need-cast-turned4-2
 cast-turned4-2 c =
@@ -36,12 +27,6 @@ add-turned4-2 : tie.Need-add-turned4-2
 add-turned4-2 c =
     omega
     (arith, c .shared-slice-known3 .given (c .before .before .before .args .at), c .shared-slice-known3 .given (c .before .before .before .args .at + 1))
-
-add-turned4-3 : tie.Need-add-turned4-3
-add-turned4-3 c = search needs
-
-shared-slice-read-turned4-3 : tie.Need-shared-slice-read-turned4-3
-shared-slice-read-turned4-3 c = search needs
 
 cast-turned4-3 : tie.Need-cast-turned4-3
 cast-turned4-3 c =
@@ -61,12 +46,6 @@ add-turned4-4 c =
     omega
     (arith, c .shared-slice-known4 .given (a .at), c .shared-slice-known4 .given (a .at + 1), c .shared-slice-known4 .given (a .at + 2))
 
-add-turned4-5 : tie.Need-add-turned4-5
-add-turned4-5 c = search needs
-
-shared-slice-read-turned4-4 : tie.Need-shared-slice-read-turned4-4
-shared-slice-read-turned4-4 c = search needs
-
 cast-turned4-4 : tie.Need-cast-turned4-4
 cast-turned4-4 c =
     let a = c .before .before .before .before .before .args in
@@ -85,9 +64,6 @@ add-turned4-6 c =
     omega
     (arith, c .shared-slice-known5 .given (a .at), c .shared-slice-known5 .given (a .at + 1), c .shared-slice-known5 .given (a .at + 2), c .shared-slice-known5 .given (a .at + 3))
 
-turned4-requires : tie.Need-turned4-requires
-turned4-requires c κs = search needs
-
 returns : tie.Need-returns
 returns c =
     let s = c .before .before .before .before .before .before in let known = c .before .shared-slice-known5 .given in let h0 =
@@ -104,23 +80,6 @@ returns c =
 pub in4-spec : {M : Type 1} → statement M
 in4-spec =
     tie.close
-    (tie.spec
-    shared-slice-read-turned4
-    cast-turned4
-    add-turned4
-    shared-slice-read-turned4-2
-    cast-turned4-2
-    mul-turned4
-    add-turned4-2
-    add-turned4-3
-    shared-slice-read-turned4-3
-    cast-turned4-3
-    mul-turned4-2
-    add-turned4-4
-    add-turned4-5
-    shared-slice-read-turned4-4
-    cast-turned4-4
-    mul-turned4-3
-    add-turned4-6
-    turned4-requires
-    returns)
+    (tie.spec (search needs) cast-turned4 (search needs) (search needs) cast-turned4-2 mul-turned4 add-turned4-2 (search needs)
+    (search needs) cast-turned4-3 mul-turned4-2 add-turned4-4 (search needs) (search needs) cast-turned4-4 mul-turned4-3
+    add-turned4-6 (search needs) returns)

@@ -6,22 +6,13 @@ use borrow.Author.Needs.{needs}
 use Rattle.receiver.proofs.unpack.next_slot.Statement.{statement}
 use Rattle.receiver.proofs.unpack.next_slot.Tie as tie
 
-add-next : tie.Need-add-next
-add-next c = search needs
-
 returns : tie.Need-returns
 unfolding nextSlot
 returns c = rw (lt-ltb _ _ (c .if1 .taken))
-
-sub-result : tie.Need-sub-result
-sub-result c = search needs
-
-sub-result-2 : tie.Need-sub-result-2
-sub-result-2 c = search needs
 
 returns-2 : tie.Need-returns-2
 unfolding nextSlot
 returns-2 c = rw (le-ltb _ _ (c .if1 .left))
 
 pub next-slot-spec : {M : Type 1} → statement M
-next-slot-spec = tie.close (tie.spec add-next returns sub-result sub-result-2 returns-2)
+next-slot-spec = tie.close (tie.spec (search needs) returns (search needs) (search needs) returns-2)

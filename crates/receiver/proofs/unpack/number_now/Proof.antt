@@ -25,15 +25,6 @@ eight-in-requires : tie.Need-eight-in-requires
 eight-in-requires c κs =
     (c .before .before .before .before .before .before .before .pre (c .before .before .before .before .if1 .left), c .before .before .before .if2 .left)
 
-number-of-requires : tie.Need-number-of-requires
-number-of-requires c κs = search needs
-
-enum-known-found : tie.Need-enum-known-found
-enum-known-found c = search needs
-
-enum-told : tie.Need-enum-told
-enum-told c = search needs
-
 found : (c : tie.After-number-of) → c .number-of .result ≡ foundOf (eightIn (c .before .before .before .before .before .before .before .before .before .args .set .format) (now (c .before .before .before .before .before .before .before .before .before .args .cell)))
 found c = c .number-of .ensures ∙ ap foundOf (c .before .eight-in .ensures)
 
@@ -52,13 +43,4 @@ returns-5 c =
 pub number-now-spec : {M : Type 1} → statement M
 number-now-spec =
     tie.close
-    (tie.spec
-    returns
-    returns-2
-    returns-3
-    eight-in-requires
-    number-of-requires
-    enum-known-found
-    enum-told
-    returns-4
-    returns-5)
+    (tie.spec returns returns-2 returns-3 eight-in-requires (search needs) (search needs) (search needs) returns-4 returns-5)

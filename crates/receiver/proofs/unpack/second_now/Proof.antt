@@ -15,36 +15,6 @@ returns-2 : tie.Need-returns-2
 unfolding secondNow secondIn
 returns-2 c = rw (ne-eqb _ _ (c .before .before .if1 .left), lt-ltb _ _ (c .if2 .taken))
 
-bit-in-requires : tie.Need-bit-in-requires
-bit-in-requires c κs = search needs
-
-bit-in-requires-2 : tie.Need-bit-in-requires-2
-bit-in-requires-2 c κs = search needs
-
-mul-result : tie.Need-mul-result
-mul-result c = search needs
-
-add-result : tie.Need-add-result
-add-result c = search needs
-
-bit-in-requires-3 : tie.Need-bit-in-requires-3
-bit-in-requires-3 c κs = search needs
-
-mul-result-2 : tie.Need-mul-result-2
-mul-result-2 c = search needs
-
-add-result-2 : tie.Need-add-result-2
-add-result-2 c = search needs
-
-bit-in-requires-4 : tie.Need-bit-in-requires-4
-bit-in-requires-4 c κs = search needs
-
-mul-result-3 : tie.Need-mul-result-3
-mul-result-3 c = search needs
-
-add-result-3 : tie.Need-add-result-3
-add-result-3 c = search needs
-
 returns-3 : tie.Need-returns-3
 unfolding secondNow secondIn
 returns-3 c =
@@ -60,17 +30,5 @@ returns-3 c =
 pub second-now-spec : {M : Type 1} → statement M
 second-now-spec =
     tie.close
-    (tie.spec
-    returns
-    returns-2
-    bit-in-requires
-    bit-in-requires-2
-    mul-result
-    add-result
-    bit-in-requires-3
-    mul-result-2
-    add-result-2
-    bit-in-requires-4
-    mul-result-3
-    add-result-3
-    returns-3)
+    (tie.spec returns returns-2 (search needs) (search needs) (search needs) (search needs) (search needs) (search needs)
+    (search needs) (search needs) (search needs) (search needs) returns-3)

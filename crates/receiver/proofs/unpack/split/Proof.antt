@@ -67,12 +67,6 @@ slice-write-ancillary c =
     omega
     (arith, c .before .before .before .before .before .before .pre .2 .ancillary-room, c .before .loop-test .taken, c .before .before .loop .inv .1 .same)
 
-nine-bits-requires : tie.Need-nine-bits-requires Inv-loop μ-loop
-nine-bits-requires c κs = search needs
-
-marks-of-requires : tie.Need-marks-of-requires Inv-loop μ-loop
-marks-of-requires c κs = search needs
-
 shr-marks : tie.Need-shr-marks Inv-loop μ-loop
 shr-marks c = omega arith
 
@@ -125,29 +119,6 @@ returns c =
 pub split-spec : {M : Type 1} → statement M
 split-spec =
     tie.close
-    (tie.spec
-    Inv-loop
-    μ-loop
-    loop-holds
-    add-subframe
-    mul-subframe
-    slice-read-subframe
-    add-samples
-    mul-samples
-    slice-write-samples
-    cast-ancillary
-    add-ancillary
-    slice-write-ancillary
-    nine-bits-requires
-    marks-of-requires
-    shr-marks
-    cast-marks
-    add-marks
-    slice-write-marks
-    add-i
-    loop-less
-    loop-again
-    same-length
-    same-length-2
-    same-length-3
-    returns)
+    (tie.spec Inv-loop μ-loop loop-holds add-subframe mul-subframe slice-read-subframe add-samples mul-samples slice-write-samples
+    cast-ancillary add-ancillary slice-write-ancillary (search needs) (search needs) shr-marks cast-marks add-marks
+    slice-write-marks add-i loop-less loop-again same-length same-length-2 same-length-3 returns)

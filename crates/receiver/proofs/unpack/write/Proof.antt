@@ -6,22 +6,10 @@ use borrow.Author.Needs.{needs}
 use Rattle.receiver.proofs.unpack.write.Statement.{statement}
 use Rattle.receiver.proofs.unpack.write.Tie as tie
 
-missing-entries-requires : tie.Need-missing-entries-requires
-missing-entries-requires c κs = search needs
-
 own-entries-requires : tie.Need-own-entries-requires
 own-entries-requires c κs =
     let s = c .before .before .before .before .before .before .before .before .before .before .before .before .before .before .before .before .before in
     (s .pre .0, s .pre .1, s .pre .2, record { samples-room = search needs; ancillary-room = search needs; marks-room = search needs })
-
-same-length : tie.Need-same-length
-same-length c = search needs
-
-same-length-2 : tie.Need-same-length-2
-same-length-2 c = search needs
-
-same-length-3 : tie.Need-same-length-3
-same-length-3 c = search needs
 
 returns : tie.Need-returns
 returns c =
@@ -32,10 +20,4 @@ returns c =
 pub write-spec : {M : Type 1} → statement M
 write-spec =
     tie.close
-    (tie.spec
-    missing-entries-requires
-    own-entries-requires
-    same-length
-    same-length-2
-    same-length-3
-    returns)
+    (tie.spec (search needs) own-entries-requires (search needs) (search needs) (search needs) returns)

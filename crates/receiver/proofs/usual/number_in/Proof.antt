@@ -9,18 +9,6 @@ use borrow.Author.Needs.{needs}
 use Rattle.receiver.proofs.usual.number_in.Statement.{statement}
 use Rattle.receiver.proofs.usual.number_in.Tie as tie
 
-eight-in-requires : tie.Need-eight-in-requires
-eight-in-requires c κs = search needs
-
-number-of-requires : tie.Need-number-of-requires
-number-of-requires c κs = search needs
-
-enum-known-found : tie.Need-enum-known-found
-enum-known-found c = search needs
-
-enum-told : tie.Need-enum-told
-enum-told c = search needs
-
 found : (c : tie.After-number-of)
     → c .number-of .result ≡ foundOf (eightIn (c .before .before .before .args .format) (now (c .before .before .before .args .cell)))
 found c = c .number-of .ensures ∙ ap foundOf (c .before .eight-in .ensures)
@@ -38,4 +26,4 @@ returns-2 c =
 pub number-in-spec : {M : Type 1} → statement M
 number-in-spec =
     tie.close
-    (tie.spec eight-in-requires number-of-requires enum-known-found enum-told returns returns-2)
+    (tie.spec (search needs) (search needs) (search needs) (search needs) returns returns-2)

@@ -1,6 +1,6 @@
 -- `receiver::usual::own_entries` meets its contract.
 -- Assumes nothing.
-use Prim.Native.Nat.{_-_, _*_}
+use Prim.Native.Nat.{_-_}
 use native.Mathlib.Omega.{arith}
 use denote.Ref.{now}
 use borrow.Author.Needs.{needs}
@@ -42,9 +42,6 @@ add-ancillary c = omega (arith, c .before .before .before .before .before .befor
 
 slice-write-ancillary : tie.Need-slice-write-ancillary Inv-loop μ-loop
 slice-write-ancillary c = omega (arith, c .before .before .before .before .before .before .before .pre .1 .ancillary-room, c .before .loop-test .taken, c .before .before .loop .inv .ancillary-so-far .same)
-
-marks-at-requires : tie.Need-marks-at-requires Inv-loop μ-loop
-marks-at-requires c κs = search needs
 
 shr-marks : tie.Need-shr-marks Inv-loop μ-loop
 shr-marks c = omega arith
@@ -90,27 +87,6 @@ returns c =
 pub own-entries-spec : {M : Type 1} → statement M
 own-entries-spec =
     tie.close
-    (tie.spec
-    Inv-loop
-    μ-loop
-    loop-holds
-    mul-in4
-    in4-requires
-    add-samples
-    mul-samples
-    slice-write-samples
-    cast-ancillary
-    add-ancillary
-    slice-write-ancillary
-    marks-at-requires
-    shr-marks
-    cast-marks
-    add-marks
-    slice-write-marks
-    add-i
-    loop-less
-    loop-again
-    same-length
-    same-length-2
-    same-length-3
-    returns)
+    (tie.spec Inv-loop μ-loop loop-holds mul-in4 in4-requires add-samples mul-samples slice-write-samples cast-ancillary
+    add-ancillary slice-write-ancillary (search needs) shr-marks cast-marks add-marks slice-write-marks add-i loop-less loop-again
+    same-length same-length-2 same-length-3 returns)

@@ -2,19 +2,15 @@
 -- Assumes nothing.
 use mathlib.Core.Path.{_≡_, refl, _∙_, sym}
 use Prim.Native.Nat.{_-_}
-use native.Mathlib.Omega.{arith}
 use denote.Ref.{now}
 use lib.ListN.{length}
 use Rattle.formats.specs.Formats.{settingsOf}
 use Rattle.receiver.specs.Receiver.{receiveRefusal, numberNow}
 use Rattle.receiver.proofs.AllSlots.{usual-settles, usual-sound, usual-number, usual-room, usual-writes}
-use Rattle.receiver.proofs.Laws.{receives-refused, gap-some, gap-few, roomy, receives-taken}
+use Rattle.receiver.proofs.Laws.{receives-refused, gap-some, roomy, receives-taken}
 use borrow.Author.Needs.{needs}
 use Rattle.receiver.proofs.usual.receive.Statement.{statement}
 use Rattle.receiver.proofs.usual.receive.Tie as tie
-
-usual-requires : tie.Need-usual-requires
-usual-requires c κs = search needs
 
 number-in-requires : tie.Need-number-in-requires
 number-in-requires c κs = (usual-sound (c .before .before .before .before .before .before .before .pre) (c .before .usual .ensures), c .before .before .before .before .before .before .before .pre .cell-whole)
@@ -43,19 +39,10 @@ given c = usual-settles (c .before .before .before .before .before .before .befo
 number-is : (c : tie.Else1) → c .before .before .number-in .result ≡ numberNow (c .before .before .before .before .usual .result .format) (now (c .before .before .before .before .before .before .before .before .before .before .args .cell))
 number-is c = usual-number (c .before .before .before .before .before .before .before .before .before .before .pre) (c .before .before .before .before .usual .ensures) (now (c .before .before .before .before .before .before .before .before .before .before .args .cell)) (c .before .before .number-in .ensures)
 
-gap-now-requires : tie.Need-gap-now-requires
-gap-now-requires c κs = search needs
-
 sub-missing : tie.Need-sub-missing
 sub-missing c =
     let s = c .before .before .before .before .before .before .before .before .before .before .before in
     gap-some (s .args .state) (now (s .args .cell)) (s .args .indication) (now (s .args .samples)) (now (s .args .ancillary)) (now (s .args .marks)) (given (c .before)) (none (c .before)) (number-is (c .before)) (c .gap-now .ensures)
-
-cast-place : tie.Need-cast-place
-cast-place c = search needs
-
-mul-place : tie.Need-mul-place
-mul-place c = search needs
 
 write-requires : tie.Need-write-requires
 write-requires c κs =
@@ -68,15 +55,6 @@ write-requires c κs =
 second-now-requires : tie.Need-second-now-requires
 second-now-requires c κs = (usual-sound (c .before .before .before .before .before .before .before .before .before .before .before .before .before .before .before .before .before .before .before .before .before .pre) (c .before .before .before .before .before .before .before .before .before .before .before .before .before .before .before .usual .ensures), c .before .before .before .before .before .before .before .before .before .before .before .before .before .before .before .before .before .before .before .before .before .pre .cell-whole)
 
-same-length : tie.Need-same-length
-same-length c = search needs
-
-same-length-2 : tie.Need-same-length-2
-same-length-2 c = search needs
-
-same-length-3 : tie.Need-same-length-3
-same-length-3 c = search needs
-
 returns-2 : tie.Need-returns-2
 returns-2 c =
     let s = c .before .before .before .before .before .before .before .before .before .before .before .before .before .before .before .before .before .before .before .before .before .before in
@@ -86,18 +64,5 @@ returns-2 c =
 pub receive-spec : {M : Type 1} → statement M
 receive-spec =
     tie.close
-    (tie.spec
-    usual-requires
-    number-in-requires
-    receive-refusal-requires
-    returns
-    gap-now-requires
-    sub-missing
-    cast-place
-    mul-place
-    write-requires
-    second-now-requires
-    same-length
-    same-length-2
-    same-length-3
-    returns-2)
+    (tie.spec (search needs) number-in-requires receive-refusal-requires returns (search needs) sub-missing (search needs)
+    (search needs) write-requires second-now-requires (search needs) (search needs) (search needs) returns-2)

@@ -45,9 +45,6 @@ shared-slice-read-wide : tie.Need-shared-slice-read-wide Inv-loop μ-loop
 shared-slice-read-wide c =
     omega (arith, here (c .before .before), c .before .before .before .before .before .before .before .pre .1 .as-many)
 
-wide-requires : tie.Need-wide-requires Inv-loop μ-loop
-wide-requires c κs = search needs
-
 subframe-requires : tie.Need-subframe-requires Inv-loop μ-loop
 subframe-requires c κs =
     let given = c .before .before .before .before .before .before .before .before .pre in (
@@ -98,21 +95,5 @@ returns c =
 pub fill-by-channel-spec : {M : Type 1} → statement M
 fill-by-channel-spec =
     tie.close
-    (tie.spec
-    Inv-loop
-    μ-loop
-    loop-holds
-    shr-bit
-    mul-subframe
-    shared-slice-read-subframe
-    shared-slice-read-wide
-    wide-requires
-    subframe-requires
-    mul-put
-    put-requires
-    next-entry-requires
-    add-slot
-    loop-less
-    loop-again
-    same-length
-    returns)
+    (tie.spec Inv-loop μ-loop loop-holds shr-bit mul-subframe shared-slice-read-subframe shared-slice-read-wide (search needs)
+    subframe-requires mul-put put-requires next-entry-requires add-slot loop-less loop-again same-length returns)

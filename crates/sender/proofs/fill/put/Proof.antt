@@ -35,9 +35,6 @@ mul-cell c = omega arith
 shr-cell : tie.Need-shr-cell Inv-loop μ-loop
 shr-cell c = omega arith
 
-cast-cell : tie.Need-cast-cell Inv-loop μ-loop
-cast-cell c = search needs
-
 add-cell : tie.Need-add-cell Inv-loop μ-loop
 add-cell c = omega arith
 
@@ -71,19 +68,5 @@ returns c =
 pub put-spec : {M : Type 1} → statement M
 put-spec =
     tie.close
-    (tie.spec
-    Inv-loop
-    μ-loop
-    loop-holds
-    sub-cell
-    sub-cell-2
-    mul-cell
-    shr-cell
-    cast-cell
-    add-cell
-    slice-write-cell
-    add-i
-    loop-less
-    loop-again
-    same-length
-    returns)
+    (tie.spec Inv-loop μ-loop loop-holds sub-cell sub-cell-2 mul-cell shr-cell (search needs) add-cell slice-write-cell add-i
+    loop-less loop-again same-length returns)

@@ -18,9 +18,6 @@ abbrev μ-loop : tie.MeasureT-loop
 loop-holds : tie.Need-loop-holds Inv-loop μ-loop
 loop-holds c = united-begun (now (c .args .run))
 
-shared-slice-read-all : tie.Need-shared-slice-read-all Inv-loop μ-loop
-shared-slice-read-all c = search needs
-
 add-i : tie.Need-add-i Inv-loop μ-loop
 add-i c = omega arith
 
@@ -36,4 +33,4 @@ returns c = united-done (c .before .loop .inv) (c .loop-test .left)
 pub octets-united-spec : {M : Type 1} → statement M
 octets-united-spec =
     tie.close
-    (tie.spec Inv-loop μ-loop loop-holds shared-slice-read-all add-i loop-less loop-again returns)
+    (tie.spec Inv-loop μ-loop loop-holds (search needs) add-i loop-less loop-again returns)

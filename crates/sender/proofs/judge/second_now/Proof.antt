@@ -26,9 +26,6 @@ returns-3 c =
       not-true (c .before .before .before .before .before .args .state .sent) (c .if3 .taken),
     )
 
-wrapping-add-u8-requires : tie.Need-wrapping-add-u8-requires
-wrapping-add-u8-requires c κs = search needs
-
 returns-4 : tie.Need-returns-4
 unfolding secondNow
 returns-4 c =
@@ -38,4 +35,4 @@ returns-4 c =
 
 pub second-now-spec : {M : Type 1} → statement M
 second-now-spec =
-    tie.close (tie.spec returns returns-2 returns-3 wrapping-add-u8-requires returns-4)
+    tie.close (tie.spec returns returns-2 returns-3 (search needs) returns-4)

@@ -17,15 +17,6 @@ returns c =
     sends-settings (a .state) (a .indication) (now (a .samples)) (now (a .ancillary)) (a .room) (c .before .before .before .pre)
     (c .if1 .taken)
 
-cast-numbers : tie.Need-cast-numbers
-cast-numbers c = search needs
-
-cast-numbers-2 : tie.Need-cast-numbers-2
-cast-numbers-2 c = search needs
-
-numbers-requires : tie.Need-numbers-requires
-numbers-requires c κs = search needs
-
 returns-2 : tie.Need-returns-2
 returns-2 c =
     let a = c .before .before .before .before .before .before .before .before .args in
@@ -46,9 +37,6 @@ mul-lengths-refused : tie.Need-mul-lengths-refused
 mul-lengths-refused c =
     let a = c .before .before .before .before .before .before .before .before .before .args in omega
     (arith, limits (a .state) (a .indication) (now (a .samples)) (now (a .ancillary)) (a .room) (c .before .before .before .before .before .before .before .before .before .pre) (c .before .before .before .before .before .before .if1 .left) .used-to)
-
-lengths-refused-requires : tie.Need-lengths-refused-requires
-lengths-refused-requires c κs = search needs
 
 returns-3 : tie.Need-returns-3
 returns-3 c =
@@ -71,9 +59,6 @@ returns-4 c =
     (c .before .before .before .before .before .before .before .before .before .before .if1 .left)
     (fourth (c .before .before .before .before .before)) (fifth (c .before .before))
     (sym (c .if4 .taken) ∙ c .before .values-refused .ensures)
-
-indication-refused-requires : tie.Need-indication-refused-requires
-indication-refused-requires c κs = search needs
 
 returns-5 : tie.Need-returns-5
 returns-5 c =
@@ -98,17 +83,5 @@ returns-6 c =
 pub send-refusal-spec : {M : Type 1} → statement M
 send-refusal-spec =
     tie.close
-    (tie.spec
-    returns
-    cast-numbers
-    cast-numbers-2
-    numbers-requires
-    returns-2
-    mul-lengths-refused
-    lengths-refused-requires
-    returns-3
-    values-refused-requires
-    returns-4
-    indication-refused-requires
-    returns-5
-    returns-6)
+    (tie.spec returns (search needs) (search needs) (search needs) returns-2 mul-lengths-refused (search needs) returns-3
+    values-refused-requires returns-4 (search needs) returns-5 returns-6)

@@ -7,17 +7,11 @@ use borrow.Author.Needs.{needs}
 use Rattle.sender.proofs.judge.state_refusal.Statement.{statement}
 use Rattle.sender.proofs.judge.state_refusal.Tie as tie
 
-settings-requires : tie.Need-settings-requires
-settings-requires c κs = search needs
-
 returns : tie.Need-returns
 returns c =
     let a = c .before .before .args in
     by-settings (a .octet) (a .channels) (a .order) (a .number) (a .wanted) (a .second) (c .before .settings .ensures)
     (c .if1 .taken)
-
-numbers-requires : tie.Need-numbers-requires
-numbers-requires c κs = search needs
 
 returns-2 : tie.Need-returns-2
 returns-2 c =
@@ -35,4 +29,4 @@ returns-3 c =
 
 pub state-refusal-spec : {M : Type 1} → statement M
 state-refusal-spec =
-    tie.close (tie.spec settings-requires returns numbers-requires returns-2 returns-3)
+    tie.close (tie.spec (search needs) returns (search needs) returns-2 returns-3)

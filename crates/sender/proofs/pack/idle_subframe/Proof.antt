@@ -10,15 +10,9 @@ returns : tie.Need-returns
 unfolding idleNumber
 returns c = rw (c .if1 .taken)
 
-mul-result : tie.Need-mul-result
-mul-result c = search needs
-
-add-result : tie.Need-add-result
-add-result c = search needs
-
 returns-2 : tie.Need-returns-2
 unfolding idleNumber
 returns-2 c = rw (ne-eqb _ _ (c .if1 .left))
 
 pub idle-subframe-spec : {M : Type 1} → statement M
-idle-subframe-spec = tie.close (tie.spec returns mul-result add-result returns-2)
+idle-subframe-spec = tie.close (tie.spec returns (search needs) (search needs) returns-2)

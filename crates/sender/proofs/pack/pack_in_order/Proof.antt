@@ -8,9 +8,6 @@ use borrow.Author.Needs.{needs}
 use Rattle.sender.proofs.pack.pack_in_order.Statement.{statement}
 use Rattle.sender.proofs.pack.pack_in_order.Tie as tie
 
-sevens-requires : tie.Need-sevens-requires
-sevens-requires c κs = search needs
-
 told : (c : tie.After-fill-in-order-arg) → Named (c .before .before .before .before .before .before .before .before .args .set .format) 8 0 0 1
 told c =
     named-octet (c .before .before .before .before .before .before .before .before .pre .0 .limits .sound)
@@ -61,18 +58,12 @@ fill-in-order-requires-5 c κs =
     fillable (c .before .before .before .before .before .before .before .before .pre .0) (told-5 c)
     (c .before .before .before .sevens .ensures) (c .before .before .before .before .before .before .before .before .pre .1)
 
-same-length : tie.Need-same-length
-same-length c = search needs
-
 returns : tie.Need-returns
 returns c =
     let a = c .before .before .before .before .before .before .before .before .before .before .before .args in
     written-as (c .before .before .before .before .before .before .before .before .before .before .before .pre .0 .limits .sound)
     (told (c .before .before .before)) inOrder (a .sequence) (now (a .samples)) (now (a .ancillary)) (now (a .cell))
     (c .before .before .fill-in-order .ensures)
-
-same-length-2 : tie.Need-same-length-2
-same-length-2 c = search needs
 
 returns-2 : tie.Need-returns-2
 returns-2 c =
@@ -81,18 +72,12 @@ returns-2 c =
     (told-2 (c .before .before .before)) inOrder (a .sequence) (now (a .samples)) (now (a .ancillary)) (now (a .cell))
     (c .before .before .fill-in-order2 .ensures)
 
-same-length-3 : tie.Need-same-length-3
-same-length-3 c = search needs
-
 returns-3 : tie.Need-returns-3
 returns-3 c =
     let a = c .before .before .before .before .before .before .before .before .before .before .before .args in
     written-as (c .before .before .before .before .before .before .before .before .before .before .before .pre .0 .limits .sound)
     (told-3 (c .before .before .before)) inOrder (a .sequence) (now (a .samples)) (now (a .ancillary)) (now (a .cell))
     (c .before .before .fill-in-order3 .ensures)
-
-same-length-4 : tie.Need-same-length-4
-same-length-4 c = search needs
 
 returns-4 : tie.Need-returns-4
 returns-4 c =
@@ -101,18 +86,12 @@ returns-4 c =
     (told-4 (c .before .before .before)) inOrder (a .sequence) (now (a .samples)) (now (a .ancillary)) (now (a .cell))
     (c .before .before .fill-in-order4 .ensures)
 
-same-length-5 : tie.Need-same-length-5
-same-length-5 c = search needs
-
 returns-5 : tie.Need-returns-5
 returns-5 c =
     let a = c .before .before .before .before .before .before .before .before .before .before .before .args in
     written-as (c .before .before .before .before .before .before .before .before .before .before .before .pre .0 .limits .sound)
     (told-5 (c .before .before .before)) inOrder (a .sequence) (now (a .samples)) (now (a .ancillary)) (now (a .cell))
     (c .before .before .fill-in-order5 .ensures)
-
-sevens-requires-2 : tie.Need-sevens-requires-2
-sevens-requires-2 c κs = search needs
 
 told-6 : (c : tie.After-fill-in-order-arg6) → Named (c .before .before .before .before .before .before .before .before .args .set .format) 8 4 4 2
 told-6 c =
@@ -162,18 +141,12 @@ fill-in-order-requires-10 c κs =
     fillable (c .before .before .before .before .before .before .before .before .pre .0) (told-10 c)
     (c .before .before .before .sevens2 .ensures) (c .before .before .before .before .before .before .before .before .pre .1)
 
-same-length-6 : tie.Need-same-length-6
-same-length-6 c = search needs
-
 returns-6 : tie.Need-returns-6
 returns-6 c =
     let a = c .before .before .before .before .before .before .before .before .before .before .before .args in
     written-as (c .before .before .before .before .before .before .before .before .before .before .before .pre .0 .limits .sound)
     (told-6 (c .before .before .before)) inOrder (a .sequence) (now (a .samples)) (now (a .ancillary)) (now (a .cell))
     (c .before .before .fill-in-order6 .ensures)
-
-same-length-7 : tie.Need-same-length-7
-same-length-7 c = search needs
 
 returns-7 : tie.Need-returns-7
 returns-7 c =
@@ -182,9 +155,6 @@ returns-7 c =
     (told-7 (c .before .before .before)) inOrder (a .sequence) (now (a .samples)) (now (a .ancillary)) (now (a .cell))
     (c .before .before .fill-in-order7 .ensures)
 
-same-length-8 : tie.Need-same-length-8
-same-length-8 c = search needs
-
 returns-8 : tie.Need-returns-8
 returns-8 c =
     let a = c .before .before .before .before .before .before .before .before .before .before .before .args in
@@ -192,18 +162,12 @@ returns-8 c =
     (told-8 (c .before .before .before)) inOrder (a .sequence) (now (a .samples)) (now (a .ancillary)) (now (a .cell))
     (c .before .before .fill-in-order8 .ensures)
 
-same-length-9 : tie.Need-same-length-9
-same-length-9 c = search needs
-
 returns-9 : tie.Need-returns-9
 returns-9 c =
     let a = c .before .before .before .before .before .before .before .before .before .before .before .args in
     written-as (c .before .before .before .before .before .before .before .before .before .before .before .pre .0 .limits .sound)
     (told-9 (c .before .before .before)) inOrder (a .sequence) (now (a .samples)) (now (a .ancillary)) (now (a .cell))
     (c .before .before .fill-in-order9 .ensures)
-
-same-length-10 : tie.Need-same-length-10
-same-length-10 c = search needs
 
 returns-10 : tie.Need-returns-10
 returns-10 c =
@@ -215,36 +179,8 @@ returns-10 c =
 pub pack-in-order-spec : {M : Type 1} → statement M
 pack-in-order-spec =
     tie.close
-    (tie.spec
-    sevens-requires
-    fill-in-order-requires
-    fill-in-order-requires-2
-    fill-in-order-requires-3
-    fill-in-order-requires-4
-    fill-in-order-requires-5
-    same-length
-    returns
-    same-length-2
-    returns-2
-    same-length-3
-    returns-3
-    same-length-4
-    returns-4
-    same-length-5
-    returns-5
-    sevens-requires-2
-    fill-in-order-requires-6
-    fill-in-order-requires-7
-    fill-in-order-requires-8
-    fill-in-order-requires-9
-    fill-in-order-requires-10
-    same-length-6
-    returns-6
-    same-length-7
-    returns-7
-    same-length-8
-    returns-8
-    same-length-9
-    returns-9
-    same-length-10
-    returns-10)
+    (tie.spec (search needs) fill-in-order-requires fill-in-order-requires-2 fill-in-order-requires-3 fill-in-order-requires-4
+    fill-in-order-requires-5 (search needs) returns (search needs) returns-2 (search needs) returns-3 (search needs) returns-4
+    (search needs) returns-5 (search needs) fill-in-order-requires-6 fill-in-order-requires-7 fill-in-order-requires-8
+    fill-in-order-requires-9 fill-in-order-requires-10 (search needs) returns-6 (search needs) returns-7 (search needs) returns-8
+    (search needs) returns-9 (search needs) returns-10)

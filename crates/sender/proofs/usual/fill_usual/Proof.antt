@@ -34,9 +34,6 @@ shared-slice-read-subframe c = omega arith
 shared-slice-read-wide : tie.Need-shared-slice-read-wide Inv-loop μ-loop
 shared-slice-read-wide c = omega arith
 
-wide-requires : tie.Need-wide-requires Inv-loop μ-loop
-wide-requires c κs = search needs
-
 subframe-requires : tie.Need-subframe-requires Inv-loop μ-loop
 subframe-requires c κs =
     let given = c .before .before .before .before .before .before .before .before .pre in (
@@ -84,20 +81,5 @@ returns c =
 pub fill-usual-spec : {M : Type 1} → statement M
 fill-usual-spec =
     tie.close
-    (tie.spec
-    Inv-loop
-    μ-loop
-    loop-holds
-    shr-bit
-    mul-subframe
-    shared-slice-read-subframe
-    shared-slice-read-wide
-    wide-requires
-    subframe-requires
-    mul-put
-    put-requires
-    add-slot
-    loop-less
-    loop-again
-    same-length
-    returns)
+    (tie.spec Inv-loop μ-loop loop-holds shr-bit mul-subframe shared-slice-read-subframe shared-slice-read-wide (search needs)
+    subframe-requires mul-put put-requires add-slot loop-less loop-again same-length returns)

@@ -3,7 +3,6 @@
 use mathlib.Core.Bool.{true, false, false≢true}
 use mathlib.Core.Path.{_≡_}
 use native.Mathlib.Omega.{arith}
-use borrow.Author.Needs.{needs}
 use Rattle.sender.proofs.usual.is_usual.Statement.{statement}
 use Rattle.sender.proofs.usual.is_usual.Tie as tie
 

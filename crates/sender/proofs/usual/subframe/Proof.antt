@@ -1,7 +1,7 @@
 -- `sender::usual::subframe` meets its contract.
 -- Assumes nothing.
 use mathlib.Core.Path.{_≡_}
-use Prim.Native.Nat.{ℕ, _+_, _*_}
+use Prim.Native.Nat.{_+_, _*_}
 use native.Mathlib.Omega.{arith}
 use lib.Bits.{bitXor}
 use Rattle.guards.specs.Guards.{guardOf}
@@ -10,18 +10,6 @@ use Rattle.sender.proofs.Filling.{usual-low, usual-subframe}
 use borrow.Author.Needs.{needs}
 use Rattle.sender.proofs.usual.subframe.Statement.{statement}
 use Rattle.sender.proofs.usual.subframe.Tie as tie
-
-guard-of-requires : tie.Need-guard-of-requires
-guard-of-requires c κs = search needs
-
-low-of-requires : tie.Need-low-of-requires
-low-of-requires c κs = search needs
-
-mul-result : tie.Need-mul-result
-mul-result c = search needs
-
-mul-result-2 : tie.Need-mul-result-2
-mul-result-2 c = search needs
 
 low : (c : tie.After-low-of)
     → bitXor (c .before .guard-of .result) (c .low-of .result)
@@ -43,11 +31,4 @@ returns c =
 pub subframe-spec : {M : Type 1} → statement M
 subframe-spec =
     tie.close
-    (tie.spec
-    guard-of-requires
-    low-of-requires
-    mul-result
-    mul-result-2
-    add-result
-    add-result-2
-    returns)
+    (tie.spec (search needs) (search needs) (search needs) (search needs) add-result add-result-2 returns)

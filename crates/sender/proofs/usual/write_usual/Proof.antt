@@ -16,9 +16,6 @@ use borrow.Author.Needs.{needs}
 use Rattle.sender.proofs.usual.write_usual.Statement.{statement}
 use Rattle.sender.proofs.usual.write_usual.Tie as tie
 
-usual-requires : tie.Need-usual-requires
-usual-requires c κs = search needs
-
 send-refusal-requires : tie.Need-send-refusal-requires
 send-refusal-requires c κs = usual-settles (now (c .before .before .before .before .before .args .samples)) (c .before .before .before .before .before .pre) (c .usual .ensures)
 
@@ -27,15 +24,6 @@ returns c =
     let a = c .before .before .before .before .before .before .before .args in
     writes-refused (a .state) (a .indication) (now (a .samples)) (now (a .ancillary)) (now (a .cell)) (c .if1 .taken)
     (c .before .send-refusal .ensures)
-
-second-now-requires : tie.Need-second-now-requires
-second-now-requires c κs = search needs
-
-entry-of-requires : tie.Need-entry-of-requires
-entry-of-requires c κs = search needs
-
-sequence-of-requires : tie.Need-sequence-of-requires
-sequence-of-requires c κs = search needs
 
 given : (c : tie.Else1)
     → c .before .before .usual .result ≡ settingsOf (c .before .before .before .before .before .before .before .args .state .format) (c .before .before .before .before .before .before .before .args .state .channels) (c .before .before .before .before .before .before .before .args .state .order)
@@ -60,9 +48,6 @@ fill-usual-requires c κs =
     let can = ready (c .before .before .before) in
     usual-fillable (now (c .before .before .before .before .before .before .before .before .before .before .before .args .samples)) (c .before .before .before .before .before .before .before .before .before .before .before .pre) (c .before .before .before .before .before .before .usual .ensures) (can .0) (can .2)
 
-same-length : tie.Need-same-length
-same-length c = search needs
-
 returns-2 : tie.Need-returns-2
 returns-2 c =
     let a = c .before .before .before .before .before .before .before .before .before .before .before .before .before .before .args in
@@ -78,13 +63,5 @@ returns-2 c =
 pub write-usual-spec : {M : Type 1} → statement M
 write-usual-spec =
     tie.close
-    (tie.spec
-    usual-requires
-    send-refusal-requires
-    returns
-    second-now-requires
-    entry-of-requires
-    sequence-of-requires
-    fill-usual-requires
-    same-length
-    returns-2)
+    (tie.spec (search needs) send-refusal-requires returns (search needs) (search needs) (search needs) fill-usual-requires
+    (search needs) returns-2)
