@@ -100,33 +100,29 @@ module _ {f : Format} (s : Sound f) (byChannel : Bool) (channels times word seco
         within : {i : ℕ} → i < channels * times → slot i < f .slots
         within h = omega (arith, slot-lt channels times some byChannel h)
 
-        pub samples-back : length samples ≡ channels * times → entriesOf (sampleIn f) f byChannel channels times cell ≡ samples
+        -- what is read off the slot of each entry makes a run, where it is that run's entry
+        read-back : (read : ℕ → ℕ) (run : List ℕ) → length run ≡ channels * times
+            → ((i : ℕ) → i < channels * times → read (sent (slot i)) ≡ getD run i 0)
+            → entriesOf read f byChannel channels times cell ≡ run
         unfolding entriesOf
+        read-back read run len each =
+            tab-is _ (channels * times) run len (λ i h. ap read (subframe-there (within h)) ∙ each i h)
+
+        pub samples-back : length samples ≡ channels * times → entriesOf (sampleIn f) f byChannel channels times cell ≡ samples
         samples-back len =
-            tab-is _ (channels * times) samples len
-            (λ i h.
-            ap (sampleIn f) (subframe-there (within h))
-            ∙ sample-back s (sample-lt (slot i)) (ancillary-lt (slot i)) (bit-lt word second (slot i))
-            ∙ carried-entry channels times byChannel samples some h)
+            read-back (sampleIn f) samples len
+            (λ i h. sample-back s (sample-lt (slot i)) (ancillary-lt (slot i)) (bit-lt word second (slot i)) ∙ carried-entry channels times byChannel samples some h)
 
         pub ancillaries-back : length ancillary ≡ channels * times
             → entriesOf (ancillaryIn f) f byChannel channels times cell ≡ ancillary
-        unfolding entriesOf
         ancillaries-back len =
-            tab-is _ (channels * times) ancillary len
-            (λ i h.
-            ap (ancillaryIn f) (subframe-there (within h))
-            ∙ ancillary-back s (sample-lt (slot i)) (ancillary-lt (slot i)) (bit-lt word second (slot i))
-            ∙ carried-entry channels times byChannel ancillary some h)
+            read-back (ancillaryIn f) ancillary len
+            (λ i h. ancillary-back s (sample-lt (slot i)) (ancillary-lt (slot i)) (bit-lt word second (slot i)) ∙ carried-entry channels times byChannel ancillary some h)
 
         pub marks-back : entriesOf (markIn f) f byChannel channels times cell ≡ replicate (channels * times) 0
-        unfolding entriesOf
         marks-back =
-            tab-is _ (channels * times) (replicate (channels * times) 0) (length-replicate (channels * times) 0)
-            (λ i h.
-            ap (markIn f) (subframe-there (within h))
-            ∙ mark-back s (sample-lt (slot i)) (ancillary-lt (slot i)) (bit-lt word second (slot i))
-            ∙ sym (getD-replicate (channels * times) i 0 0 h))
+            read-back (markIn f) (replicate (channels * times) 0) (length-replicate (channels * times) 0)
+            (λ i h. mark-back s (sample-lt (slot i)) (ancillary-lt (slot i)) (bit-lt word second (slot i)) ∙ sym (getD-replicate (channels * times) i 0 0 h))
 
       module _ (over : f .overhead ≡ 0 → ⊥) where
         bit-there : {k : ℕ} → k < f .slots → bitIn f cell k ≡ wordBit word second k

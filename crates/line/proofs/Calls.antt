@@ -1,7 +1,8 @@
 -- Single calls of the two boxes: what is refused leaves everything, and what was sent comes back.
 -- Assumes nothing.
+use mathlib.Core.List.{List}
 use mathlib.Core.Path.{_≡_, sym, _∙_, ap}
-use Prim.Native.Nat.{_-_}
+use Prim.Native.Nat.{ℕ, _-_}
 use borrow.Author.Tests.{ne-eqb}
 use lib.ListN.{length}
 use Rattle.runs.specs.Runs.{over}
@@ -62,9 +63,17 @@ receives-or-nothing c meets = (
       },
 )
 
+-- what a call that is taken gives a run
+given-there : (r : ReceiveCall) (run : List ℕ) {entries there after : List ℕ}
+    → R.receiveRefusal (r .state) (r .cell) (length (r .samples)) (length (r .ancillary)) (length (r .marks)) ≡ 0
+    → after ≡ over (R.given (r .state) (r .cell) (length (r .samples)) (length (r .ancillary)) (length (r .marks)) entries) run
+    → entries ≡ there → after ≡ over there run
+unfolding R.given
+given-there r run taken left e = left ∙ rw taken (ap (λ new. over new run) e)
+
 pub gives-back : (s : SendCall) (r : ReceiveCall) → Sends s → s .answer .refusal ≡ 0 → InSettings (s .state) (r .state)
     → r .cell ≡ s .written → Receives r → r .answer .refusal ≡ 0 → GivesBack s r
-unfolding R.receivedOf R.given S.cellAfter
+unfolding R.receivedOf S.cellAfter
 gives-back s r sends sent same unaltered receives received =
     let none = sym (sent-refusal s sends) ∙ sent in
     let taken = sym (received-refusal r receives) ∙ received in
@@ -76,20 +85,16 @@ gives-back s r sends sent same unaltered receives received =
     let room = length (s .cell) in
     record {
       samples-back =
-          receives .samples-after
-          ∙ rw (taken, there)
-          (ap (λ new. over new (r .samples))
+          rw there
+          (given-there r (r .samples) taken (receives .samples-after)
           (ap (R.samplesNow (r .state)) arrived ∙ samples-there (s .state) (s .indication) (s .samples) (s .ancillary) room none same));
       ancillary-back =
-          receives .ancillary-after
-          ∙ rw (taken, there)
-          (ap (λ new. over new (r .ancillary))
-          (ap (R.ancillaryNow (r .state)) arrived
-          ∙ ancillary-there (s .state) (s .indication) (s .samples) (s .ancillary) room none same));
+          rw there
+          (given-there r (r .ancillary) taken (receives .ancillary-after)
+          (ap (R.ancillaryNow (r .state)) arrived ∙ ancillary-there (s .state) (s .indication) (s .samples) (s .ancillary) room none same));
       marked-sound =
-          receives .marks-after
-          ∙ rw (taken, there)
-          (ap (λ new. over new (r .marks))
+          rw there
+          (given-there r (r .marks) taken (receives .marks-after)
           (ap (R.marksNow (r .state)) arrived ∙ marks-there (s .state) (s .indication) (s .samples) (s .ancillary) room none same));
       unused-zero =
           λ past h. rw written (unused-there (s .state) (s .indication) (s .samples) (s .ancillary) room none past h);

@@ -50,12 +50,44 @@ use Rattle.receiver.specs.declared.Received.{Received}
 use Rattle.receiver.specs.Receiver as R
 use Rattle.receiver.proofs.Laws.{gap-to}
 use Rattle.line.specs.Demands.{ReceiveCall, Receives}
-use Rattle.line.specs.Line.{Fate, dropped, spoiled, unaltered, Trip, cellOn, InARow, Fair, longest, arrivals, Row, got, WithRoom, theSamples, theMarks, handed, shown, fromFirst, allLost, toLast, Demand3, Demanded}
+use Rattle.line.specs.Line.{Fate, dropped, spoiled, unaltered, Trip, cellOn, InARow, Fair, longest, arrivals, Row, got, Roomy, WithRoom, theSamples, theMarks, handed, shown, fromFirst, allLost, toLast, Demand3, Demanded}
 
 -- every definition on the way down to the numbers
 opened : Unit {0}
 unfolding ones onesIn coefficients divided takenDown orElse tab joined octetsOf readOn over lengthOf sampleBits ancillaryBits overheadBits eleven isAmong isBase widthOf slotsOf formatOf settingsRefusal tableA1 wordBit gathered placeIn differenceOf nineOf tenGuard guardOf overheadOf subframeOf slotOctets cellOf subframeAt sampleIn ancillaryIn markIn bitIn eightIn secondIn entriesOf slotOf slotOfEntry entryOfSlot carried S.numbersRefused S.stateRefusal S.allBelow S.lengthsRefused S.valuesRefused S.indicationRefused S.sendRefusal S.secondNow S.after S.cellNow R.lastRefused R.stateRefusal R.lengthsRefused R.numberNow R.gapNow R.receiveRefusal R.entriesNow R.secondNow R.after R.receivedOf R.given InARow Fair longest arrivals Row WithRoom handed shown fromFirst allLost toLast Demand3
 opened = tt
+
+-- Three equal runs of fifteen times C×T always have room.
+not-so : (test : Bool) (n rest : ℕ) → (n ≡ 10 → ⊥) → (rest ≡ 10 → ⊥) → cond test n rest ≡ 10 → ⊥
+not-so true n rest other later e = other e
+not-so false n rest other later e = later e
+
+settings-not-ten : (octet channels order : ℕ) → settingsRefusal octet channels order ≡ 10 → ⊥
+unfolding settingsRefusal
+settings-not-ten octet channels order =
+    not-so (not (isBase octet)) 1 _ (λ e. omega arith)
+    (not-so (eqb channels 0 || ltb (slotsOf octet) channels) 2 _ (λ e. omega arith)
+    (not-so (ltb 1 order) 3 0 (λ e. omega arith) (λ e. omega arith)))
+
+pub always-room : (rc : Receiver) (cell : List ℕ) (samples ancillary marks : ℕ) → 15 * R.usedNow rc ≤ samples
+    → R.receiveRefusal rc cell samples ancillary marks ≡ 10 → ⊥
+unfolding R.receiveRefusal R.stateRefusal orElse
+always-room rc cell samples ancillary marks enough =
+    let gap-room : R.gapOf rc cell * R.usedNow rc ≤ samples
+    = le-trans (mul-le-mul-right (R.usedNow rc) (gap-to (formatOf (rc .format)) (rc .started) (rc .last) _)) enough in
+    rw (le-ltb samples _ gap-room)
+    (not-so (eqb (R.stateRefusal rc) 0) _ (R.stateRefusal rc)
+    (not-so (R.lengthsRefused (length cell) samples ancillary marks) 5 _ (λ e. omega arith)
+    (not-so (ltb 15 (R.numberNow (formatOf (rc .format)) cell)) 8 _ (λ e. omega arith)
+    (not-so (eqb (R.gapOf rc cell) 0) 9 _ (λ e. omega arith) (λ e. omega arith))))
+    (not-so (eqb (settingsRefusal (rc .format) (rc .channels) (rc .order)) 0) _ (settingsRefusal (rc .format) (rc .channels) (rc .order))
+    (not-so (R.lastRefused (formatOf (rc .format)) (rc .started) (rc .last)) 4 0 (λ e. omega arith) (λ e. omega arith))
+    (settings-not-ten (rc .format) (rc .channels) (rc .order))))
+
+roomy : {c : ReceiveCall} → length (c .ancillary) ≡ length (c .samples) → length (c .marks) ≡ length (c .samples)
+    → 15 * R.usedNow (c .state) ≤ length (c .samples) → Roomy c
+roomy {c} ancillary marks enough =
+    record { ancillary-equal = ancillary; marks-equal = marks; long-enough = always-room (c .state) (c .cell) _ _ _ enough }
 
 -- a sender of five channels in 5A hex, one sample of each in a cell, its first cell to have number 0
 abbrev studio : Sender
@@ -69,12 +101,12 @@ abbrev trip : ℕ → Fate → Trip
 trip n fate = record { samples = n ∷ 0 ∷ 0 ∷ 0 ∷ 0 ∷ []; ancillary = replicate 5 0; indication = false; fate = fate }
 
 -- a call on three runs of eighty zeros, with this answer and these entries written from their start
-abbrev call : Receiver → List ℕ → Received → List ℕ → List ℕ → List ℕ → ReceiveCall
-call rc cell answer samples ancillary marks =
+abbrev call : Bool → Receiver → List ℕ → Received → List ℕ → List ℕ → List ℕ → ReceiveCall
+call indication rc cell answer samples ancillary marks =
     record {
       state = rc;
       cell = cell;
-      indication = false;
+      indication = indication;
       samples = replicate 80 0;
       ancillary = replicate 80 0;
       marks = replicate 80 0;
@@ -84,18 +116,21 @@ call rc cell answer samples ancillary marks =
       marks-after = over marks (replicate 80 0);
     }
 
-abbrev answered : Receiver → List ℕ → Received
-answered rc cell = R.receivedOf rc cell false 80 80 80
+abbrev answered : Bool → Receiver → List ℕ → Received
+answered indication rc cell = R.receivedOf rc cell indication 80 80 80
 
 -- what `receive` writes
 abbrev wrote : Receiver → List ℕ → List ℕ → List ℕ
 wrote rc cell entries = R.given rc cell 80 80 80 entries
 
 -- the call as `receive` promises it
-abbrev honest : Receiver → List ℕ → ReceiveCall
-honest rc cell =
-    call rc cell (answered rc cell) (wrote rc cell (R.samplesNow rc cell)) (wrote rc cell (R.ancillaryNow rc cell))
+abbrev honest : Bool → Receiver → List ℕ → ReceiveCall
+honest indication rc cell =
+    call indication rc cell (answered indication rc cell) (wrote rc cell (R.samplesNow rc cell)) (wrote rc cell (R.ancillaryNow rc cell))
     (wrote rc cell (R.marksNow rc cell))
+
+promised : (indication : Bool) (rc : Receiver) (cell : List ℕ) → Receives (honest indication rc cell)
+promised indication rc cell = record { answered = refl; samples-after = refl; ancillary-after = refl; marks-after = refl }
 
 -- two cells in a row, and the calls of an honest receiver
 abbrev one : List ℕ
@@ -116,20 +151,12 @@ lost-fifteen =
 pub not-fifteen : Demand3 3 15 Receives → ⊥
 unfolding opened lost-fifteen
 not-fifteen meets =
-    let first = honest fresh one in
-    let next = honest (first .answer .state) (cellOn studio (trip 2 unaltered)) in
+    let first = honest false fresh one in
+    let next = honest false (first .answer .state) (cellOn studio (trip 2 unaltered)) in
     let kept = meets studio lost-fifteen (first ∷ next ∷ []) theSamples (λ e. suc-ne-zero 3 e)
     (refl, (refl, (refl, (refl, (refl, (refl, (refl, (refl, (refl, (refl, (refl, (refl, (refl, (refl, (refl, (refl, (refl, tt)))))))))))))))))
     (tt, (tt, (tt, (tt, (tt, (tt, (tt, (tt, (tt, (tt, (tt, (tt, (tt, (tt, (tt, (tt, (tt, tt)))))))))))))))))
-    (omega arith) (
-      refl,
-      record { answered = refl; samples-after = refl; ancillary-after = refl; marks-after = refl },
-      (refl, record { answered = refl; samples-after = refl; ancillary-after = refl; marks-after = refl }, tt),
-    )
-    refl (
-      record { ancillary-equal = refl; marks-equal = refl; long-enough = λ e. omega arith },
-      (record { ancillary-equal = refl; marks-equal = refl; long-enough = λ e. omega arith }, tt),
-    ) in
+    (omega arith) (refl, promised _ _ _, (refl, promised _ _ _, tt)) refl (roomy refl refl (omega arith), (roomy refl refl (omega arith), tt)) in
     let lengths : _≡_ {A = ℕ} 5 85 = ap length kept in
     omega arith
 
@@ -143,18 +170,10 @@ four-altered = trip 1 unaltered ∷ trip 2 (spoiled three false) ∷ []
 pub not-four-bits : Demand3 4 14 Receives → ⊥
 unfolding opened three four-altered
 not-four-bits meets =
-    let first = honest fresh one in
-    let next = honest (first .answer .state) three in
+    let first = honest false fresh one in
+    let next = honest false (first .answer .state) three in
     let kept = meets studio four-altered (first ∷ next ∷ []) theSamples (λ e. suc-ne-zero 3 e)
-    (refl, (refl, tt)) (tt, ((omega arith, omega arith), tt)) (omega arith) (
-      refl,
-      record { answered = refl; samples-after = refl; ancillary-after = refl; marks-after = refl },
-      (refl, record { answered = refl; samples-after = refl; ancillary-after = refl; marks-after = refl }, tt),
-    )
-    refl (
-      record { ancillary-equal = refl; marks-equal = refl; long-enough = λ e. omega arith },
-      (record { ancillary-equal = refl; marks-equal = refl; long-enough = λ e. omega arith }, tt),
-    ) in
+    (refl, (refl, tt)) (tt, ((omega arith, omega arith), tt)) (omega arith) (refl, promised _ _ _, (refl, promised _ _ _, tt)) refl (roomy refl refl (omega arith), (roomy refl refl (omega arith), tt)) in
     let lengths : _≡_ {A = ℕ} 20 5 = ap length kept in
     omega arith
 
@@ -178,18 +197,12 @@ both-sent = trip 1 unaltered ∷ trip 2 unaltered ∷ []
 pub not-nodding : Demanded Nods → ⊥
 unfolding opened both-sent
 not-nodding meets =
-    let first = honest fresh one in
-    let next = call (first .answer .state) two (answered (first .answer .state) two) [] [] [] in
+    let first = honest false fresh one in
+    let next = call false (first .answer .state) two (answered false (first .answer .state) two) [] [] [] in
     let kept = meets studio both-sent (first ∷ next ∷ []) theSamples (λ e. suc-ne-zero 3 e)
-    (refl, (refl, tt)) (tt, (tt, tt)) (omega arith) (
-      refl,
-      record { answered = refl; samples-after = refl; ancillary-after = refl; marks-after = refl },
-      (refl, record { answer-right = refl; samples-stay = refl; ancillary-stays = refl; marks-stay = refl }, tt),
-    )
-    refl (
-      record { ancillary-equal = refl; marks-equal = refl; long-enough = λ e. omega arith },
-      (record { ancillary-equal = refl; marks-equal = refl; long-enough = λ e. omega arith }, tt),
-    ) in
+    (refl, (refl, tt)) (tt, (tt, tt)) (omega arith)
+    (refl, promised _ _ _, (refl, record { answer-right = refl; samples-stay = refl; ancillary-stays = refl; marks-stay = refl }, tt))
+    refl (roomy refl refl (omega arith), (roomy refl refl (omega arith), tt)) in
     let sixth : _≡_ {A = ℕ} 0 2 = ap (λ (l : List ℕ). getD l 5 0) kept in
     omega arith
 
@@ -228,23 +241,21 @@ only-one = trip 1 unaltered ∷ []
 pub not-invented : Demanded Invents → ⊥
 unfolding opened only-one
 not-invented meets =
-    let wrong = call fresh one (oneMoreMissing (answered fresh one)) (replicate 5 0 ++ R.samplesNow fresh one)
+    let wrong = call false fresh one (oneMoreMissing (answered false fresh one)) (replicate 5 0 ++ R.samplesNow fresh one)
     (replicate 5 0 ++ R.ancillaryNow fresh one) (replicate 5 2 ++ R.marksNow fresh one) in
     let kept = meets studio only-one (wrong ∷ []) theSamples (λ e. suc-ne-zero 3 e) (refl, tt) (tt, tt) (omega arith)
     (refl, record { answer-invented = refl; samples-invented = refl; ancillary-invented = refl; marks-invented = refl }, tt)
-    refl
-    (record { ancillary-equal = refl; marks-equal = refl; long-enough = λ e. omega arith }, tt) in
+    refl (roomy refl refl (omega arith), tt) in
     let lengths : _≡_ {A = ℕ} 10 5 = ap length kept in
     omega arith
 
 pub not-misreported : Demanded Misreports → ⊥
 unfolding opened only-one
 not-misreported meets =
-    let wrong = call fresh one (oneMoreMissing (answered fresh one)) (R.samplesNow fresh one) (R.ancillaryNow fresh one) (R.marksNow fresh one) in
+    let wrong = call false fresh one (oneMoreMissing (answered false fresh one)) (R.samplesNow fresh one) (R.ancillaryNow fresh one) (R.marksNow fresh one) in
     let kept = meets studio only-one (wrong ∷ []) theSamples (λ e. suc-ne-zero 3 e) (refl, tt) (tt, tt) (omega arith)
     (refl, record { answer-wrong = refl; samples-right = refl; ancillary-right = refl; marks-right = refl }, tt)
-    refl
-    (record { ancillary-equal = refl; marks-equal = refl; long-enough = λ e. omega arith }, tt) in
+    refl (roomy refl refl (omega arith), tt) in
     let lengths : _≡_ {A = ℕ} 10 5 = ap length kept in
     omega arith
 
@@ -269,24 +280,13 @@ lossy =
 
 abbrev heard : List ReceiveCall
 heard =
-    let first = honest fresh (cellOn (studioAt 1) (trip 1 unaltered)) in
-    let next = honest (first .answer .state) (cellOn (studioAt 4) (trip 4 unaltered)) in
-    record {
-      state = fresh;
-      cell = altered 0 15;
-      indication = true;
-      samples = replicate 80 0;
-      ancillary = replicate 80 0;
-      marks = replicate 80 0;
-      answer = R.receivedOf fresh (altered 0 15) true 80 80 80;
-      samples-after = over (wrote fresh (altered 0 15) []) (replicate 80 0);
-      ancillary-after = over (wrote fresh (altered 0 15) []) (replicate 80 0);
-      marks-after = over (wrote fresh (altered 0 15) []) (replicate 80 0);
-    }
+    let first = honest false fresh (cellOn (studioAt 1) (trip 1 unaltered)) in
+    let next = honest false (first .answer .state) (cellOn (studioAt 4) (trip 4 unaltered)) in
+    honest true fresh (altered 0 15)
     ∷ first
-    ∷ honest (first .answer .state) (altered 3 7)
+    ∷ honest false (first .answer .state) (altered 3 7)
     ∷ next
-    ∷ honest (next .answer .state) (altered 6 15)
+    ∷ honest false (next .answer .state) (altered 6 15)
     ∷ []
 
 pub record CanBeHad (calls : List ReceiveCall) (trips : List Trip) : Type 0 where
@@ -305,63 +305,10 @@ can-be-had =
       in-a-row = (refl, (refl, (refl, (refl, (refl, (refl, (refl, tt)))))));
       fair = ((omega arith, omega arith), (tt, (tt, ((omega arith, omega arith), (tt, (tt, ((omega arith, omega arith), tt)))))));
       few = omega arith;
-      meets = (
-        refl,
-        record { answered = refl; samples-after = refl; ancillary-after = refl; marks-after = refl },
-        (
-          refl,
-          record { answered = refl; samples-after = refl; ancillary-after = refl; marks-after = refl },
-          (
-            refl,
-            record { answered = refl; samples-after = refl; ancillary-after = refl; marks-after = refl },
-            (
-              refl,
-              record { answered = refl; samples-after = refl; ancillary-after = refl; marks-after = refl },
-              (refl, record { answered = refl; samples-after = refl; ancillary-after = refl; marks-after = refl }, tt),
-            ),
-          ),
-        ),
-      );
+      meets =
+          (refl, promised _ _ _, (refl, promised _ _ _, (refl, promised _ _ _, (refl, promised _ _ _, (refl, promised _ _ _, tt)))));
       came = refl;
-      room = (
-        record { ancillary-equal = refl; marks-equal = refl; long-enough = λ e. omega arith },
-        (
-          record { ancillary-equal = refl; marks-equal = refl; long-enough = λ e. omega arith },
-          (
-            record { ancillary-equal = refl; marks-equal = refl; long-enough = λ e. omega arith },
-            (
-              record { ancillary-equal = refl; marks-equal = refl; long-enough = λ e. omega arith },
-              (record { ancillary-equal = refl; marks-equal = refl; long-enough = λ e. omega arith }, tt),
-            ),
-          ),
-        ),
-      );
+      room =
+          (roomy refl refl (omega arith), (roomy refl refl (omega arith), (roomy refl refl (omega arith), (roomy refl refl (omega arith), (roomy refl refl (omega arith), tt)))));
       marks = refl;
     }
-
--- Three equal runs of fifteen times C×T always have room.
-not-so : (test : Bool) (n rest : ℕ) → (n ≡ 10 → ⊥) → (rest ≡ 10 → ⊥) → cond test n rest ≡ 10 → ⊥
-not-so true n rest other later e = other e
-not-so false n rest other later e = later e
-
-settings-not-ten : (octet channels order : ℕ) → settingsRefusal octet channels order ≡ 10 → ⊥
-unfolding settingsRefusal
-settings-not-ten octet channels order =
-    not-so (not (isBase octet)) 1 _ (λ e. omega arith)
-    (not-so (eqb channels 0 || ltb (slotsOf octet) channels) 2 _ (λ e. omega arith)
-    (not-so (ltb 1 order) 3 0 (λ e. omega arith) (λ e. omega arith)))
-
-pub always-room : (rc : Receiver) (cell : List ℕ) (samples ancillary marks : ℕ) → 15 * R.usedNow rc ≤ samples
-    → R.receiveRefusal rc cell samples ancillary marks ≡ 10 → ⊥
-unfolding R.receiveRefusal R.stateRefusal orElse
-always-room rc cell samples ancillary marks enough =
-    let gap-room : R.gapOf rc cell * R.usedNow rc ≤ samples
-    = le-trans (mul-le-mul-right (R.usedNow rc) (gap-to (formatOf (rc .format)) (rc .started) (rc .last) _)) enough in
-    rw (le-ltb samples _ gap-room)
-    (not-so (eqb (R.stateRefusal rc) 0) _ (R.stateRefusal rc)
-    (not-so (R.lengthsRefused (length cell) samples ancillary marks) 5 _ (λ e. omega arith)
-    (not-so (ltb 15 (R.numberNow (formatOf (rc .format)) cell)) 8 _ (λ e. omega arith)
-    (not-so (eqb (R.gapOf rc cell) 0) 9 _ (λ e. omega arith) (λ e. omega arith))))
-    (not-so (eqb (settingsRefusal (rc .format) (rc .channels) (rc .order)) 0) _ (settingsRefusal (rc .format) (rc .channels) (rc .order))
-    (not-so (R.lastRefused (formatOf (rc .format)) (rc .started) (rc .last)) 4 0 (λ e. omega arith) (λ e. omega arith))
-    (settings-not-ten (rc .format) (rc .channels) (rc .order))))

@@ -26,7 +26,6 @@ use Rattle.sender.specs.declared.Sender.{Sender}
 use Rattle.sender.specs.Packing.{Packable}
 use Rattle.sender.specs.Sender as S
 use Rattle.sender.proofs.Laws as SL
-use Rattle.receiver.specs.declared.Receiver.{Receiver}
 use Rattle.receiver.specs.Receiver as R
 use Rattle.receiver.proofs.Laws as RL
 use Rattle.line.specs.Demands.{SendCall, ReceiveCall, Receives, InSettings, GivesBack}
@@ -107,6 +106,16 @@ module _ (st : Sender) (t : Trip) (with-overhead : formatOf (st .format) .overhe
       abbrev refusal : ℕ
       refusal = R.receiveRefusal (c .state) (c .cell) (length (c .samples)) (length (c .ancillary)) (length (c .marks))
 
+      -- checks 1 to 4 pass where the last number does
+      state-none : R.lastRefused f (c .state .started) (c .state .last) ≡ false → R.stateRefusal (c .state) ≡ 0
+      unfolding R.stateRefusal
+      state-none last-passes =
+          (λ i.
+          orElse (settingsRefusal (same .format i) (same .channels i) (same .order i))
+          (cond (R.lastRefused (formatOf (same .format i)) (c .state .started) (c .state .last)) 4 0))
+          ∙ then-later _ (SL.settings-none st (t .indication) (t .samples) (t .ancillary) 48 sent)
+          ∙ rw last-passes
+
       -- a spoiled cell is refused
       pub spoiled-refused : {came : List ℕ} → c .cell ≡ came → 1 ≤ alteredIn f (cellOn st t) came → alteredIn f (cellOn st t) came ≤ 3
           → c .answer .refusal ≡ 0 → ⊥
@@ -122,20 +131,14 @@ module _ (st : Sender) (t : Trip) (with-overhead : formatOf (st .format) .overhe
       pub spoiled-gets-8 : {came : List ℕ} → c .cell ≡ came → length came ≡ 48 → 1 ≤ alteredIn f (cellOn st t) came
           → alteredIn f (cellOn st t) came ≤ 3 → Roomy c → R.lastRefused f (c .state .started) (c .state .last) ≡ false
           → c .answer .refusal ≡ 8
-      unfolding R.receiveRefusal R.lengthsRefused R.stateRefusal R.numberNow
+      unfolding R.receiveRefusal R.lengthsRefused R.numberNow
       spoiled-gets-8 {came} arrived whole some few roomy last-passes =
-          let state-none : R.stateRefusal (c .state) ≡ 0
-          = (λ i.
-          orElse (settingsRefusal (same .format i) (same .channels i) (same .order i))
-          (cond (R.lastRefused (formatOf (same .format i)) (c .state .started) (c .state .last)) 4 0))
-          ∙ then-later _ (SL.settings-none st (t .indication) (t .samples) (t .ancillary) 48 sent)
-          ∙ rw last-passes in
           let number : R.numberNow (formatOf (c .state .format)) (c .cell) ≡ numberIn (eightIn f came)
           = (λ i. R.numberNow (formatOf (same .format i)) (arrived i)) ∙ rw (ne-eqb (f .overhead) 0 with-overhead) in
           let off : 15 < R.numberNow (formatOf (c .state .format)) (c .cell)
           = rw number (lt-of-not-le (λ h. off-table came some few (omega (arith, h)))) in
           received-refusal c meets
-          ∙ then-later _ state-none
+          ∙ then-later _ (state-none last-passes)
           ∙ rw (
             eq-eqb _ _ (ap length arrived ∙ whole),
             eq-eqb _ _ (roomy .ancillary-equal),
@@ -156,15 +159,6 @@ module _ (st : Sender) (t : Trip) (with-overhead : formatOf (st .format) .overhe
               ∙ ap (R.gapNow f (c .state .started) (c .state .last)) number-sent
               ∙ gap-is
 
-          state-none : R.stateRefusal (c .state) ≡ 0
-          unfolding R.stateRefusal
-          state-none =
-              (λ i.
-              orElse (settingsRefusal (same .format i) (same .channels i) (same .order i))
-              (cond (R.lastRefused (formatOf (same .format i)) (c .state .started) (c .state .last)) 4 0))
-              ∙ then-later _ (SL.settings-none st (t .indication) (t .samples) (t .ancillary) 48 sent)
-              ∙ rw last-passes
-
           pub unaltered-taken : c .answer .refusal ≡ 0
           unfolding R.receiveRefusal R.lengthsRefused
           unaltered-taken =
@@ -174,7 +168,7 @@ module _ (st : Sender) (t : Trip) (with-overhead : formatOf (st .format) .overhe
               let within : R.numberNow (formatOf (c .state .format)) (c .cell) ≤ 15 = rw number (state-passes .number-to) in
               let some : R.gapOf (c .state) (c .cell) ≡ 0 → ⊥ = λ e. suc-ne-zero gap (sym gap-here ∙ e) in
               let by-room : refusal ≡ cond (ltb (length (c .samples)) (R.gapOf (c .state) (c .cell) * R.usedNow (c .state))) 10 0
-              = then-later _ state-none
+              = then-later _ (state-none last-passes)
               ∙ rw (
                 eq-eqb _ _ whole,
                 eq-eqb _ _ (roomy .ancillary-equal),

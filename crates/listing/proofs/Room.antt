@@ -2,8 +2,7 @@
 -- Assumes nothing.
 use mathlib.Core.Bool.{Bool, true, false, cond, not, _||_}
 use mathlib.Core.List.{List}
-use mathlib.Core.Path.{_≡_}
-use Prim.Native.Nat.{ℕ, _*_, _/_, _≤_}
+use Prim.Native.Nat.{ℕ, _*_, _≤_}
 use native.Mathlib.Nat.{mul-div-le, mul-le-mul}
 use native.Mathlib.Omega.{arith}
 use borrow.Author.Tests.{le-ltb}
@@ -14,7 +13,6 @@ use Rattle.runs.proofs.Laws.{split}
 use Rattle.formats.specs.Formats.{formatOf, isBase, slotsOf, settingsRefusal}
 use Rattle.formats.proofs.Laws.{sound-format}
 use Rattle.receiver.specs.declared.Receiver.{Receiver}
-use Rattle.receiver.specs.declared.Received.{Received}
 use Rattle.receiver.specs.Receiver.{gapOf, usedNow, numberNow, lastRefused, lengthsRefused, stateRefusal, receiveRefusal, receivedOf}
 use Rattle.receiver.proofs.Laws.{gap-to}
 use Rattle.listing.specs.List.{judgedOf}

@@ -89,26 +89,22 @@ module _ (here : Standing) (next : ℕ) (got : Received) where
   unfolding afterOf
   after-index = split (eqb (got .refusal) 0) (λ e. rw e) (λ e. rw e)
 
+  counted-more : {past : Standing} → Counted here → here .index < 2000 → past .index ≡ here .index + 1 → past .sound ≤ here .sound + 1
+      → past .refused ≤ here .refused + 1 → past .missing ≤ here .missing + 255 → Counted past
+  counted-more c more index sound refused missing =
+      record {
+        few = omega arith;
+        sound = omega (arith, c .sound);
+        refused = omega (arith, c .refused);
+        missing = omega (arith, c .missing);
+      }
+
   pub after-counted : Counted here → got .missing ≤ 255 → here .index < 2000 → Counted (afterOf here next got)
   unfolding afterOf
   after-counted c few more =
       split (eqb (got .refusal) 0)
-      (λ e.
-      rw e
-      (record {
-        few = omega arith;
-        sound = omega (arith, c .sound);
-        refused = omega (arith, c .refused);
-        missing = omega (arith, c .missing);
-      }))
-      (λ e.
-      rw e
-      (record {
-        few = omega arith;
-        sound = omega (arith, c .sound);
-        refused = omega (arith, c .refused);
-        missing = omega (arith, c .missing);
-      }))
+      (λ e. rw e (counted-more c more refl (omega arith) (omega arith) (omega arith)))
+      (λ e. rw e (counted-more c more refl (omega arith) (omega arith) (omega arith)))
 
 module _ (log : List ℕ) (here : Standing) where
   pub lines-end : (recordAt log (here .place) .what ≡ 1 → ⊥) → linesFrom log here ≡ endLines here (recordAt log (here .place) .refusal)

@@ -18,7 +18,8 @@ use Rattle.runs.specs.Refusals.{orElse}
 use Rattle.runs.proofs.Laws.{split}
 use Rattle.formats.specs.Formats.{settingsRefusal}
 use Rattle.log.specs.Records.{headerOf, headerOfNumbers, headerRefusal, recordAt, cellAt}
-use Rattle.log.specs.Written.{writtenAt, numberRefusal, headerRefused, headerOctets, recordRefusal, octetOf, recordOctets}
+use Rattle.runs.specs.Runs.{written}
+use Rattle.log.specs.Written.{numberRefusal, headerRefused, headerOctets, recordRefusal, octetOf, recordOctets}
 use Rattle.log.proofs.Headers.{header-fits, header-octets, format-small, channels-small, order-small}
 use Rattle.log.proofs.Keeping.{number-fits, record-fits}
 use Rattle.log.proofs.Places.{record-cell}
@@ -90,11 +91,11 @@ read-groups (suc k) n log at below s =
 
 -- what was written of a number is read back as that number, and the place after it is where writing ended
 pub read-written-number : (log : List ℕ) (place n : ℕ) → numberRefusal log place n ≡ 0
-    → numberAt (writtenAt place (groupsOf 3 n) log) place ≡ number n (place + length (groupsOf 3 n))
-unfolding Stands writtenAt
+    → numberAt (written log place (groupsOf 3 n)) place ≡ number n (place + length (groupsOf 3 n))
+unfolding Stands
 read-written-number log place n ok =
     let fits = number-fits log place n ok in
-    read-groups 2 n (writtenAt place (groupsOf 3 n) log) place (omega (arith, fits .0))
+    read-groups 2 n (written log place (groupsOf 3 n)) place (omega (arith, fits .0))
     (take place log, drop (place + length (groupsOf 3 n)) log, refl, length-take-le place log (omega (arith, fits .1)))
 
 -- the octets of a log are octets
@@ -145,13 +146,12 @@ written-read-number log place octets ok =
 
 module _ (log : List ℕ) (format channels order : ℕ) (ok : headerRefused log format channels order ≡ 0) where
   abbrev headed : List ℕ
-  headed = writtenAt 0 (headerOctets format channels order) log
+  headed = written log 0 (headerOctets format channels order)
 
   fits : (settingsRefusal format channels order ≡ 0) × (3 ≤ length log)
   fits = header-fits log format channels order ok
 
   octets : headed ≡ (format ∷ channels ∷ order ∷ []) ++ drop 3 log
-  unfolding writtenAt
   octets = rw (header-octets format channels order (fits .0))
 
   first : numberAt headed 0 ≡ number format 1
@@ -178,7 +178,7 @@ octet-back false = refl
 
 module _ (log : List ℕ) (place : ℕ) (indication : Bool) (cell : List ℕ) (ok : recordRefusal log place cell ≡ 0) where
   abbrev kept : List ℕ
-  kept = writtenAt place (recordOctets indication cell) log
+  kept = written log place (recordOctets indication cell)
 
   room : (length cell ≡ 48) × (place + 49 ≤ length log)
   room = record-fits log place cell ok
@@ -190,7 +190,6 @@ module _ (log : List ℕ) (place : ℕ) (indication : Bool) (cell : List ℕ) (o
   start = length-take-le place log (omega (arith, room .1))
 
   shape : kept ≡ take place log ++ octetOf indication ∷ (cell ++ rest)
-  unfolding writtenAt
   shape = append-assoc (take place log) (recordOctets indication cell) rest
 
   is : octetOf indication ≡ getD kept place 0

@@ -2,17 +2,17 @@
 -- Assumes nothing.
 use mathlib.Core.Bool.{Bool, true, false, cond}
 use mathlib.Core.List.{List, [], _∷_}
-use mathlib.Core.Path.{_≡_, refl, sym, _∙_, ap, subst}
+use mathlib.Core.Path.{_≡_, refl, sym, _∙_, subst}
 use Prim.Native.Nat.{ℕ, _≤_, _<_}
 use native.Mathlib.Omega.{arith}
-use borrow.Author.Tests.{ne-eqb, eqb-true, eqb-false, ltb-true, ltb-false, lt-ltb, le-ltb}
+use borrow.Author.Tests.{ne-eqb, ltb-true, ltb-false, lt-ltb, le-ltb}
 use lib.Dec.{T, eqb, ltb, ltb→lt}
 use lib.ListN.{length, set}
 use Rattle.runs.specs.Refusals.{orElse}
 use Rattle.runs.specs.Test.{every}
-use Rattle.runs.proofs.Laws.{every-at, split}
+use Rattle.runs.proofs.Laws.{every-at, split, past, past-both}
 use Rattle.formats.specs.Formats.{eleven, isAmong, isBase, settingsRefusal, settingsOf}
-use Rattle.formats.proofs.Laws.{beyond, Settles, settles-all, sound-fields}
+use Rattle.formats.proofs.Laws.{beyond, Settles, settles-all, sound-fields, refusal-of, given-refusal}
 use Rattle.formats.specs.declared.Settled.{Settled}
 use Rattle.log.specs.declared.Header.{Header}
 use Rattle.log.specs.declared.Number.{Number}
@@ -20,19 +20,9 @@ use Rattle.log.specs.declared.keep.Kept.{Kept}
 use Rattle.log.specs.Numbers.{numberAt}
 use Rattle.log.specs.Records.{noHeader, headerRefusal, headerOfNumbers, headerOf, secondNumber, thirdNumber}
 use Rattle.log.specs.Written.{Keeps, kept, headerOctets, headerRefused}
-use Rattle.log.proofs.Keeping.{keeps, stored}
+use Rattle.runs.proofs.Filling.{stored}
+use Rattle.log.proofs.Keeping.{keeps}
 use Rattle.log.proofs.Laws.{next-small, groups-1}
-
-pub settled-refusal : (octet channels order : ℕ) → settingsOf octet channels order .refusal ≡ settingsRefusal octet channels order
-unfolding settingsOf
-settled-refusal octet channels order =
-    split (eqb (settingsRefusal octet channels order) 0)
-    (λ e. rw e (sym (eqb-true (settingsRefusal octet channels order) 0 e)))
-    (λ e. rw e)
-
-pub settled-ok : (octet channels order : ℕ) {settled : Settled} → settled ≡ settingsOf octet channels order → settled .refusal ≡ 0
-    → settingsRefusal octet channels order ≡ 0
-settled-ok octet channels order e ok = sym (settled-refusal octet channels order) ∙ ap (λ (s : Settled). s .refusal) (sym e) ∙ ok
 
 module _ (a b c : Number) where
   numbers-not : {refusal : ℕ} {answer : Header} → headerRefusal a b c ≡ refusal → (refusal ≡ 0 → ⊥) → answer ≡ noHeader refusal
@@ -69,7 +59,7 @@ module _ (log : List ℕ) {first : Number} (e₁ : first ≡ numberAt log 0) whe
       module _ {settled : Settled} (e₄ : settled ≡ settingsOf (first .value) (second .value) (third .value)) (ok₃ : third .refusal ≡ 0) where
         judged : headerRefusal first second third ≡ settled .refusal
         unfolding headerRefusal orElse
-        judged = rw (ok₁, ok₂, ok₃, e₄) (sym (settled-refusal (first .value) (second .value) (third .value)))
+        judged = rw (ok₁, ok₂, ok₃, e₄) (sym (refusal-of (first .value) (second .value) (third .value)))
 
         pub header-unsettled : {answer : Header} → (settled .refusal ≡ 0 → ⊥) → answer ≡ noHeader (settled .refusal) → answer ≡ headerOf log
         header-unsettled some is = numbers-not first second third judged some is ∙ headed e₂ e₃
@@ -123,7 +113,7 @@ module _ (log : List ℕ) (format channels order : ℕ) where
       → headerRefused log format channels order ≡ settled .refusal
   unfolding headerRefused orElse
   header-refused {settled} e some =
-      let n : settingsRefusal format channels order ≡ settled .refusal = sym (ap (λ (s : Settled). s .refusal) e ∙ settled-refusal format channels order) in
+      let n : settingsRefusal format channels order ≡ settled .refusal = sym (given-refusal format channels order 0 e) in
       rw (n, ne-eqb (settled .refusal) 0 some)
 
   pub header-no-room : settingsRefusal format channels order ≡ 0 → length log < 3 → headerRefused log format channels order ≡ 11
@@ -133,16 +123,11 @@ module _ (log : List ℕ) (format channels order : ℕ) where
       rw (ok, e, lt-ltb (length log) 3 h)
 
   pub header-fits : headerRefused log format channels order ≡ 0 → (settingsRefusal format channels order ≡ 0) × (3 ≤ length log)
-  unfolding headerRefused orElse
+  unfolding headerRefused
   header-fits none =
-      split (eqb (settingsRefusal format channels order) 0)
-      (λ t.
-      let ok : settingsRefusal format channels order ≡ 0 = eqb-true (settingsRefusal format channels order) 0 t in
-      let e : headerOctets format channels order ≡ format ∷ channels ∷ order ∷ [] = header-octets format channels order ok in
-      split (ltb (length log) 3)
-      (λ u. absurd (let z : _≡_ {A = ℕ} 11 0 = rw (ok, e, u) at none in omega arith))
-      (λ u. (ok, ltb-false (length log) 3 u)))
-      (λ t. absurd (eqb-false (settingsRefusal format channels order) 0 t (rw t at none)))
+      let both = past-both (settingsRefusal format channels order) _ none in
+      let room : _≡_ {A = ℕ} (cond (ltb (length log) 3) 11 0) 0 = rw (header-octets format channels order (both .0)) at (both .1) in
+      (both .0, ltb-false (length log) 3 (past (ltb (length log) 3) 10 0 room .0))
 
   header-room : settingsRefusal format channels order ≡ 0 → 3 ≤ length log → headerRefused log format channels order ≡ 0
   unfolding headerRefused orElse

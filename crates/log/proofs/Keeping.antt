@@ -1,18 +1,20 @@
 -- Laws of writing into a lent log, over plain values.
 -- Assumes nothing.
 use mathlib.Core.List.{List, [], _∷_}
-use mathlib.Core.Path.{_≡_, refl, sym, _∙_}
+use mathlib.Core.Path.{_≡_, refl, _∙_}
 use Prim.Native.Nat.{ℕ, suc, _+_, _/_, _%_, _≤_, _<_}
 use native.Mathlib.Omega.{arith}
 use native.Mathlib.Numerals.{add-one}
 use borrow.Author.Tests.{lt-ltb, le-ltb, eq-eqb, ne-eqb, ltb-false, eqb-true}
 use lib.Dec.{eqb, ltb}
-use Rattle.runs.proofs.Laws.{split}
-use lib.ListN.{length, set, length-set}
-use lib.Seq.{sets, sets-eq}
+use Rattle.runs.proofs.Laws.{split, past}
+use lib.ListN.{length, set}
+use lib.Seq.{sets}
+use Rattle.runs.specs.Runs.{written}
+use Rattle.runs.proofs.Filling.{stored, stored-behind}
 use Rattle.log.specs.declared.keep.Kept.{Kept}
 use Rattle.log.specs.Numbers.{groupsOf}
-use Rattle.log.specs.Written.{writtenAt, kept, notKept, Keeps, numberRefusal, recordRefusal}
+use Rattle.log.specs.Written.{kept, notKept, Keeps, numberRefusal, recordRefusal}
 use Rattle.log.proofs.Laws.{groups-1, groups-2, groups-3}
 
 -- a refusal leaves the log as it was
@@ -25,19 +27,8 @@ pub keeps-not : {refusal place : ℕ} {octets log : List ℕ} {answer : Kept} (k
 keeps-not k e a = keeps-no e (λ z. omega arith) a
 
 pub keeps : {refusal place : ℕ} {octets log after : List ℕ} {answer : Kept} → refusal ≡ 0 → answer ≡ kept (place + length octets)
-    → after ≡ writtenAt place octets log → Keeps refusal place octets log answer after
+    → after ≡ written log place octets → Keeps refusal place octets log answer after
 keeps e a l = record { answered = a ∙ rw e; left = l ∙ rw e }
-
-pub stored : (octets log : List ℕ) (place : ℕ) → place + length octets ≤ length log → sets log place octets ≡ writtenAt place octets log
-unfolding writtenAt
-stored octets log place h = sets-eq octets log place h
-
--- octets behind one that was stored before them
-pub stored-behind : (octet : ℕ) (octets log : List ℕ) (place : ℕ) → place + 1 + length octets ≤ length log
-    → writtenAt (place + 1) octets (set log place octet) ≡ writtenAt place (octet ∷ octets) log
-stored-behind octet octets log place h =
-    sym (stored octets (set log place octet) (place + 1) (rw length-set h))
-    ∙ rw (add-one place) (stored (octet ∷ octets) log place (omega arith))
 
 module _ (log : List ℕ) (place n : ℕ) where
   pub number-large : 2097151 < n → numberRefusal log place n ≡ 11
@@ -55,11 +46,9 @@ module _ (log : List ℕ) (place n : ℕ) where
   pub number-fits : numberRefusal log place n ≡ 0 → (n ≤ 2097151) × (place + length (groupsOf 3 n) ≤ length log)
   unfolding numberRefusal
   number-fits ok =
-      split (ltb 2097151 n)
-      (λ t. absurd (let z : _≡_ {A = ℕ} 11 0 = rw t at ok in omega arith))
-      (λ t. split (ltb (length log) (place + length (groupsOf 3 n)))
-      (λ u. absurd (let z : _≡_ {A = ℕ} 11 0 = rw (t, u) at ok in omega arith))
-      (λ u. (ltb-false 2097151 n t, ltb-false (length log) (place + length (groupsOf 3 n)) u)))
+      let small = past (ltb 2097151 n) 10 _ ok in
+      let room = past (ltb (length log) (place + length (groupsOf 3 n))) 10 0 (small .1) in
+      (ltb-false 2097151 n (small .0), ltb-false (length log) (place + length (groupsOf 3 n)) (room .0))
 
   -- stores of a number's octets, one after the other, are its shortest form written
   groups-stored : (octets : List ℕ) {after : List ℕ} {answer : Kept} → n ≤ 2097151 → groupsOf 3 n ≡ octets → place + length octets ≤ length log
@@ -109,7 +98,7 @@ module _ (log : List ℕ) (place : ℕ) (cell : List ℕ) where
 
   -- an octet stored, and a cell behind it, are a record written
   pub record-stored : (octet : ℕ) {first : ℕ} {after : List ℕ} {answer : Kept} → octet ≡ first → length cell ≡ 48 → place + 49 ≤ length log
-      → answer ≡ kept (place + 49) → after ≡ writtenAt (place + 1) cell (set log place octet)
+      → answer ≡ kept (place + 49) → after ≡ written (set log place octet) (place + 1) cell
       → Keeps (recordRefusal log place cell) place (first ∷ cell) log answer after
   record-stored octet {first} same e h a l =
       let n : place + length (first ∷ cell) ≡ place + 49 = omega arith in

@@ -1,9 +1,9 @@
 -- Laws of log numbers, over plain values.
 -- Assumes nothing.
 use mathlib.Core.List.{List, [], _∷_}
-use mathlib.Core.Path.{_≡_, refl}
-use Prim.Native.Nat.{ℕ, zero, suc, _+_, _*_, _/_, _%_, _^_, _≤_, _<_}
-use native.Mathlib.Nat.{pow-suc, pow-zero}
+use mathlib.Core.Path.{_≡_, refl, ap}
+use Prim.Native.Nat.{ℕ, zero, suc, _+_, _-_, _*_, _/_, _%_, _^_, _≤_, _<_}
+use native.Mathlib.Nat.{pow-suc, pow-zero, pow-le-pow-right}
 use native.Mathlib.Omega.{arith}
 use borrow.Author.Tests.{lt-ltb, le-ltb, le-leb, lt-leb, ltb-true, ltb-false, leb-false, eqb-false}
 use lib.Dec.{eqb, leb, ltb}
@@ -12,9 +12,17 @@ use Rattle.runs.proofs.Laws.{split}
 use Rattle.log.specs.declared.Number.{Number}
 use Rattle.log.specs.Numbers.{number, noNumber, behind, numberIn, groupsOf}
 
-pub number-cut : (k : ℕ) (log : List ℕ) (at : ℕ) → length log ≤ at → numberIn (suc k) log at ≡ noNumber
+pub number-none : (k : ℕ) (log : List ℕ) (at : ℕ) → k ≡ 0 → numberIn k log at ≡ noNumber
 unfolding numberIn
-number-cut k log at h = rw (le-leb (length log) at h)
+number-none k log at none = rw none
+
+pub number-some-groups : (k : ℕ) (log : List ℕ) (at : ℕ) → (k ≡ 0 → ⊥) → numberIn k log at ≡ numberIn (suc (k - 1)) log at
+number-some-groups k log at some = ap (λ n. numberIn n log at) (omega (arith, some))
+
+pub number-cut : (k : ℕ) (log : List ℕ) (at : ℕ) → length log ≤ at → numberIn k log at ≡ noNumber
+unfolding numberIn
+number-cut zero log at h = refl
+number-cut (suc k) log at h = rw (le-leb (length log) at h)
 
 pub number-whole : (k : ℕ) (log : List ℕ) (at : ℕ) {group : ℕ} → group ≡ getD log at 0 → at < length log → group < 128
     → numberIn (suc k) log at ≡ number group (at + 1)
@@ -47,6 +55,11 @@ value-small (suc k) log at =
     (λ s. rw (e, s, pow-suc) (omega (arith, ltb-true (getD log at 0) 128 s, pow-128 k)))
     (λ s. rw (e, s, pow-suc)
     (behind-small (128 ^ k) (getD log at 0) (numberIn k log (at + 1)) (value-small k log (at + 1)) (pow-128 k))))
+
+pub value-below : (k : ℕ) (log : List ℕ) (at : ℕ) → k ≤ 2 → numberIn k log at .value < 16384
+value-below k log at h =
+    let p : 128 ^ k ≤ 128 ^ 2 = pow-le-pow-right (omega arith) h in
+    omega (arith, value-small k log at, p)
 
 -- what a number can be, in one group more than so many
 pub number-cases : (k : ℕ) (log : List ℕ) (at : ℕ) (P : Number → Type 0)

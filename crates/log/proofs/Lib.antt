@@ -4,4 +4,5 @@ pub mod Keeping
 pub mod Laws
 pub mod One
 pub mod Places
+pub mod Walks
 pub mod Wrong

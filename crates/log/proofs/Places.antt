@@ -8,7 +8,7 @@ use borrow.Author.Tests.{eq-eqb, ne-eqb, lt-ltb, le-ltb, le-leb, lt-leb, ltb-tru
 use lib.Dec.{eqb, leb, ltb}
 use lib.ListN.{length, getD, take, drop}
 use Rattle.log.specs.declared.Record.{Record}
-use Rattle.log.specs.Records.{recordAt, endAt, noRecord, placeAfter, cellAt}
+use Rattle.log.specs.Records.{recordAt, endAt, noRecord, placeAfter, cellAt, from}
 use Rattle.runs.proofs.Laws.{split}
 
 module _ (log : List ℕ) (place : ℕ) where
@@ -66,16 +66,21 @@ module _ (log : List ℕ) (place : ℕ) where
   pub room-of : {r : Record} → r ≡ recordAt log place → (r .what ≤ 1) × (r .start + r .what * 48 ≤ length log)
   room-of e = rw e record-room
 
-  pub part-cell : {r : Record} → r ≡ recordAt log place → r .what ≡ 1 → take (r .start + 48 - r .start) (drop (r .start) log) ≡ cellAt log place
-  unfolding cellAt
-  part-cell {r} e one = let s : r .start + 48 - r .start ≡ r .what * 48 = omega arith in rw (s, e)
+  -- the part of the log that is handed back, and where it stands in memory
+  abbrev Handed : ℕ × ℕ → Record → ℕ → Type 0
+  Handed p r end =
+      (take (end - r .start) (drop (r .start) log) ≡ cellAt log place) × (from p (r .start) ≡ from p (recordAt log place .start))
 
-  pub part-none : {r : Record} → r ≡ recordAt log place → (r .what ≡ 1 → ⊥) → take (r .start - r .start) (drop (r .start) log) ≡ cellAt log place
+  part : (p : ℕ × ℕ) {r : Record} (end : ℕ) → r ≡ recordAt log place → end - r .start ≡ r .what * 48 → Handed p r end
   unfolding cellAt
-  part-none {r} e none =
-      let zero′ : r .what ≡ 0 = omega (arith, none, ap (λ (x : Record). x .what) e, record-room .0) in
-      let s : r .start - r .start ≡ r .what * 48 = omega arith in
-      rw (s, e)
+  part p end e s = (rw (s, e), ap (λ (x : Record). from p (x .start)) e)
+
+  pub part-cell : (p : ℕ × ℕ) {r : Record} → r ≡ recordAt log place → r .what ≡ 1 → Handed p r (r .start + 48)
+  part-cell p {r} e one = part p (r .start + 48) e (omega arith)
+
+  pub part-none : (p : ℕ × ℕ) {r : Record} → r ≡ recordAt log place → (r .what ≡ 1 → ⊥) → Handed p r (r .start)
+  part-none p {r} e none =
+      let zero′ : r .what ≡ 0 = omega (arith, none, ap (λ (x : Record). x .what) e, record-room .0) in part p (r .start) e (omega arith)
 
   pub place-past : {r : Record} → r ≡ recordAt log place → r .what ≡ 1 → r .next ≡ placeAfter log place
   unfolding placeAfter

@@ -25,7 +25,7 @@ use Rattle.log.specs.declared.keep.Kept.{Kept}
 use Rattle.log.specs.declared.reader.Reader.{Reader}
 use Rattle.log.specs.Numbers.{behind, numberIn, groupsOf}
 use Rattle.log.specs.Records.{headerRefusal, headerOfNumbers, headerOf, recordAt, placeAfter, cellAt}
-use Rattle.log.specs.Written.{writtenAt, numberRefusal, headerRefused, recordRefusal}
+use Rattle.log.specs.Written.{numberRefusal, headerRefused, recordRefusal}
 use Rattle.log.proofs.One.{NewEnsures, NextEnsures, CellEnsures, OnwardEnsures, ReadEnsures}
 use Rattle.log.proofs.read_number.Kinds as read-number-kinds
 use Rattle.log.proofs.read_number.Reads as read-number-reads
@@ -46,7 +46,7 @@ use Rattle.log.proofs.keep.write_record.Reads as write-record-reads
 
 -- every definition on the way down to the numbers
 unfoldable pub unfolded : Unit {0}
-unfolding orElse formats.unfolded behind numberIn groupsOf headerRefusal headerOfNumbers headerOf recordAt placeAfter cellAt writtenAt numberRefusal headerRefused recordRefusal
+unfolding orElse formats.unfolded behind numberIn groupsOf headerRefusal headerOfNumbers headerOf recordAt placeAfter cellAt numberRefusal headerRefused recordRefusal
 unfolded = tt
 
 -- a log's part with one record, its indication 1 and its cell of nines, and an octet behind it where none can begin

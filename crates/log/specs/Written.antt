@@ -5,15 +5,12 @@ use mathlib.Core.List.{List, _∷_, _++_}
 use mathlib.Core.Path.{_≡_}
 use Prim.Native.Nat.{ℕ, _+_}
 use lib.Dec.{eqb, ltb}
-use lib.ListN.{length, take, drop}
+use lib.ListN.{length}
 use Rattle.log.specs.declared.keep.Kept.{Kept}
 use Rattle.runs.specs.Refusals.{orElse}
+use Rattle.runs.specs.Runs.{written}
 use Rattle.formats.specs.Formats.{settingsRefusal}
 use Rattle.log.specs.Numbers.{groupsOf}
-
--- a lent run after octets were written at a place
-unfoldable pub writtenAt : ℕ → List ℕ → List ℕ → List ℕ
-writtenAt place octets run = take place run ++ octets ++ drop (place + length octets) run
 
 abbrev pub kept : ℕ → Kept
 kept next = record { refusal = 0; next = next }
@@ -24,7 +21,7 @@ notKept refusal = record { refusal = refusal; next = 0 }
 -- octets written at a place of a lent log: the answer, and what the log holds afterwards
 pub record Keeps (refusal place : ℕ) (octets log : List ℕ) (answer : Kept) (after : List ℕ) : Type 0 where
   pub answered : answer ≡ cond (eqb refusal 0) (kept (place + length octets)) (notKept refusal)
-  pub left : after ≡ cond (eqb refusal 0) (writtenAt place octets log) log
+  pub left : after ≡ cond (eqb refusal 0) (written log place octets) log
 
 -- 11: "over three groups or cut"
 unfoldable pub numberRefusal : List ℕ → ℕ → ℕ → ℕ

@@ -2,12 +2,12 @@
 ghost use mathlib.Core.Path.{_≡_};
 ghost use Prim.Native.Nat.{_+_, _≤_};
 ghost use lib.ListN.{length};
+ghost use Rattle.runs.specs.Runs.{written};
 ghost use Rattle.log.specs.Numbers.{groupsOf};
 ghost use Rattle.log.specs.Written.{
   Keeps,
   kept,
   notKept,
-  writtenAt,
   numberRefusal,
   headerRefused,
   headerOctets,
@@ -97,7 +97,7 @@ pub fn write_header(log: &mut [u8], format: u32, channels: u32, order: u32) -> K
 
 fn put(log: &mut [u8], place: usize, octets: &[u8])
     requires { ⌜ place + length (now octets) ≤ length (now log) ⌝ }
-    ensures { λ _. ⌜ now (log .exit) ≡ writtenAt place (now (octets .entry)) (now (log .entry)) ⌝ }
+    ensures { λ _. ⌜ now (log .exit) ≡ written (now (log .entry)) place (now (octets .entry)) ⌝ }
 {
     let mut i = 0;
     while i < octets.len() {

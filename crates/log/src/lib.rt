@@ -1,7 +1,7 @@
 // The log, document 01: its numbers, its header and its records, read from a lent log. A place is a count of octets from the
 // log's start.
 ghost use mathlib.Core.Path.{_≡_};
-ghost use Prim.Native.Nat.{_<_};
+ghost use Prim.Native.Nat.{_<_, _≤_};
 ghost use Rattle.log.specs.Numbers.{numberAt, numberIn, behind, noNumber};
 ghost use Rattle.log.specs.Records.{headerOf, noHeader, recordAt, noRecord, placeAfter, cellAt, from};
 
@@ -66,27 +66,14 @@ fn behind(group: u32, more: Number) -> Number
     }
 }
 
-fn last_group(log: &[u8], place: usize) -> Number
-    ensures { λ r. ⌜ r ≡ numberIn 1 (now (log .entry)) place ⌝ }
+// The number at a place, in at most so many groups.
+fn number_in(log: &[u8], place: usize, groups: u8) -> Number
+    requires { ⌜ groups ≤ 3 ⌝ }
+    ensures { λ r. ⌜ r ≡ numberIn groups (now (log .entry)) place ⌝ }
 {
-    if log.len() <= place {
+    if groups == 0 {
         return no_number();
     }
-    let group = wide(log[place]);
-    if group < 128 {
-        let next = place + 1;
-        return Number {
-            refusal: 0,
-            value: group,
-            next,
-        };
-    }
-    no_number()
-}
-
-fn last_groups(log: &[u8], place: usize) -> Number
-    ensures { λ r. ⌜ r ≡ numberIn 2 (now (log .entry)) place ⌝ }
-{
     if log.len() <= place {
         return no_number();
     }
@@ -99,26 +86,14 @@ fn last_groups(log: &[u8], place: usize) -> Number
             next,
         };
     }
-    behind(group, last_group(log, next))
+    behind(group, number_in(log, next, groups - 1))
 }
 
 // The log number at a place: 11 where it is not shortest, over three groups or cut.
 pub fn read_number(log: &[u8], place: usize) -> Number
     ensures { λ r. ⌜ r ≡ numberAt (now (log .entry)) place ⌝ }
 {
-    if log.len() <= place {
-        return no_number();
-    }
-    let group = wide(log[place]);
-    let next = place + 1;
-    if group < 128 {
-        return Number {
-            refusal: 0,
-            value: group,
-            next,
-        };
-    }
-    behind(group, last_groups(log, next))
+    number_in(log, place, 3)
 }
 
 fn no_header(refusal: u8) -> Header

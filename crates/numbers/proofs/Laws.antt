@@ -3,7 +3,7 @@
 -- Assumes nothing.
 use mathlib.Core.Bool.{Bool, true, false, cond, _||_}
 use mathlib.Core.List.{List, [], _∷_}
-use mathlib.Core.Path.{_≡_, refl, sym, _∙_, ap, ap₂, subst}
+use mathlib.Core.Path.{_≡_, refl, sym, _∙_, ap, ap₂}
 use Prim.Native.Nat.{ℕ, zero, suc, _+_, _*_, _/_, _%_, _-_, _^_, _≤_, _<_}
 use native.Mathlib.Nat.{le-step, le-refl, mod-lt, not-suc-le-zero, le-of-suc-le-suc, div-eq-of-lt, div-add-mod', add-mul-mod-self-right, mod-add-mod}
 use native.Mathlib.Omega.{arith}
@@ -16,8 +16,7 @@ use lib.ListN.{length, getD}
 use lib.Pow.{pow-mono}
 use Rattle.runs.specs.Division.{coefficients, divided, takenDown}
 use Rattle.runs.specs.Test.{every}
-use Rattle.runs.proofs.Laws.{every-at, split}
-use Rattle.numbers.specs.declared.Found.{Found}
+use Rattle.runs.proofs.Laws.{every-at, split, or-right}
 use Rattle.numbers.specs.declared.Found.the-variants.{Number, Nothing}
 use Rattle.numbers.specs.Numbers.{
   tableA1,
@@ -48,14 +47,6 @@ apart : ℕ → Bool
 apart pair =
     eqb (pair / 16) (pair % 16) || leb 4 (ones (bitXor (entryOf (pair / 16)) (entryOf (pair % 16))))
 
-not-equal : (b x : Bool) → b ≡ false → T (b || x) → T x
-not-equal true x e t = absurd (subst code e tt)
-  where
-    code : Bool → Type 0
-    code true = Unit {0}
-    code false = ⊥
-not-equal false x e t = t
-
 -- "Any two differ in at least four bits."
 pub table-apart : {i j : ℕ} → i < 16 → j < 16 → (i ≡ j → ⊥) → 4 ≤ ones (bitXor (entryOf i) (entryOf j))
 unfolding every apart tableA1 ones onesIn
@@ -64,7 +55,7 @@ table-apart {i} {j} hi hj other =
     let low : (i * 16 + j) % 16 ≡ j = digits-mod i hj in
     let tested : T (apart (i * 16 + j)) = every-at apart 256 tt (i * 16 + j) (digits-lt hi hj) in
     let said : T (eqb i j || leb 4 (ones (bitXor (entryOf i) (entryOf j)))) = rw (high, low) at tested in
-    leb→le 4 (ones (bitXor (entryOf i) (entryOf j))) (not-equal (eqb i j) _ (ne-eqb i j other) said)
+    leb→le 4 (ones (bitXor (entryOf i) (entryOf j))) (or-right (eqb i j) _ (ne-eqb i j other) said)
 
 pub turned-lt : (n : ℕ) → turned n < 16
 unfolding turned

@@ -1,5 +1,4 @@
 pub mod BoxesOne
-pub mod Copies
 pub mod Leaves
 pub mod LogsOne
 pub mod StatusesOne

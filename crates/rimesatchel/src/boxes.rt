@@ -3,8 +3,6 @@
 use receiver::Receiver;
 use sender::Sender;
 ghost use mathlib.Core.Path.{_≡_};
-ghost use mathlib.Core.Bool.{cond, not};
-ghost use lib.Dec.{eqb};
 ghost use Rattle.rimesatchel.specs.Boxes.{
   yesNo,
   senderOf,

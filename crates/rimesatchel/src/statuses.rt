@@ -15,7 +15,7 @@ fn after_first(octets: [u8; 25]) -> [u8; 24]
     let mut rest = [0u8; 24];
     let mut i: usize = 0;
     while i < 24 {
-        rest[i] = octets[i + 1];
+        rest[i] = octets[1 + i];
         i += 1;
     }
     rest
@@ -27,7 +27,7 @@ fn with_first(first: u8, rest: [u8; 24]) -> [u8; 25]
     let mut octets = [first; 25];
     let mut i: usize = 0;
     while i < 24 {
-        octets[i + 1] = rest[i];
+        octets[1 + i] = rest[i];
         i += 1;
     }
     octets

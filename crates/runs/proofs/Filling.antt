@@ -1,14 +1,14 @@
 -- A lent run that a loop fills with given entries from a place on: the loop's invariant, and its three laws.
 -- Assumes nothing.
-use mathlib.Core.List.{List, _++_}
+use mathlib.Core.List.{List, _∷_, _++_, append-nil}
 use mathlib.Core.Path.{_≡_, refl, sym, _∙_, ap}
 use Prim.Native.Nat.{ℕ, zero, _+_, _≤_, _<_}
 use native.Mathlib.Nat.{zero-add}
 use native.Mathlib.Numerals.{add-one}
 use native.Mathlib.Omega.{arith}
-use lib.ListN.{length, getD, take, drop, set, length-set}
-use Rattle.runs.specs.Runs.{over}
-use lib.Seq.{paste, paste-zero, paste-suc, take-all}
+use lib.ListN.{length, getD, take, drop, set, length-set, drop-of-length-le}
+use Rattle.runs.specs.Runs.{over, written}
+use lib.Seq.{paste, paste-zero, paste-suc, take-all, sets, sets-eq}
 
 -- the run d is d₀ with the first i entries of vs written from `at` on
 pub record Filled (d d₀ : List ℕ) (at : ℕ) (vs : List ℕ) (i : ℕ) : Type 0 where
@@ -33,7 +33,7 @@ module _ (d₀ : List ℕ) (at : ℕ) (vs : List ℕ) where
         same = length-set d (at + i) v ∙ so-far .same;
       }
 
-  pub done : {d : List ℕ} {i : ℕ} → Filled d d₀ at vs i → length vs ≤ i → d ≡ take at d₀ ++ vs ++ drop (at + length vs) d₀
+  pub done : {d : List ℕ} {i : ℕ} → Filled d d₀ at vs i → length vs ≤ i → d ≡ written d₀ at vs
   done {d} {i} so-far all =
       let whole : i ≡ length vs = omega (arith, so-far .within) in
       so-far .is
@@ -50,3 +50,20 @@ module _ (d₀ vs : List ℕ) where
   pub done-front : {d : List ℕ} {i : ℕ} → Filled d d₀ 0 vs i → length vs ≤ i → d ≡ over vs d₀
   unfolding over
   done-front so-far all = done d₀ 0 vs so-far all ∙ rw (zero-add (length vs))
+
+-- a run that is written to its end
+module _ (d₀ vs : List ℕ) where
+  pub done-to-end : {d : List ℕ} {i : ℕ} (at : ℕ) → Filled d d₀ at vs i → length vs ≤ i → length d₀ ≤ at + length vs → d ≡ take at d₀ ++ vs
+  done-to-end at so-far all end =
+      done d₀ at vs so-far all ∙ ap (λ (l : List ℕ). take at d₀ ++ vs ++ l) (drop-of-length-le d₀ end) ∙ append-nil (take at d₀ ++ vs)
+
+-- entries stored one after the other
+pub stored : (vs run : List ℕ) (at : ℕ) → at + length vs ≤ length run → sets run at vs ≡ written run at vs
+stored vs run at room = sets-eq vs run at room
+
+-- entries behind one that was stored before them
+pub stored-behind : (v : ℕ) (vs run : List ℕ) (at : ℕ) → at + 1 + length vs ≤ length run
+    → written (set run at v) (at + 1) vs ≡ written run at (v ∷ vs)
+stored-behind v vs run at room =
+    sym (stored vs (set run at v) (at + 1) (rw length-set room))
+    ∙ rw (add-one at) (stored (v ∷ vs) run at (omega arith))

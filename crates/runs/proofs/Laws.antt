@@ -25,6 +25,10 @@ pub both-right : (a b : Bool) → T (a && b) → T b
 both-right true b t = t
 both-right false b t = absurd t
 
+pub or-right : (a b : Bool) → a ≡ false → T (a || b) → T b
+or-right true b e t = absurd (true≢false e)
+or-right false b e t = t
+
 -- what a list of refusals in order tells where none is given: the first is not, and the rest gives none
 pub past : (test : Bool) (n rest : ℕ) → cond test (suc n) rest ≡ 0 → (test ≡ false) × (rest ≡ 0)
 past true n rest e = absurd (suc-ne-zero n e)

@@ -1,8 +1,8 @@
--- Runs that a loop fills from the front, octets of a number, and what a lent run holds after it was written from its start.
+-- Runs that a loop fills from the front, octets of a number, and what a lent run holds after it was written into.
 -- Assumes nothing.
 use mathlib.Core.List.{List, [], _∷_, _++_}
 use Prim.Native.Nat.{ℕ, zero, suc, _+_, _*_, _/_, _%_, _^_}
-use lib.ListN.{length, drop}
+use lib.ListN.{length, take, drop}
 
 -- the n entries f 0, f 1, .. one after the other
 unfoldable pub tab : (ℕ → ℕ) → ℕ → List ℕ
@@ -31,3 +31,7 @@ numberOf xs = readOn 0 xs
 -- a lent run after entries were written from its start: those, and then what it held past them
 unfoldable pub over : List ℕ → List ℕ → List ℕ
 over new run = new ++ drop (length new) run
+
+-- a lent run after entries were written from a place on: what it held before them, those, and what it held past them
+abbrev pub written : List ℕ → ℕ → List ℕ → List ℕ
+written run at new = take at run ++ new ++ drop (at + length new) run

@@ -13,23 +13,14 @@ none-behind : (group : ℕ) (more : Number) → more .value ≡ 0 → noNumber �
 unfolding behind
 none-behind group more none = rw (eq-eqb _ _ none)
 
-no-number-requires : tie.Need-no-number-requires
-no-number-requires c κs = search needs
-
 returns : tie.Need-returns
 returns c =
     c .no-number .ensures
     ∙ none-behind (c .before .before .before .args .group) (c .before .before .before .args .more) (c .before .if1 .taken)
-
-mul-value : tie.Need-mul-value
-mul-value c = search needs
-
-add-value : tie.Need-add-value
-add-value c = search needs
 
 returns-2 : tie.Need-returns-2
 unfolding behind
 returns-2 c = rw (ne-eqb _ _ (c .before .if1 .left))
 
 pub behind-spec : {M : Type 1} → statement M
-behind-spec = tie.close (tie.spec no-number-requires returns mul-value add-value returns-2)
+behind-spec = tie.close (tie.spec (search needs) returns (search needs) (search needs) returns-2)

@@ -5,9 +5,6 @@ use Rattle.log.proofs.Places.{place-past, place-stays}
 use Rattle.log.proofs.next_place.Statement.{statement}
 use Rattle.log.proofs.next_place.Tie as tie
 
-read-record-requires : tie.Need-read-record-requires
-read-record-requires c κs = search needs
-
 returns : tie.Need-returns
 returns c = place-past _ _ (c .before .before .read-record .ensures) (c .if1 .taken)
 
@@ -15,4 +12,4 @@ returns-2 : tie.Need-returns-2
 returns-2 c = place-stays _ _ (c .before .before .read-record .ensures) (c .if1 .left)
 
 pub next-place-spec : {M : Type 1} → statement M
-next-place-spec = tie.close (tie.spec read-record-requires returns returns-2)
+next-place-spec = tie.close (tie.spec (search needs) returns returns-2)

@@ -1,61 +1,28 @@
 -- `log::read_cell` meets its contract.
 -- Assumes nothing.
-use Rattle.log.specs.Records.{from}
-use Rattle.log.specs.declared.Record.{Record}
 use Rattle.log.proofs.Places.{room-of, part-cell, part-none}
 use native.Mathlib.Omega.{arith}
-use mathlib.Core.Path.{ap}
 use borrow.Author.Needs.{needs}
 use Rattle.log.proofs.read_cell.Statement.{statement}
 use Rattle.log.proofs.read_cell.Tie as tie
 
-read-record-requires : tie.Need-read-record-requires
-read-record-requires c κs = search needs
-
 add-end : tie.Need-add-end
 add-end c = omega (arith, room-of _ _ (c .before .before .read-record .ensures))
-
-sub-result : tie.Need-sub-result
-sub-result c = search needs
-
-part-result-start : tie.Need-part-result-start
-part-result-start c = search needs
 
 part-result-end : tie.Need-part-result-end
 part-result-end c = omega (arith, room-of _ _ (c .before .before .read-record .ensures))
 
 returns : tie.Need-returns
-returns c = (
-  part-cell _ _ (c .before .before .before .read-record .ensures) (c .before .if1 .taken),
-  ap (λ (r : Record). from (c .before .before .before .before .before .args .log .ptr) (r .start)) (c .before .before .before .read-record .ensures),
-)
-
-sub-result-2 : tie.Need-sub-result-2
-sub-result-2 c = search needs
-
-part-result-start-2 : tie.Need-part-result-start-2
-part-result-start-2 c = search needs
+returns c = part-cell _ _ _ (c .before .before .before .read-record .ensures) (c .before .if1 .taken)
 
 part-result-end-2 : tie.Need-part-result-end-2
 part-result-end-2 c = omega (arith, room-of _ _ (c .before .before .read-record .ensures))
 
 returns-2 : tie.Need-returns-2
-returns-2 c = (
-  part-none _ _ (c .before .before .before .read-record .ensures) (c .before .if1 .left),
-  ap (λ (r : Record). from (c .before .before .before .before .before .args .log .ptr) (r .start)) (c .before .before .before .read-record .ensures),
-)
+returns-2 c = part-none _ _ _ (c .before .before .before .read-record .ensures) (c .before .if1 .left)
 
 pub read-cell-spec : {M : Type 1} → statement M
 read-cell-spec =
     tie.close
-    (tie.spec
-    read-record-requires
-    add-end
-    sub-result
-    part-result-start
-    part-result-end
-    returns
-    sub-result-2
-    part-result-start-2
-    part-result-end-2
-    returns-2)
+    (tie.spec (search needs) add-end (search needs) (search needs) part-result-end returns (search needs) (search needs)
+    part-result-end-2 returns-2)

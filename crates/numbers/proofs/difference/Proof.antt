@@ -5,12 +5,9 @@ use borrow.Author.Needs.{needs}
 use Rattle.numbers.proofs.difference.Statement.{statement}
 use Rattle.numbers.proofs.difference.Tie as tie
 
-wrapping-sub-u8-requires : tie.Need-wrapping-sub-u8-requires
-wrapping-sub-u8-requires c κs = search needs
-
 returns : tie.Need-returns
 returns c =
     wraps-difference (c .wrapping-sub-u8 .result) (c .before .args .number) (c .before .args .last) (c .wrapping-sub-u8 .ensures)
 
 pub difference-spec : {M : Type 1} → statement M
-difference-spec = tie.close (tie.spec wrapping-sub-u8-requires returns)
+difference-spec = tie.close (tie.spec (search needs) returns)

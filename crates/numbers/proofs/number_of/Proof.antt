@@ -12,12 +12,6 @@ use Rattle.numbers.proofs.number_of.Tie as tie
 returns : tie.Need-returns
 returns c = odd-nothing (c .before .fits .word .fits) (c .if1 .taken)
 
-turned-round-requires : tie.Need-turned-round-requires
-turned-round-requires c κs = search needs
-
-entry-of-requires : tie.Need-entry-of-requires
-entry-of-requires c κs = search needs
-
 looked : (c : tie.After-entry-of) → entryOf (turned (c .before .before .before .args .word / 16) % 16) ≡ c .entry-of .result
 looked c = sym (c .entry-of .ensures ∙ ap (λ (n : ℕ). entryOf (n % 16)) (c .before .turned-round .ensures))
 
@@ -29,4 +23,4 @@ returns-3 c = other-nothing (c .before .before .before .before .fits .word .fits
 
 pub number-of-spec : {M : Type 1} → statement M
 number-of-spec =
-    tie.close (tie.spec returns turned-round-requires entry-of-requires returns-2 returns-3)
+    tie.close (tie.spec returns (search needs) (search needs) returns-2 returns-3)

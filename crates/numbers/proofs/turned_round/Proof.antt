@@ -6,24 +6,6 @@ use borrow.Author.Needs.{needs}
 use Rattle.numbers.proofs.turned_round.Statement.{statement}
 use Rattle.numbers.proofs.turned_round.Tie as tie
 
-mul-result : tie.Need-mul-result
-mul-result c = search needs
-
-mul-result-2 : tie.Need-mul-result-2
-mul-result-2 c = search needs
-
-add-result : tie.Need-add-result
-add-result c = search needs
-
-mul-result-3 : tie.Need-mul-result-3
-mul-result-3 c = search needs
-
-add-result-2 : tie.Need-add-result-2
-add-result-2 c = search needs
-
-add-result-3 : tie.Need-add-result-3
-add-result-3 c = search needs
-
 returns : tie.Need-returns
 unfolding turned
 returns c = refl
@@ -31,4 +13,4 @@ returns c = refl
 pub turned-round-spec : {M : Type 1} → statement M
 turned-round-spec =
     tie.close
-    (tie.spec mul-result mul-result-2 add-result mul-result-3 add-result-2 add-result-3 returns)
+    (tie.spec (search needs) (search needs) (search needs) (search needs) (search needs) (search needs) returns)

@@ -5,24 +5,6 @@ use borrow.Author.Needs.{needs}
 use Rattle.listing.proofs.lines.fault.Statement.{statement}
 use Rattle.listing.proofs.lines.fault.Tie as tie
 
-slice-aggregate-put-item : tie.Need-slice-aggregate-put-item
-slice-aggregate-put-item c = search needs
-
-put-item-requires : tie.Need-put-item-requires
-put-item-requires c κs = search needs
-
-put-item-requires-2 : tie.Need-put-item-requires-2
-put-item-requires-2 c κs = search needs
-
-slice-aggregate-put-all : tie.Need-slice-aggregate-put-all
-slice-aggregate-put-all c = search needs
-
-put-all-requires : tie.Need-put-all-requires
-put-all-requires c κs = search needs
-
-same-length : tie.Need-same-length
-same-length c = search needs
-
 returns : tie.Need-returns
 returns c =
     puts-then (puts-then (c .before .before .before .before .before .before .before .before .before .before .before .put-item .ensures)
@@ -32,11 +14,4 @@ returns c =
 pub fault-spec : {M : Type 1} → statement M
 fault-spec =
     tie.close
-    (tie.spec
-    slice-aggregate-put-item
-    put-item-requires
-    put-item-requires-2
-    slice-aggregate-put-all
-    put-all-requires
-    same-length
-    returns)
+    (tie.spec (search needs) (search needs) (search needs) (search needs) (search needs) (search needs) returns)

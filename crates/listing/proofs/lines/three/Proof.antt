@@ -5,21 +5,6 @@ use borrow.Author.Needs.{needs}
 use Rattle.listing.proofs.lines.three.Statement.{statement}
 use Rattle.listing.proofs.lines.three.Tie as tie
 
-put-item-requires : tie.Need-put-item-requires
-put-item-requires c κs = search needs
-
-put-item-requires-2 : tie.Need-put-item-requires-2
-put-item-requires-2 c κs = search needs
-
-put-item-requires-3 : tie.Need-put-item-requires-3
-put-item-requires-3 c κs = search needs
-
-put-all-requires : tie.Need-put-all-requires
-put-all-requires c κs = search needs
-
-same-length : tie.Need-same-length
-same-length c = search needs
-
 returns : tie.Need-returns
 returns c =
     puts-then (puts-then (puts-then (c .before .before .before .before .before .before .before .before .before .before .before .before .before .before .put-item .ensures)
@@ -30,10 +15,4 @@ returns c =
 pub three-spec : {M : Type 1} → statement M
 three-spec =
     tie.close
-    (tie.spec
-    put-item-requires
-    put-item-requires-2
-    put-item-requires-3
-    put-all-requires
-    same-length
-    returns)
+    (tie.spec (search needs) (search needs) (search needs) (search needs) (search needs) returns)

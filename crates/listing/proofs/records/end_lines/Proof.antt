@@ -6,23 +6,8 @@ use borrow.Author.Needs.{needs}
 use Rattle.listing.proofs.records.end_lines.Statement.{statement}
 use Rattle.listing.proofs.records.end_lines.Tie as tie
 
-end-line-requires : tie.Need-end-line-requires
-end-line-requires c κs = search needs
-
-same-length : tie.Need-same-length
-same-length c = search needs
-
 returns : tie.Need-returns
 returns c = puts-same (end-plain (c .before .before .before .before .before .before .args .here) (c .before .before .before .before .before .before .args .refusal) (c .before .before .before .before .if1 .taken)) (c .before .before .end-line .ensures)
-
-broken-line-requires : tie.Need-broken-line-requires
-broken-line-requires c κs = search needs
-
-end-line-requires-2 : tie.Need-end-line-requires-2
-end-line-requires-2 c κs = search needs
-
-same-length-2 : tie.Need-same-length-2
-same-length-2 c = search needs
 
 returns-2 : tie.Need-returns-2
 returns-2 c =
@@ -32,11 +17,4 @@ returns-2 c =
 pub end-lines-spec : {M : Type 1} → statement M
 end-lines-spec =
     tie.close
-    (tie.spec
-    end-line-requires
-    same-length
-    returns
-    broken-line-requires
-    end-line-requires-2
-    same-length-2
-    returns-2)
+    (tie.spec (search needs) (search needs) returns (search needs) (search needs) (search needs) returns-2)

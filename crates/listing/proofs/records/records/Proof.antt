@@ -14,26 +14,11 @@ Inv-loop log run₀ here₀ past₀ found₀ run here past found = (length log �
 abbrev μ-loop : tie.MeasureT-loop
 μ-loop log run₀ here₀ past₀ found₀ run here past found = length log - here .place
 
-read-requires : tie.Need-read-requires Inv-loop μ-loop
-read-requires c κs = search needs
-
 loop-holds : tie.Need-loop-holds Inv-loop μ-loop
 loop-holds c = (c .before .before .before .pre .0, along-start _ _ _ (c .before .before .before .pre .1) (c .read .ensures))
 
-read-cell-requires : tie.Need-read-cell-requires Inv-loop μ-loop
-read-cell-requires c κs = search needs
-
-judged-requires : tie.Need-judged-requires Inv-loop μ-loop
-judged-requires c κs = search needs
-
-record-line-requires : tie.Need-record-line-requires Inv-loop μ-loop
-record-line-requires c κs = search needs
-
 after-requires : tie.Need-after-requires Inv-loop μ-loop
 after-requires c κs = c .before .before .before .before .before .before .before .before .loop .inv .1 .counted
-
-read-requires-2 : tie.Need-read-requires-2 Inv-loop μ-loop
-read-requires-2 c κs = search needs
 
 loop-less : tie.Need-loop-less Inv-loop μ-loop
 loop-less c = step-less (c .before .before .before .before .before .before .before .before .before .before .loop .inv .1) (c .before .before .before .before .before .before .before .before .before .before .loop .inv .0) (c .before .before .before .before .before .before .before .before .if1 .taken) (c .before .before .before .before .before .before .judged .result) (c .before .after .ensures .0)
@@ -45,9 +30,6 @@ loop-again c = (
       (c .before .after .ensures .1) (c .before .before .before .before .record-line .ensures) (c .before .before .before .before .record-line .kept .0) (c .before .after .ensures .0) (c .read2 .ensures),
 )
 
-end-lines-requires : tie.Need-end-lines-requires Inv-loop μ-loop
-end-lines-requires c κs = search needs
-
 same-length : tie.Need-same-length Inv-loop μ-loop
 same-length c = c .before .before .end-lines .kept .0 ∙ c .before .before .before .before .before .before .loop .inv .1 .same
 
@@ -57,18 +39,5 @@ returns c = along-end (c .before .before .before .before .before .before .loop .
 pub records-spec : {M : Type 1} → statement M
 records-spec =
     tie.close
-    (tie.spec
-    Inv-loop
-    μ-loop
-    read-requires
-    loop-holds
-    read-cell-requires
-    judged-requires
-    record-line-requires
-    after-requires
-    read-requires-2
-    loop-less
-    loop-again
-    end-lines-requires
-    same-length
-    returns)
+    (tie.spec Inv-loop μ-loop (search needs) loop-holds (search needs) (search needs) (search needs) after-requires (search needs)
+    loop-less loop-again (search needs) same-length returns)

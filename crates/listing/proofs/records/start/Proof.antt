@@ -6,9 +6,6 @@ use borrow.Author.Needs.{needs}
 use Rattle.listing.proofs.records.start.Statement.{statement}
 use Rattle.listing.proofs.records.start.Tie as tie
 
-opened-requires : tie.Need-opened-requires
-opened-requires c κs = search needs
-
 returns : tie.Need-returns
 returns c =
     ap
@@ -23,4 +20,4 @@ returns c =
     (c .before .opened .ensures)
 
 pub start-spec : {M : Type 1} → statement M
-start-spec = tie.close (tie.spec opened-requires returns)
+start-spec = tie.close (tie.spec (search needs) returns)

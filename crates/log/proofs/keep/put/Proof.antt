@@ -5,7 +5,6 @@ use mathlib.Core.Path.{refl}
 use borrow.Author.Needs.{needs}
 use lib.ListN.{length}
 use Rattle.runs.proofs.Filling.{Filled, begun, turned, done}
-use Rattle.log.specs.Written.{writtenAt}
 use Rattle.log.proofs.keep.put.Statement.{statement}
 use Rattle.log.proofs.keep.put.Tie as tie
 
@@ -18,46 +17,17 @@ abbrev μ-loop : tie.MeasureT-loop
 loop-holds : tie.Need-loop-holds Inv-loop μ-loop
 loop-holds c = (c .pre, begun _ _ _)
 
-shared-slice-read-log : tie.Need-shared-slice-read-log Inv-loop μ-loop
-shared-slice-read-log c = search needs
-
-add-log : tie.Need-add-log Inv-loop μ-loop
-add-log c = search needs
-
-slice-write-log : tie.Need-slice-write-log Inv-loop μ-loop
-slice-write-log c = search needs
-
-add-i : tie.Need-add-i Inv-loop μ-loop
-add-i c = search needs
-
-loop-less : tie.Need-loop-less Inv-loop μ-loop
-loop-less c = search needs
-
 loop-again : tie.Need-loop-again Inv-loop μ-loop
 loop-again c = (
   c .before .before .loop .inv .0,
   turned _ _ _ (c .before .before .loop .inv .1) (c .before .before .loop .inv .0) (c .before .loop-test .taken) refl,
 )
 
-same-length : tie.Need-same-length Inv-loop μ-loop
-same-length c = search needs
-
 returns : tie.Need-returns Inv-loop μ-loop
-unfolding writtenAt
 returns c = done _ _ _ (c .before .loop .inv .1) (c .loop-test .left)
 
 pub put-spec : {M : Type 1} → statement M
 put-spec =
     tie.close
-    (tie.spec
-    Inv-loop
-    μ-loop
-    loop-holds
-    shared-slice-read-log
-    add-log
-    slice-write-log
-    add-i
-    loop-less
-    loop-again
-    same-length
-    returns)
+    (tie.spec Inv-loop μ-loop loop-holds (search needs) (search needs) (search needs) (search needs) (search needs) loop-again
+    (search needs) returns)

@@ -8,44 +8,17 @@ use borrow.Author.Needs.{needs}
 use Rattle.log.proofs.keep.write_record.Statement.{statement}
 use Rattle.log.proofs.keep.write_record.Tie as tie
 
-not-kept-requires : tie.Need-not-kept-requires
-not-kept-requires c κs = search needs
-
 returns : tie.Need-returns
 returns c = keeps-not 4 (record-no-cell _ _ _ (c .before .if1 .taken)) (c .not-kept .ensures)
-
-not-kept-requires-2 : tie.Need-not-kept-requires-2
-not-kept-requires-2 c κs = search needs
 
 returns-2 : tie.Need-returns-2
 returns-2 c = keeps-not 11 (record-no-room _ _ _ (c .before .before .if1 .left) (omega arith)) (c .not-kept2 .ensures)
 
-sub-if3 : tie.Need-sub-if3
-sub-if3 c = search needs
-
-not-kept-requires-3 : tie.Need-not-kept-requires-3
-not-kept-requires-3 c κs = search needs
-
 returns-3 : tie.Need-returns-3
 returns-3 c = keeps-not 11 (record-no-room _ _ _ (c .before .before .before .if1 .left) (omega arith)) (c .not-kept3 .ensures)
 
-add-start : tie.Need-add-start
-add-start c = search needs
-
-octet-of-requires : tie.Need-octet-of-requires
-octet-of-requires c κs = search needs
-
-slice-write-log : tie.Need-slice-write-log
-slice-write-log c = search needs
-
 put-requires : tie.Need-put-requires
 put-requires c κs = simp length-set (omega arith)
-
-add-kept-to : tie.Need-add-kept-to
-add-kept-to c = search needs
-
-kept-to-requires : tie.Need-kept-to-requires
-kept-to-requires c κs = search needs
 
 same-length : tie.Need-same-length
 same-length c = c .before .before .before .put .kept .0 ∙ simp length-set
@@ -58,19 +31,5 @@ returns-4 c =
 pub write-record-spec : {M : Type 1} → statement M
 write-record-spec =
     tie.close
-    (tie.spec
-    not-kept-requires
-    returns
-    not-kept-requires-2
-    returns-2
-    sub-if3
-    not-kept-requires-3
-    returns-3
-    add-start
-    octet-of-requires
-    slice-write-log
-    put-requires
-    add-kept-to
-    kept-to-requires
-    same-length
-    returns-4)
+    (tie.spec (search needs) returns (search needs) returns-2 (search needs) (search needs) returns-3 (search needs)
+    (search needs) (search needs) put-requires (search needs) (search needs) same-length returns-4)

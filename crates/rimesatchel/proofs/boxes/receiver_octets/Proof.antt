@@ -5,12 +5,9 @@ use borrow.Author.Needs.{needs}
 use Rattle.rimesatchel.proofs.boxes.receiver_octets.Statement.{statement}
 use Rattle.rimesatchel.proofs.boxes.receiver_octets.Tie as tie
 
-yes-no-requires : tie.Need-yes-no-requires
-yes-no-requires c κs = search needs
-
 returns : tie.Need-returns
 unfolding receiverOctets
 returns c = rw (c .yes-no .ensures)
 
 pub receiver-octets-spec : {M : Type 1} → statement M
-receiver-octets-spec = tie.close (tie.spec yes-no-requires returns)
+receiver-octets-spec = tie.close (tie.spec (search needs) returns)

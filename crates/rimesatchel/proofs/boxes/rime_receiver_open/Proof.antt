@@ -7,12 +7,6 @@ use borrow.Author.Needs.{needs}
 use Rattle.rimesatchel.proofs.boxes.rime_receiver_open.Statement.{statement}
 use Rattle.rimesatchel.proofs.boxes.rime_receiver_open.Tie as tie
 
-opened-requires : tie.Need-opened-requires
-opened-requires c κs = search needs
-
-receiver-octets-requires : tie.Need-receiver-octets-requires
-receiver-octets-requires c κs = search needs
-
 returns : tie.Need-returns
 returns c =
     record {
@@ -21,4 +15,4 @@ returns c =
     }
 
 pub rime-receiver-open-spec : {M : Type 1} → statement M
-rime-receiver-open-spec = tie.close (tie.spec opened-requires receiver-octets-requires returns)
+rime-receiver-open-spec = tie.close (tie.spec (search needs) (search needs) returns)

@@ -7,12 +7,6 @@ use borrow.Author.Needs.{needs}
 use Rattle.rimesatchel.proofs.boxes.rime_sender_open.Statement.{statement}
 use Rattle.rimesatchel.proofs.boxes.rime_sender_open.Tie as tie
 
-opened-requires : tie.Need-opened-requires
-opened-requires c κs = search needs
-
-sender-octets-requires : tie.Need-sender-octets-requires
-sender-octets-requires c κs = search needs
-
 returns : tie.Need-returns
 returns c =
     record {
@@ -21,4 +15,4 @@ returns c =
     }
 
 pub rime-sender-open-spec : {M : Type 1} → statement M
-rime-sender-open-spec = tie.close (tie.spec opened-requires sender-octets-requires returns)
+rime-sender-open-spec = tie.close (tie.spec (search needs) (search needs) returns)

@@ -9,9 +9,6 @@ use borrow.Author.Needs.{needs}
 use Rattle.rimesatchel.proofs.logs.rime_log_header.Statement.{statement}
 use Rattle.rimesatchel.proofs.logs.rime_log_header.Tie as tie
 
-read-header-requires : tie.Need-read-header-requires
-read-header-requires c κs = search needs
-
 cast-t4 : tie.Need-cast-t4
 cast-t4 c =
     omega (arith, ap (λ (h : Header). h .place) (c .before .read-header .ensures), header-place (c .before .before .before .args .log .now))
@@ -21,4 +18,4 @@ returns c =
     (ap (λ (h : Header). h .refusal) (c .before .before .read-header .ensures), ap headerNumbers (c .before .before .read-header .ensures))
 
 pub rime-log-header-spec : {M : Type 1} → statement M
-rime-log-header-spec = tie.close (tie.spec read-header-requires cast-t4 returns)
+rime-log-header-spec = tie.close (tie.spec (search needs) cast-t4 returns)

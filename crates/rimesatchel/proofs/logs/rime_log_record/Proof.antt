@@ -10,15 +10,6 @@ use borrow.Author.Needs.{needs}
 use Rattle.rimesatchel.proofs.logs.rime_log_record.Statement.{statement}
 use Rattle.rimesatchel.proofs.logs.rime_log_record.Tie as tie
 
-read-requires : tie.Need-read-requires
-read-requires c κs = search needs
-
-cast-t5 : tie.Need-cast-t5
-cast-t5 c = search needs
-
-cast-t6 : tie.Need-cast-t6
-cast-t6 c = search needs
-
 byte-of : (b : Bool) → boolByte b ≡ cond b 1 0
 byte-of true = refl
 byte-of false = refl
@@ -33,4 +24,4 @@ returns c = (
 )
 
 pub rime-log-record-spec : {M : Type 1} → statement M
-rime-log-record-spec = tie.close (tie.spec read-requires cast-t5 cast-t6 returns)
+rime-log-record-spec = tie.close (tie.spec (search needs) (search needs) (search needs) returns)

@@ -1,20 +1,19 @@
--- `rimesatchel::statuses::after_first` meets its contract.
+-- `rimesatchel::statuses::after_first` meets its contract. The loop: so many octets after the first are copied. The measure is what is
+-- left of them.
 -- Assumes nothing.
-use mathlib.Core.List.{append-nil}
-use mathlib.Core.Path.{_≡_, refl, sym, _∙_, ap}
-use Prim.Native.Nat.{ℕ, _-_, _≤_}
+use mathlib.Core.Path.{_≡_, sym, _∙_}
+use Prim.Native.Nat.{_-_}
 use native.Mathlib.Omega.{arith}
 use borrow.Author.Needs.{needs}
-use lib.ListN.{length, getD, drop, length-drop}
-use lib.Seq.{paste, getD-drop, take-all}
+use lib.ListN.{length, drop, length-drop}
+use lib.Seq.{getD-drop}
+use Rattle.runs.proofs.Filling.{Filled, begun, turned-front, done-to-end}
 use Rattle.status.specs.Bits.{zeros}
-use Rattle.rimesatchel.proofs.Copies.{copied-more}
 use Rattle.rimesatchel.proofs.statuses.after_first.Statement.{statement}
 use Rattle.rimesatchel.proofs.statuses.after_first.Tie as tie
 
--- the first i octets after the first are copied
 abbrev Inv-loop : tie.InvT-loop
-Inv-loop octets rest₀ i₀ rest i = (i ≤ 24) × (rest ≡ paste zeros 0 (drop 1 octets) i)
+Inv-loop octets rest₀ i₀ rest i = Filled rest zeros 0 (drop 1 octets) i
 
 abbrev μ-loop : tie.MeasureT-loop
 μ-loop octets rest₀ i₀ rest i = 24 - i
@@ -23,50 +22,16 @@ abbrev μ-loop : tie.MeasureT-loop
 long : (c : tie.Start Inv-loop μ-loop) → length (drop 1 (c .args .t1)) ≡ 24
 long c = let l : length (c .args .t1) ≡ 25 = c .good .0 .1 .0 .1 in length-drop 1 (c .args .t1) ∙ omega arith
 
-loop-holds : tie.Need-loop-holds Inv-loop μ-loop
-loop-holds c = (omega arith, refl)
-
-add-rest : tie.Need-add-rest Inv-loop μ-loop
-add-rest c = search needs
-
-array-read-rest : tie.Need-array-read-rest Inv-loop μ-loop
-array-read-rest c = search needs
-
-array-write-rest : tie.Need-array-write-rest Inv-loop μ-loop
-array-write-rest c = search needs
-
-add-i : tie.Need-add-i Inv-loop μ-loop
-add-i c = search needs
-
-loop-less : tie.Need-loop-less Inv-loop μ-loop
-loop-less c = omega arith
-
 loop-again : tie.Need-loop-again Inv-loop μ-loop
 loop-again c =
     let l = c .before .loop in
-    let o = c .before .before .args .t1 in (
-      omega arith,
-      copied-more zeros 0 (drop 1 o) (l .i) (omega arith) (omega (arith, long (c .before .before))) (l .inv .1) (omega arith)
-          (sym (getD-drop 1 o (l .i) 0 ∙ ap (λ (n : ℕ). getD o n 0) (omega arith))),
-    )
+    let o = c .before .before .args .t1 in
+    turned-front zeros (drop 1 o) (l .inv) (omega (arith, long (c .before .before))) (omega (arith, long (c .before .before))) (sym (getD-drop 1 o (l .i) 0))
 
 returns : tie.Need-returns Inv-loop μ-loop
-returns c =
-    let o = c .before .before .args .t1 in
-    let at-end : c .before .loop .i ≡ 24 = omega arith in
-    c .before .loop .inv .1 ∙ ap (paste zeros 0 (drop 1 o)) at-end ∙ append-nil _ ∙ take-all 24 (drop 1 o) (omega (arith, long (c .before .before)))
+returns c = done-to-end zeros _ 0 (c .before .loop .inv) (omega (arith, long (c .before .before))) (omega (arith, long (c .before .before)))
 
 pub after-first-spec : {M : Type 1} → statement M
 after-first-spec =
     tie.close
-    (tie.spec
-    Inv-loop
-    μ-loop
-    loop-holds
-    add-rest
-    array-read-rest
-    array-write-rest
-    add-i
-    loop-less
-    loop-again
-    returns)
+    (tie.spec Inv-loop μ-loop (λ c. begun _ _ _) (search needs) (search needs) (search needs) (search needs) (search needs) loop-again returns)

@@ -12,21 +12,6 @@ use Rattle.rimesatchel.specs.Statuses.{steppedOf}
 use Rattle.rimesatchel.proofs.statuses.rime_status_step.Statement.{statement}
 use Rattle.rimesatchel.proofs.statuses.rime_status_step.Tie as tie
 
-array-read-bits : tie.Need-array-read-bits
-array-read-bits c = search needs
-
-after-first-requires : tie.Need-after-first-requires
-after-first-requires c κs = search needs
-
-brought-forward-requires : tie.Need-brought-forward-requires
-brought-forward-requires c κs = search needs
-
-with-first-requires : tie.Need-with-first-requires
-with-first-requires c κs = search needs
-
-with-first-requires-2 : tie.Need-with-first-requires-2
-with-first-requires-2 c κs = search needs
-
 returns : tie.Need-returns
 returns c =
     let b = c .before .before .before .before .before .before in
@@ -43,10 +28,4 @@ returns c =
 pub rime-status-step-spec : {M : Type 1} → statement M
 rime-status-step-spec =
     tie.close
-    (tie.spec
-    array-read-bits
-    after-first-requires
-    brought-forward-requires
-    with-first-requires
-    with-first-requires-2
-    returns)
+    (tie.spec (search needs) (search needs) (search needs) (search needs) (search needs) returns)

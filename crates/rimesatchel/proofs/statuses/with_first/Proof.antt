@@ -1,19 +1,17 @@
--- `rimesatchel::statuses::with_first` meets its contract.
+-- `rimesatchel::statuses::with_first` meets its contract. The loop: so many octets are copied behind the first. The measure is what is
+-- left of them.
 -- Assumes nothing.
-use mathlib.Core.List.{_∷_, append-nil}
-use mathlib.Core.Path.{_≡_, refl, _∙_, ap}
-use Prim.Native.Nat.{_-_, _≤_}
+use mathlib.Core.Path.{_≡_, refl}
+use Prim.Native.Nat.{_-_}
 use native.Mathlib.Omega.{arith}
 use borrow.Author.Needs.{needs}
 use lib.ListN.{length, replicate}
-use lib.Seq.{paste, take-all}
-use Rattle.rimesatchel.proofs.Copies.{copied-more}
+use Rattle.runs.proofs.Filling.{Filled, begun, turned, done-to-end}
 use Rattle.rimesatchel.proofs.statuses.with_first.Statement.{statement}
 use Rattle.rimesatchel.proofs.statuses.with_first.Tie as tie
 
--- the first i octets are copied behind the first
 abbrev Inv-loop : tie.InvT-loop
-Inv-loop first rest octets₀ i₀ octets i = (i ≤ 24) × (octets ≡ paste (replicate 25 first) 1 rest i)
+Inv-loop first rest octets₀ i₀ octets i = Filled octets (replicate 25 first) 1 rest i
 
 abbrev μ-loop : tie.MeasureT-loop
 μ-loop first rest octets₀ i₀ octets i = 24 - i
@@ -21,51 +19,14 @@ abbrev μ-loop : tie.MeasureT-loop
 long : (c : tie.Start Inv-loop μ-loop) → length (c .args .t2) ≡ 24
 long c = c .good .1 .0 .1 .0 .1
 
-loop-holds : tie.Need-loop-holds Inv-loop μ-loop
-loop-holds c = (omega arith, refl)
-
-array-read-octets : tie.Need-array-read-octets Inv-loop μ-loop
-array-read-octets c = search needs
-
-add-octets : tie.Need-add-octets Inv-loop μ-loop
-add-octets c = search needs
-
-array-write-octets : tie.Need-array-write-octets Inv-loop μ-loop
-array-write-octets c = search needs
-
-add-i : tie.Need-add-i Inv-loop μ-loop
-add-i c = search needs
-
-loop-less : tie.Need-loop-less Inv-loop μ-loop
-loop-less c = omega arith
-
 loop-again : tie.Need-loop-again Inv-loop μ-loop
 loop-again c =
-    let l = c .before .loop in
-    let s = c .before .before .args in (
-      omega arith,
-      copied-more (replicate 25 (s .first)) 1 (s .t2) (l .i) (omega arith) (omega (arith, long (c .before .before))) (l .inv .1) (omega arith) refl,
-    )
+    turned _ 1 _ (c .before .loop .inv) (omega (arith, long (c .before .before))) (omega (arith, long (c .before .before))) refl
 
 returns : tie.Need-returns Inv-loop μ-loop
-returns c =
-    let s = c .before .before .args in
-    let at-end : c .before .loop .i ≡ 24 = omega arith in
-    c .before .loop .inv .1
-    ∙ ap (paste (replicate 25 (s .first)) 1 (s .t2)) at-end
-    ∙ ap (s .first ∷_) (append-nil _ ∙ take-all 24 (s .t2) (omega (arith, long (c .before .before))))
+returns c = done-to-end _ _ 1 (c .before .loop .inv) (omega (arith, long (c .before .before))) (omega (arith, long (c .before .before)))
 
 pub with-first-spec : {M : Type 1} → statement M
 with-first-spec =
     tie.close
-    (tie.spec
-    Inv-loop
-    μ-loop
-    loop-holds
-    array-read-octets
-    add-octets
-    array-write-octets
-    add-i
-    loop-less
-    loop-again
-    returns)
+    (tie.spec Inv-loop μ-loop (λ c. begun _ _ _) (search needs) (search needs) (search needs) (search needs) (search needs) loop-again returns)

@@ -13,16 +13,16 @@ use base.Logic.{SProp, ent, sep, emp, via, fst∗, id⊢}
 use base.Fml.{GName, ftrue, fsep, fat, flft, flent}
 use prog.Memory.{Memory}
 use prog.Routine.{Routine}
-use prog.Wp.{Heap, Calls, Loops, WpFn, Tables}
+use prog.Wp.{Heap, Calls, Loops, WpFn}
 use ghost.Atoms.{Atoms, sem}
 use contract.Monad.{Fun, fact}
-use contract.Running.{givenOf, tables, tablesOf}
+use contract.Running.{givenOf, tables}
 use types.Kit.{Given, ‵, raw, some, later, _⊛_, _$_, _∵_, !, qed, by, move, keep, use1, use2, use3, split, join, pick, rewrite, fsplit, fjoin, fpick, fpack, suffices, frame, await, done}
 use types.Run.{look, init, forget, stop, from, load, addr, of-opd, and-then, no-more, assigns, land, returns, enter, alloc1, alloc0, params1, pass1, pass0, free1, free0}
 use types.Part.{agg}
 use types.SemTy.{Body}
 use types.Tokens.{lft-new, lft-end}
-use sound.WpLaws.{FmC, fmOf, WpFn-mono}
+use sound.WpLaws.{FmC}
 use denote.RattleType.{RattleType, owns}
 use denote.Laws.{Is, shows}
 use denote.Memory.{mem, partOf, cellAt}
@@ -37,10 +37,11 @@ use denote.Triple.Statement.{Contract, Triple}
 use denote.Triple.Call.{calls-at}
 use denote.Triple.Clauses.{ensured, lasts}
 use denote.Triple.Entry.{onEntry}
-use denote.Triple.Spec.{Meets, tripleOf}
-use denote.Triple.Table.{entered, cited}
-use denote.Triple.Walked.{says, Stays, stay-none, walkOf, goes-none, Walks, ends-at, walked, walk-meets}
+use denote.Triple.Spec.{tripleOf}
+use denote.Triple.Table.{cited}
+use denote.Triple.Walked.{says, Stays, stay-none, walkOf, goes-none, ends-at, walked}
 use denote.Exit.{yes}
+use Rattle.runs.proofs.Walks.{calls-framed, walk-ends}
 use Rattle.status.specs.Step.{stepOf}
 use Rattle.status.specs.declared.step.Block.{Block}
 use Rattle.status.specs.declared.step.Handed.{Handed}
@@ -161,21 +162,13 @@ module _ {M : Type 1} (𝓤 : URA M) (H : Heap 𝓤) (A : Atoms 𝓤) (W : Given
         move ! (8 ∷ 9 ∷ []) $ free1 ! $ move ! (6 ∷ 7 ∷ []) $ free1 ! $ move ! (4 ∷ 5 ∷ []) $ free1 ! $ free0 ! $
         owned ! S.the-row (Is S.the-row) (LL.makes S.the-type S′.the-plain 𝓤 H A) (both r (zs .0)) _ (both-is r (zs .0) is′ gz) $ keep ! (0 ∷ []) $ by ! (exits r (zs .0) e))))))))))))))))))
 
-module _ {M : Type 1} (𝓤 : URA M) (H : Heap 𝓤) (A : Atoms 𝓤) (W : Given 𝓤 H A) (mem : Memory → SProp 𝓤) (run : Routine → Fun 𝓤) where
-  walks : (C : Calls 𝓤 H) (Λ : Loops 𝓤 H) → FmC 𝓤 H (W .laws) C → Triple 𝓤 (C #bring-forward) (Lent 𝓤 H A mem run) → Walks 𝓤 H A brought-forward.ended stayed (WpFn 𝓤 H C Λ code.function) (brought-forward.clauses 𝓤 H A mem run)
-  walks C Λ fm known = walked 𝓤 H A brought-forward.ended stayed (brought-forward.clauses 𝓤 H A mem run) (WpFn 𝓤 H C Λ code.function) (λ κs. (LL.vals B.the-type B′.the-laws, (uint-vals w8, (uint-vals w8, tt)))) (λ κs. (LL.tells B.the-type B′.the-laws, (uint-tells w8, (uint-tells w8, tt))))
-      (λ κs qs bounds a g are. via 𝓤 _ (fst∗ 𝓤 _ (emp 𝓤)) (walk 𝓤 H A W mem run (a .0) (a .1 .0) (a .1 .1 .0) (are .0) (are .1 .0 .1) (are .1 .1 .0 .1) C Λ fm known))
-
-meets : {M : Type 1} (𝓤 : URA M) (H : Heap 𝓤) (A : Atoms 𝓤) → Given 𝓤 H A → (mem : Memory → SProp 𝓤) (run : Routine → Fun 𝓤) (𝓣 : Tables 𝓤 H) → Triple 𝓤 (𝓣 .C #bring-forward) (Lent 𝓤 H A mem run)
-    → Meets 𝓤 H A brought-forward.signature (WpFn 𝓤 H (𝓣 .C) (𝓣 .Λ) code.function) (brought-forward.spec 𝓤 H A mem run)
-meets 𝓤 H A W mem run 𝓣 known =
-    walk-meets 𝓤 H A brought-forward.ended stayed W (goes-none 𝓤 H A W 0 (λ _. R) yes (λ κs x f. refl), (goes-none 𝓤 H A W 0 (λ _. u8) yes (λ κs x f. refl), (goes-none 𝓤 H A W 0 (λ _. u8) yes (λ κs x f. refl), tt)))
-    (brought-forward.clauses 𝓤 H A mem run) (WpFn 𝓤 H (𝓣 .C) (𝓣 .Λ) code.function) (WpFn-mono 𝓤 H (W .laws) 𝓣 code.function) (walks 𝓤 H A W mem run (𝓣 .C) (𝓣 .Λ) (fmOf 𝓤 H (W .laws) 𝓣) known)
-
 pub brought-forward-spec : {M : Type 1} → stated.statement M
-unfolding code.routine tablesOf
+unfolding code.routine
 brought-forward-spec 𝓤 H 𝓜 𝓖 𝓡 =
-    entered 𝓤 H (tripleOf 𝓤 H (𝓖 .A) brought-forward.signature (brought-forward.spec 𝓤 H (𝓖 .A) (𝓜 .mem) (𝓡 .run)))
-    (tables 𝓤 H 𝓜 𝓡 code.env .C) (tables 𝓤 H 𝓜 𝓡 code.env .Λ) #brought-forward code.function (code.unfolded 𝓤 H 𝓜 𝓡)
-    (meets 𝓤 H (𝓖 .A) (givenOf 𝓤 H 𝓜 𝓖) (𝓜 .mem) (𝓡 .run) (tablesOf 𝓤 H 𝓜 (tables 𝓤 H 𝓜 𝓡 code.env))
-    (cited 𝓤 H (Lent 𝓤 H (𝓖 .A) (𝓜 .mem) (𝓡 .run)) 𝓜 𝓡 code.env #bring-forward lent-def.routine code.calls-status·assembler·bring-forward (lent-thm.met 𝓤 H 𝓜 𝓖 𝓡)))
+    walk-ends 𝓤 H 𝓜 𝓖 𝓡 code.env brought-forward.ended stayed (brought-forward.clauses 𝓤 H (𝓖 .A) (𝓜 .mem) (𝓡 .run)) #brought-forward code.function (code.unfolded 𝓤 H 𝓜 𝓡)
+    (goes-none 𝓤 H (𝓖 .A) (givenOf 𝓤 H 𝓜 𝓖) 0 (λ _. R) yes (λ κs x f. refl), (goes-none 𝓤 H (𝓖 .A) (givenOf 𝓤 H 𝓜 𝓖) 0 (λ _. u8) yes (λ κs x f. refl), (goes-none 𝓤 H (𝓖 .A) (givenOf 𝓤 H 𝓜 𝓖) 0 (λ _. u8) yes (λ κs x f. refl), tt)))
+    (walked 𝓤 H (𝓖 .A) brought-forward.ended stayed (brought-forward.clauses 𝓤 H (𝓖 .A) (𝓜 .mem) (𝓡 .run)) (WpFn 𝓤 H (tables 𝓤 H 𝓜 𝓡 code.env .C) (tables 𝓤 H 𝓜 𝓡 code.env .Λ) code.function)
+    (λ κs. (LL.vals B.the-type B′.the-laws, (uint-vals w8, (uint-vals w8, tt)))) (λ κs. (LL.tells B.the-type B′.the-laws, (uint-tells w8, (uint-tells w8, tt))))
+    (λ κs qs bounds a g are. via 𝓤 _ (fst∗ 𝓤 _ (emp 𝓤))
+    (walk 𝓤 H (𝓖 .A) (givenOf 𝓤 H 𝓜 𝓖) (𝓜 .mem) (𝓡 .run) (a .0) (a .1 .0) (a .1 .1 .0) (are .0) (are .1 .0 .1) (are .1 .1 .0 .1)
+    (tables 𝓤 H 𝓜 𝓡 code.env .C) (tables 𝓤 H 𝓜 𝓡 code.env .Λ) (calls-framed 𝓤 H 𝓜 𝓖 𝓡 code.env) (cited 𝓤 H (Lent 𝓤 H (𝓖 .A) (𝓜 .mem) (𝓡 .run)) 𝓜 𝓡 code.env #bring-forward lent-def.routine code.calls-status·assembler·bring-forward (lent-thm.met 𝓤 H 𝓜 𝓖 𝓡)))))

@@ -32,9 +32,6 @@ coefficient-requires c κs = tt
 taken-down-requires : tie.Need-taken-down-requires Inv-loop μ-loop
 taken-down-requires c κs = (c .before .before .loop .inv .1, c .coefficient .ensures .1)
 
-add-k : tie.Need-add-k Inv-loop μ-loop
-add-k c = search needs
-
 loop-less : tie.Need-loop-less Inv-loop μ-loop
 loop-less c = omega arith
 
@@ -59,14 +56,5 @@ returns c =
 pub check-character-spec : {M : Type 1} → statement M
 check-character-spec =
     tie.close
-    (tie.spec
-    Inv-loop
-    μ-loop
-    loop-holds
-    coefficient-requires
-    taken-down-requires
-    add-k
-    loop-less
-    loop-again
-    turned-requires
-    returns)
+    (tie.spec Inv-loop μ-loop loop-holds coefficient-requires taken-down-requires (search needs) loop-less loop-again
+    turned-requires returns)

@@ -14,18 +14,6 @@ returns : tie.Need-returns
 unfolding coefficientOf
 returns c = (rw (le-ltb (c .before .args .k) 8 (omega arith), le-ltb _ _ (c .if1 .taken)), omega arith)
 
-array-read-wide : tie.Need-array-read-wide
-array-read-wide c = search needs
-
-wide-requires : tie.Need-wide-requires
-wide-requires c κs = search needs
-
-shr-bit : tie.Need-shr-bit
-shr-bit c = search needs
-
-add-result : tie.Need-add-result
-add-result c = search needs
-
 returns-2 : tie.Need-returns-2
 unfolding coefficientOf bitOf
 returns-2 c = (rw (lt-ltb _ _ (c .if2 .taken)) (ap (λ (x : ℕ). (x / 2 ^ (c .before .before .before .args .k % 8) % 2 + 1) % 2) (c .before .wide .ensures .0)), omega arith)
@@ -37,4 +25,4 @@ returns-3 c = (rw (le-ltb _ _ (c .if2 .left), lt-ltb _ _ (c .before .before .if1
 pub coefficient-spec : {M : Type 1} → statement M
 coefficient-spec =
     tie.close
-    (tie.spec returns array-read-wide wide-requires shr-bit add-result returns-2 returns-3)
+    (tie.spec returns (search needs) (search needs) (search needs) (search needs) returns-2 returns-3)

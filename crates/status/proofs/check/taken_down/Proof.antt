@@ -8,12 +8,6 @@ use Rattle.status.proofs.Laws.{xor-low}
 use Rattle.status.proofs.check.taken_down.Statement.{statement}
 use Rattle.status.proofs.check.taken_down.Tie as tie
 
-mul-taken : tie.Need-mul-taken
-mul-taken c = search needs
-
-add-taken : tie.Need-add-taken
-add-taken c = search needs
-
 returns : tie.Need-returns
 unfolding takenDown
 returns c = (rw (lt-ltb _ _ (c .if1 .taken)), c .if1 .taken)
@@ -23,4 +17,4 @@ unfolding takenDown
 returns-2 c = (rw (le-ltb _ _ (c .if1 .left)), xor-low _ (c .if1 .left) (omega arith))
 
 pub taken-down-spec : {M : Type 1} → statement M
-taken-down-spec = tie.close (tie.spec mul-taken add-taken returns returns-2)
+taken-down-spec = tie.close (tie.spec (search needs) (search needs) returns returns-2)

@@ -9,12 +9,6 @@ use Rattle.status.specs.Step.{fitOf}
 use Rattle.status.proofs.step.finished_with.Statement.{statement}
 use Rattle.status.proofs.step.finished_with.Tie as tie
 
-array-read-if1 : tie.Need-array-read-if1
-array-read-if1 c = search needs
-
-check-character-requires : tie.Need-check-character-requires
-check-character-requires c κs = search needs
-
 returns : tie.Need-returns
 unfolding fitOf
 returns c =
@@ -32,4 +26,4 @@ returns-2 c =
 pub finished-with-spec : {M : Type 1} → statement M
 finished-with-spec =
     tie.close
-    (tie.spec array-read-if1 check-character-requires returns returns-2)
+    (tie.spec (search needs) (search needs) returns returns-2)

@@ -9,9 +9,6 @@ use Rattle.status.proofs.Laws.{old-le, new-lt, put-lt}
 use Rattle.status.proofs.step.octet_with.Statement.{statement}
 use Rattle.status.proofs.step.octet_with.Tie as tie
 
-worth-of-requires : tie.Need-worth-of-requires
-worth-of-requires c κs = search needs
-
 div-old : tie.Need-div-old
 div-old c = rw (c .worth-of .ensures) (pow-pos (c .before .args .k % 8))
 
@@ -34,4 +31,4 @@ returns c = rw (c .worth-of .ensures)
 pub octet-with-spec : {M : Type 1} → statement M
 octet-with-spec =
     tie.close
-    (tie.spec worth-of-requires div-old mul-old mul-new sub-result add-result returns)
+    (tie.spec (search needs) div-old mul-old mul-new sub-result add-result returns)

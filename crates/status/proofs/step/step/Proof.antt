@@ -34,30 +34,15 @@ added c =
     let s = c .before .before .before .before .before .args in
     step-added (s .block) (s .ancillary) (s .mark) (taken (c .before .before .before)) (c .before .before .if2 .left) (c .before .if3 .left) (c .if4 .left)
 
-refused-requires : tie.Need-refused-requires
-refused-requires c κs = search needs
-
-unfinished-with-requires : tie.Need-unfinished-with-requires
-unfinished-with-requires c κs = search needs
-
 returns : tie.Need-returns
 returns c =
     let s = c .before .before .before .args in
     c .unfinished-with .ensures ∙ sym (step-refused (s .block) (s .ancillary) (s .mark) (sym (c .before .before .refused .ensures) ∙ c .before .if1 .taken))
 
-unfinished-with-requires-2 : tie.Need-unfinished-with-requires-2
-unfinished-with-requires-2 c κs = search needs
-
 returns-2 : tie.Need-returns-2
 returns-2 c =
     let s = c .before .before .before .before .args in
     c .unfinished-with2 .ensures ∙ sym (step-dropped (s .block) (s .ancillary) (s .mark) (taken (c .before .before)) (c .before .if2 .taken))
-
-with-bit-requires : tie.Need-with-bit-requires
-with-bit-requires c κs = search needs
-
-unfinished-with-requires-3 : tie.Need-unfinished-with-requires-3
-unfinished-with-requires-3 c κs = search needs
 
 returns-3 : tie.Need-returns-3
 returns-3 c =
@@ -65,9 +50,6 @@ returns-3 c =
     c .unfinished-with3 .ensures
     ∙ ap (λ (o : List ℕ). unfinished 0 (record { bits = 1; octets = o })) (c .before .with-bit .ensures)
     ∙ sym (step-begun (s .block) (s .ancillary) (s .mark) (taken (c .before .before .before .before)) (c .before .before .before .if2 .left) (c .before .before .if3 .taken))
-
-unfinished-with-requires-4 : tie.Need-unfinished-with-requires-4
-unfinished-with-requires-4 c κs = search needs
 
 returns-4 : tie.Need-returns-4
 returns-4 c =
@@ -80,21 +62,12 @@ with-bit-requires-2 c κs =
     let s = c .before .before .before .before .before .before .args in
     (omega (arith, taken-bits (s .block .bits) (s .ancillary) (s .mark) (taken (c .before .before .before .before))), omega arith)
 
-add-t16 : tie.Need-add-t16
-add-t16 c = search needs
-
-unfinished-with-requires-5 : tie.Need-unfinished-with-requires-5
-unfinished-with-requires-5 c κs = search needs
-
 returns-5 : tie.Need-returns-5
 returns-5 c =
     let s = c .before .before .before .before .before .before .before .before .before .args in
     c .unfinished-with5 .ensures
     ∙ ap (λ (o : List ℕ). unfinished 0 (record { bits = s .block .bits + 1; octets = o })) (c .before .before .with-bit2 .ensures)
     ∙ sym (added (c .before .before .before .before) ∙ added-more (s .block .bits) _ (omega (arith, c .before .if5 .taken)))
-
-finished-with-requires : tie.Need-finished-with-requires
-finished-with-requires c κs = search needs
 
 returns-6 : tie.Need-returns-6
 returns-6 c =
@@ -106,20 +79,5 @@ returns-6 c =
 pub step-spec : {M : Type 1} → statement M
 step-spec =
     tie.close
-    (tie.spec
-    refused-requires
-    unfinished-with-requires
-    returns
-    unfinished-with-requires-2
-    returns-2
-    with-bit-requires
-    unfinished-with-requires-3
-    returns-3
-    unfinished-with-requires-4
-    returns-4
-    with-bit-requires-2
-    add-t16
-    unfinished-with-requires-5
-    returns-5
-    finished-with-requires
-    returns-6)
+    (tie.spec (search needs) (search needs) returns (search needs) returns-2 (search needs) (search needs) returns-3
+    (search needs) returns-4 with-bit-requires-2 (search needs) (search needs) returns-5 (search needs) returns-6)

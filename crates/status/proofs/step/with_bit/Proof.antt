@@ -8,18 +8,6 @@ use Rattle.status.specs.Bits.{withBit}
 use Rattle.status.proofs.step.with_bit.Statement.{statement}
 use Rattle.status.proofs.step.with_bit.Tie as tie
 
-cast-at : tie.Need-cast-at
-cast-at c = search needs
-
-array-read-octet-with : tie.Need-array-read-octet-with
-array-read-octet-with c = search needs
-
-octet-with-requires : tie.Need-octet-with-requires
-octet-with-requires c κs = search needs
-
-array-write-out : tie.Need-array-write-out
-array-write-out c = search needs
-
 returns : tie.Need-returns
 unfolding withBit
 returns c = ap (λ (x : ℕ). set (c .before .args .octets) (c .before .args .k / 8) x) (c .octet-with .ensures)
@@ -27,4 +15,4 @@ returns c = ap (λ (x : ℕ). set (c .before .args .octets) (c .before .args .k 
 pub with-bit-spec : {M : Type 1} → statement M
 with-bit-spec =
     tie.close
-    (tie.spec cast-at array-read-octet-with octet-with-requires array-write-out returns)
+    (tie.spec (search needs) (search needs) (search needs) (search needs) returns)

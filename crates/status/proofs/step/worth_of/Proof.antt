@@ -8,11 +8,8 @@ use lib.Pow.{shl-exact}
 use Rattle.status.proofs.step.worth_of.Statement.{statement}
 use Rattle.status.proofs.step.worth_of.Tie as tie
 
-shl-result : tie.Need-shl-result
-shl-result c = search needs
-
 returns : tie.Need-returns
 returns c = rw (shl-exact {a = 1} 1 (c .args .k % 8) 8 (omega arith) (omega arith)) (one-mul _)
 
 pub worth-of-spec : {M : Type 1} → statement M
-worth-of-spec = tie.close (tie.spec shl-result returns)
+worth-of-spec = tie.close (tie.spec (search needs) returns)
