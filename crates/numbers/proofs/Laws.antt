@@ -16,6 +16,7 @@ use lib.ListN.{length, getD}
 use lib.Pow.{pow-mono}
 use Rattle.runs.specs.Division.{coefficients, divided, takenDown}
 use Rattle.runs.specs.Test.{every}
+use Rattle.runs.proofs.Arms.{NoneOf, orListed, others, singles}
 use Rattle.runs.proofs.Laws.{every-at, split, or-right}
 use Rattle.numbers.specs.declared.Found.the-variants.{Number, Nothing}
 use Rattle.numbers.specs.Numbers.{
@@ -130,6 +131,21 @@ second-back word {second} h =
 pub entry-lt : {number : ℕ} → number < 16 → entryOf number < 256
 unfolding every tableA1
 entry-lt {number} h = leb→le _ _ (every-at (λ n. ltb (entryOf n) 256) 16 tt number h)
+
+-- the first eight bits of a number, the first one lowest, and the second number after them
+pub eight-lt : (number : ℕ) → number < 16 → sequenceOf (entryOf number) 0 < 256
+unfolding every tableA1 turned sequenceOf
+eight-lt number h = leb→le _ _ (every-at (λ n. ltb (sequenceOf (entryOf n) 0) 256) 16 tt number h)
+
+pub eight-and-second : (number second : ℕ) {first : ℕ} → first ≡ sequenceOf (entryOf number) 0
+    → first + second * 256 ≡ sequenceOf (entryOf number) second
+unfolding sequenceOf
+eight-and-second number second e = omega (arith, e)
+
+pub last-eight : (X : Type 0) (number : ℕ) → number < 16 → NoneOf X (singles 15) number → 0x0F ≡ sequenceOf (entryOf number) 0
+unfolding every orListed tableA1 turned sequenceOf
+last-eight X number less none =
+    eqb→eq _ _ (others X (singles 15) (λ n. eqb 0x0F (sequenceOf (entryOf n) 0)) 16 tt number less none)
 
 pub bit-lt : (word second slot : ℕ) → wordBit word second slot < 2
 unfolding wordBit

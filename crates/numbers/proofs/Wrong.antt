@@ -46,12 +46,12 @@ module _ (κs : Lfts 0) where
   number-not-the-nearest n x v wrong p = apart n (sym p ∙ wrong)
 
   -- the first eight bits of number 1's cell as the octet has them, the first one worth 128
-  pub sequence-not-highest-first : Never sequence-of-kinds.ps sequence-of-kinds.r sequence-of-reads.Post κs (0x84, (0, tt)) (λ x v. x ≡ 0x84)
+  pub sequence-not-highest-first : Never sequence-of-kinds.ps sequence-of-kinds.r sequence-of-reads.Post κs (1, (0, tt)) (λ x v. x ≡ 0x84)
   unfolding unfolded
   sequence-not-highest-first x v wrong p = omega arith
 
   -- bits 9 to 12 highest first: second number 1 is worth 256, and not 2048
-  pub sequence-not-second-highest-first : Never sequence-of-kinds.ps sequence-of-kinds.r sequence-of-reads.Post κs (0, (1, tt)) (λ x v. x ≡ 2048)
+  pub sequence-not-second-highest-first : Never sequence-of-kinds.ps sequence-of-kinds.r sequence-of-reads.Post κs (0, (1, tt)) (λ x v. x ≡ 0x8F0)
   unfolding unfolded
   sequence-not-second-highest-first x v wrong p = omega arith
 

@@ -59,13 +59,37 @@ pub fn number_of(word: u8) -> Found
     }
 }
 
-// The sequencing bits of all slots for a cell whose first eight are `word` and whose second number is `second`, slot k's worth 2^k.
-pub fn sequence_of(word: u8, second: u8) -> u64
-    ensures { λ r. ⌜ r ≡ sequenceOf word second ⌝ }
+// The first eight sequencing bits of a cell with this number, taken modulo 16: the table's entry with the first bit sent lowest, as
+// one load.
+fn first_eight(number: u8) -> u64
+    ensures { λ r. ⌜ r ≡ sequenceOf (entryOf (number % 16)) 0 ⌝ }
 {
-    let first = turned_round(word / 16) as u64;
-    let next = turned_round(word % 16) as u64;
-    first + next * 16 + second as u64 * 256
+    let key = number % 16;
+    match key {
+        0 => 0xF0,
+        1 => 0x21,
+        2 => 0x82,
+        3 => 0x53,
+        4 => 0x44,
+        5 => 0x95,
+        6 => 0x36,
+        7 => 0xE7,
+        8 => 0x18,
+        9 => 0xC9,
+        10 => 0x6A,
+        11 => 0xBB,
+        12 => 0xAC,
+        13 => 0x7D,
+        14 => 0xDE,
+        _ => 0x0F,
+    }
+}
+
+// The sequencing bits of all slots for a cell with this number, taken modulo 16, and this second number, slot k's worth 2^k.
+pub fn sequence_of(number: u8, second: u8) -> u64
+    ensures { λ r. ⌜ r ≡ sequenceOf (entryOf (number % 16)) second ⌝ }
+{
+    first_eight(number) + second as u64 * 256
 }
 
 // The difference of two numbers modulo 16.

@@ -3,7 +3,7 @@
 use mathlib.Core.Bool.{Bool, true, false, true≢false, _||_}
 use mathlib.Core.List.{List, [], _∷_}
 use mathlib.Core.Path.{_≡_, refl}
-use Prim.Native.Nat.{ℕ, _<_}
+use Prim.Native.Nat.{ℕ, zero, suc, _<_}
 use mir.Val.{hasKey}
 use types.Run.{OneOf, hit}
 use lib.Dec.{T}
@@ -41,3 +41,8 @@ unlisted X (ks ∷ kss) test key none t =
 pub others : (X : Type 0) (arms : List (List ℕ)) (test : ℕ → Bool) (n : ℕ) → T (every (orListed arms test) n) → (key : ℕ) → key < n
     → NoneOf X arms key → T (test key)
 others X arms test n t key less none = unlisted X arms test key none (every-at (orListed arms test) n t key less)
+
+-- arms of one key each, 0 and up
+abbrev pub singles : ℕ → List (List ℕ)
+singles zero = []
+singles (suc n) = (n ∷ []) ∷ singles n

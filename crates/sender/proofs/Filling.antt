@@ -1,10 +1,10 @@
 -- Laws of filling: the code's arithmetic on one subframe, and a cell that is filled slot after slot.
 -- Assumes nothing.
 use mathlib.Core.Bool.{true}
-use mathlib.Core.List.{List, [], _∷_, _++_, append-nil}
+use mathlib.Core.List.{List, _++_, append-nil}
 use mathlib.Core.Path.{_≡_, refl, sym, _∙_, ap, ap₂, subst}
 use Prim.Native.Nat.{ℕ, zero, suc, _+_, _*_, _/_, _%_, _-_, _^_, _≤_, _<_}
-use native.Mathlib.Nat.{mul-one, zero-mul, zero-mod, zero-div, suc-mul, pow-le-pow-right, mod-lt, not-suc-le-zero, le-of-suc-le-suc}
+use native.Mathlib.Nat.{mul-one, zero-mul, zero-mod, zero-div, suc-mul, pow-le-pow-right, mod-lt, mod-eq-of-lt, not-suc-le-zero, le-of-suc-le-suc}
 use native.Mathlib.Numerals.{add-one}
 use native.Mathlib.Omega.{arith}
 use borrow.Author.Tests.{ne-eqb}
@@ -16,12 +16,12 @@ use lib.Pow.{pow-add, pow-mono, shl-exact}
 use lib.Seq.{take-at, drop-drop, drop-append-add, drop-length}
 use Rattle.runs.specs.Runs.{joined, octetsOf}
 use Rattle.runs.specs.Test.{every}
-use Rattle.runs.proofs.Arms.{NoneOf, orListed, others}
+use Rattle.runs.proofs.Arms.{NoneOf, orListed, others, singles}
 use Rattle.runs.proofs.Laws.{every-at, length-joined, length-octets}
 use Rattle.formats.specs.declared.Format.{Format}
 use Rattle.formats.specs.Sound.{Sound}
 use Rattle.guards.specs.Guards.{nineOf, tenGuard, sevenGuards, guardOf}
-use Rattle.guards.proofs.Laws.{nine-lt, nine-top, nine-long, seven-guard, with-v, fold-nine, ten-guard-lt}
+use Rattle.guards.proofs.Laws.{nine-lt, nine-top, nine-long, seven-guard, with-v, ten-guard-lt}
 use Rattle.cells.specs.Cells.{overheadOf, subframeOf}
 use Rattle.cells.specs.Placement.{entryOfSlot, nextEntry}
 use Rattle.cells.proofs.Placement.{entry-lt, entry-next}
@@ -115,14 +115,9 @@ low-parts {guard} {four} hg hf =
     128 tt (guard * 16 + four) (omega arith))))
 
 -- the last arm of the ancillary number's part of it
-abbrev firsts : List (List ℕ)
-firsts =
-    (14 ∷ []) ∷ (13 ∷ []) ∷ (12 ∷ []) ∷ (11 ∷ []) ∷ (10 ∷ []) ∷ (9 ∷ []) ∷ (8 ∷ []) ∷ (7 ∷ []) ∷ (6 ∷ []) ∷ (5 ∷ []) ∷ (4 ∷ [])
-    ∷ (3 ∷ []) ∷ (2 ∷ []) ∷ (1 ∷ []) ∷ (0 ∷ []) ∷ []
-
-pub low-rest : (X : Type 0) (four : ℕ) → four < 16 → NoneOf X firsts four → 243 ≡ four * 16 + four % 2 * 3
+pub low-rest : (X : Type 0) (four : ℕ) → four < 16 → NoneOf X (singles 15) four → 243 ≡ four * 16 + four % 2 * 3
 unfolding every orListed
-low-rest X four less none = eqb→eq _ _ (others X firsts (λ k. eqb 243 (k * 16 + k % 2 * 3)) 16 tt four less none)
+low-rest X four less none = eqb→eq _ _ (others X (singles 15) (λ k. eqb 243 (k * 16 + k % 2 * 3)) 16 tt four less none)
 
 module _ {sample four : ℕ} (hs : sample < 2 ^ 24) (hf : four < 16) where
   abbrev nine : ℕ
@@ -131,15 +126,13 @@ module _ {sample four : ℕ} (hs : sample < 2 ^ 24) (hf : four < 16) where
   nine-is : nine ≡ nineOf 24 sample
   nine-is = (let whole : nine ≡ sample / 32768 % 512 = omega arith in whole) ∙ nine-long sample 24 (omega arith)
 
-  pub usual-low : {guard low : ℕ} → guard ≡ tenGuard (bitXor nine (sample / 4194304) % 128 * 2)
+  pub usual-low : {guard low : ℕ} → guard ≡ tenGuard (nine % 512 * 2)
       → low ≡ four % 16 * 16 + four % 16 % 2 * 3
       → bitXor guard low ≡ four * 16 + guardOf 24 sample four
   unfolding guardOf
   usual-low {guard} {low} guard-is low-is =
-      let further : sample / 4194304 ≡ nine / 128 = omega arith in
       let few : nine < 512 = omega arith in
-      let own : guard ≡ tenGuard (nine * 2)
-      = guard-is ∙ ap (λ (n : ℕ). tenGuard (bitXor nine n % 128 * 2)) further ∙ fold-nine few in
+      let own : guard ≡ tenGuard (nine * 2) = guard-is ∙ ap (λ (n : ℕ). tenGuard (n * 2)) (mod-eq-of-lt few) in
       ap₂ bitXor own low-is
       ∙ low-parts (ten-guard-lt (nine * 2)) hf
       ∙ ap (λ (g : ℕ). four * 16 + g)

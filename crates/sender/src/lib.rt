@@ -86,14 +86,7 @@ fn write_any(
         return refusal;
     }
     let second = judge::second_now(state, indication);
-    pack::pack(
-        set,
-        numbers::entry_of(state.number),
-        second,
-        samples,
-        ancillary,
-        cell,
-    );
+    pack::pack(set, state.number, second, samples, ancillary, cell);
     0
 }
 

@@ -1,9 +1,10 @@
 // Packing a cell: each format's own call of the filling loops, and the unused slots. A format that no call names takes the call
 // that names none.
 ghost use mathlib.Core.Path.{_≡_};
-ghost use Prim.Native.Nat.{_*_, _≤_, _<_};
+ghost use Prim.Native.Nat.{_*_, _%_, _≤_, _<_};
 ghost use lib.ListN.{length};
 ghost use Rattle.formats.specs.Sound.{Limits};
+ghost use Rattle.numbers.specs.Numbers.{entryOf};
 ghost use Rattle.sender.specs.Packing.{
   Packable,
   inOrder,
@@ -283,16 +284,16 @@ fn fill_idle(set: Settled, used: usize, sequence: u64, cell: &mut [u8])
 
 pub(crate) fn pack(
     set: Settled,
-    word: u8,
+    number: u8,
     second: u8,
     samples: &[u64],
     ancillary: &[u8],
     cell: &mut [u8],
 )
     requires { ⌜ Packable set (now samples) (now ancillary) × (second < 16) × (length (now cell) ≡ 48) ⌝ }
-    ensures { λ r. ⌜ now (cell .exit) ≡ packed set word second (now (samples .entry)) (now (ancillary .entry)) ⌝ }
+    ensures { λ r. ⌜ now (cell .exit) ≡ packed set (entryOf (number % 16)) second (now (samples .entry)) (now (ancillary .entry)) ⌝ }
 {
-    let sequence = numbers::sequence_of(word, second);
+    let sequence = numbers::sequence_of(number, second);
     pack_used(set, sequence, samples, ancillary, cell);
     fill_idle(set, samples.len(), sequence, cell);
 }

@@ -42,7 +42,7 @@ fn subframe(sample: u64, four: u64, bit: u64) -> u64
     requires { ⌜ (sample < 2 ^ 24) × (four < 16) × (bit < 2) ⌝ }
     ensures { λ r. ⌜ r ≡ subframeOf (shape 24 4 4) sample four bit ⌝ }
 {
-    let low = tables::guard_of((sample / 32768) ^ (sample / 4194304)) ^ low_of(four);
+    let low = tables::guard_of(sample / 32768) ^ low_of(four);
     sample * 256 + (low + bit * 8)
 }
 
@@ -90,7 +90,7 @@ pub(crate) fn write_usual(
         return refusal;
     }
     let second = judge::second_now(state, indication);
-    let sequence = numbers::sequence_of(numbers::entry_of(state.number), second);
+    let sequence = numbers::sequence_of(state.number, second);
     fill_usual(sequence, samples, ancillary, cell);
     0
 }

@@ -1,6 +1,6 @@
 -- `sender::write_any` meets its contract.
 -- Assumes nothing.
-use mathlib.Core.Path.{_≡_, _∙_, sym}
+use mathlib.Core.Path.{_≡_, refl, _∙_, sym}
 use denote.Ref.{now}
 use lib.ListN.{length}
 use Rattle.sender.specs.Sender.{sendRefusal}
@@ -33,9 +33,6 @@ returns c =
 second-now-requires : tie.Need-second-now-requires
 second-now-requires c κs = search needs
 
-entry-of-requires : tie.Need-entry-of-requires
-entry-of-requires c κs = search needs
-
 none : (c : tie.Else1)
     → 0
     ≡ sendRefusal (c .before .before .before .before .before .before .before .before .before .args .state) (c .before .before .before .before .before .before .before .before .before .args .indication) (now (c .before .before .before .before .before .before .before .before .before .args .samples)) (now (c .before .before .before .before .before .before .before .before .before .args .ancillary)) (length (now (c .before .before .before .before .before .before .before .before .before .args .cell)))
@@ -43,23 +40,18 @@ none c = sym (c .if1 .left) ∙ c .before .send-refusal .ensures
 
 pack-requires : tie.Need-pack-requires
 pack-requires c κs =
-    let a = c .before .before .before .before .before .before .before .before .before .before .before .before .args in
-    can-pack (a .state) (a .indication) (now (a .samples)) (now (a .ancillary)) (now (a .cell))
-    (c .before .before .before .before .before .settings .ensures) (none (c .before .before .before))
-    (c .before .before .second-now .ensures)
+    let a = c .before .before .before .before .before .before .before .before .before .before .before .args in
+    can-pack (a .state) (a .indication) (now (a .samples)) (now (a .ancillary)) (now (a .cell)) (c .before .before .before .before .settings .ensures)
+    (none (c .before .before)) (c .before .second-now .ensures)
 
 same-length : tie.Need-same-length
 same-length c = search needs
 
 returns-2 : tie.Need-returns-2
 returns-2 c =
-    let a =
-    c .before .before .before .before .before .before .before .before .before .before .before .before .before .before .before .args
-    in writes-taken (a .state) (a .indication) (now (a .samples)) (now (a .ancillary)) (now (a .cell))
-    (c .before .before .before .before .before .before .before .before .settings .ensures)
-    (none (c .before .before .before .before .before .before))
-    (c .before .before .before .before .before .second-now .ensures)
-    (c .before .before .before .before .entry-of .ensures) (c .before .before .pack .ensures)
+    let a = c .before .before .before .before .before .before .before .before .before .before .before .before .before .before .args in
+    writes-taken (a .state) (a .indication) (now (a .samples)) (now (a .ancillary)) (now (a .cell)) (c .before .before .before .before .before .before .before .settings .ensures)
+    (none (c .before .before .before .before .before)) (c .before .before .before .before .second-now .ensures) refl (c .before .before .pack .ensures)
 
 pub write-any-spec : {M : Type 1} → statement M
 write-any-spec =
@@ -72,7 +64,6 @@ write-any-spec =
     send-refusal-requires
     returns
     second-now-requires
-    entry-of-requires
     pack-requires
     same-length
     returns-2)

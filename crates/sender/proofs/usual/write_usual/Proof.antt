@@ -1,12 +1,13 @@
 -- `sender::usual::write_usual` meets its contract.
 -- Assumes nothing.
-use mathlib.Core.Path.{_≡_, _∙_, sym}
-use Prim.Native.Nat.{_<_}
+use mathlib.Core.Path.{_≡_, refl, _∙_, sym}
+use Prim.Native.Nat.{_%_, _<_}
 use native.Mathlib.Nat.{mod-lt}
 use native.Mathlib.Omega.{arith}
 use denote.Ref.{now}
 use lib.ListN.{length}
 use Rattle.formats.specs.Formats.{settingsOf}
+use Rattle.numbers.specs.Numbers.{entryOf}
 use Rattle.numbers.proofs.Laws.{entry-lt}
 use Rattle.sender.specs.Packing.{Packable}
 use Rattle.sender.specs.Sender.{sendRefusal}
@@ -45,23 +46,21 @@ ready c =
 
 fill-usual-requires : tie.Need-fill-usual-requires
 fill-usual-requires c κs =
-    let can = ready (c .before .before .before) in
-    usual-fillable (now (c .before .before .before .before .before .before .before .before .before .before .before .args .samples)) (c .before .before .before .before .before .before .before .before .before .before .before .pre) (c .before .before .before .before .before .before .usual .ensures) (can .0) (can .2)
+    let can = ready (c .before .before) in
+    usual-fillable (now (c .before .before .before .before .before .before .before .before .before .before .args .samples)) (c .before .before .before .before .before .before .before .before .before .before .pre) (c .before .before .before .before .before .usual .ensures) (can .0) (can .2)
 
 returns-2 : tie.Need-returns-2
 returns-2 c =
-    let a = c .before .before .before .before .before .before .before .before .before .before .before .before .before .before .args in
-    let octet : c .before .before .before .before .before .entry-of .result < 256
-    = rw (c .before .before .before .before .before .entry-of .ensures) (entry-lt (mod-lt (a .state .number) (omega arith))) in
-    let can = ready (c .before .before .before .before .before .before) in
-    writes-taken (a .state) (a .indication) (now (a .samples)) (now (a .ancillary)) (now (a .cell)) (given (c .before .before .before .before .before .before .before))
-    (none (c .before .before .before .before .before .before .before)) (c .before .before .before .before .before .before .second-now .ensures) (c .before .before .before .before .before .entry-of .ensures)
-    (usual-packs (now (a .samples)) (c .before .before .before .before .before .before .before .before .before .before .before .before .before .before .pre) (c .before .before .before .before .before .before .before .before .before .usual .ensures) (can .0) (c .before .before .before .before .before .entry-of .result)
-    (c .before .before .before .before .before .before .second-now .result) (c .before .before .before .before .sequence-of .result) (now (a .cell)) octet (can .1) (can .2)
-    (c .before .before .before .before .sequence-of .ensures) (c .before .before .fill-usual .ensures))
+    let a = c .before .before .before .before .before .before .before .before .before .before .before .before .before .args in
+    let can = ready (c .before .before .before .before .before) in
+    writes-taken (a .state) (a .indication) (now (a .samples)) (now (a .ancillary)) (now (a .cell)) (given (c .before .before .before .before .before .before))
+    (none (c .before .before .before .before .before .before)) (c .before .before .before .before .before .second-now .ensures) refl
+    (usual-packs (now (a .samples)) (c .before .before .before .before .before .before .before .before .before .before .before .before .before .pre) (c .before .before .before .before .before .before .before .before .usual .ensures) (can .0) (entryOf (a .state .number % 16))
+    (c .before .before .before .before .before .second-now .result) (c .before .before .before .before .sequence-of .result) (now (a .cell)) (entry-lt (mod-lt (a .state .number) (omega arith)))
+    (can .1) (can .2) (c .before .before .before .before .sequence-of .ensures) (c .before .before .fill-usual .ensures))
 
 pub write-usual-spec : {M : Type 1} → statement M
 write-usual-spec =
     tie.close
-    (tie.spec (search needs) send-refusal-requires returns (search needs) (search needs) (search needs) fill-usual-requires
+    (tie.spec (search needs) send-refusal-requires returns (search needs) (search needs) fill-usual-requires
     (search needs) returns-2)
