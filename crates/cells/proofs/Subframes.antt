@@ -21,6 +21,10 @@ octets-pow zero = refl
 octets-pow (suc w) =
     ap (λ (k : ℕ). 2 ^ k) (mul-suc 8 w) ∙ pow-add 2 (8 * w) 8 ∙ ap (λ (n : ℕ). n * 256) (octets-pow w) ∙ sym (pow-suc 256 w)
 
+-- bits of a part are four or none
+four-of : (n : ℕ) → n % 4 ≡ 0 → n ≤ 4 → (n ≡ 0 → ⊥) → n ≡ 4
+four-of n e h some = omega arith
+
 module _ {f : Format} (s : Sound f) where
   -- a slot lies within the cell
   pub slot-room : {slot : ℕ} → slot < f .slots → slot * f .width + f .width ≤ 48
@@ -30,9 +34,9 @@ module _ {f : Format} (s : Sound f) where
   -- overhead is four bits or none
   pub four : (f .overhead ≡ 0 → ⊥) → f .overhead ≡ 4
   four some = four-of (f .overhead) (s .overhead-fours) (s .overhead-to) some
-    where
-      four-of : (n : ℕ) → n % 4 ≡ 0 → n ≤ 4 → (n ≡ 0 → ⊥) → n ≡ 4
-      four-of n e h some = omega arith
+
+  pub four-ancillary : (f .ancillary ≡ 0 → ⊥) → f .ancillary ≡ 4
+  four-ancillary some = four-of (f .ancillary) (s .ancillary-fours) (s .ancillary-to) some
 
   overhead-lt : (sample ancillary : ℕ) {bit : ℕ} → bit < 2 → overheadOf f sample ancillary bit < 2 ^ f .overhead
   unfolding overheadOf

@@ -11,7 +11,7 @@ use native.Mathlib.Omega.{arith}
 use borrow.Author.Tests
 use borrow.Author.Tests.{eqb-true, eqb-false, ltb-true, ltb-false, lt-ltb, le-ltb, le-leb, lt-leb, ne-eqb, eq-eqb}
 use mir.Val.{hasKey}
-use types.Run.{OneOf, hit, miss}
+use types.Run.{OneOf, hit}
 use lib.Dec.{T, eqb, leb, ltb, ltb→lt, leb→le, eqb→eq}
 use Rattle.runs.specs.Refusals.{orElse}
 use Rattle.runs.specs.Test.{every}
@@ -92,16 +92,9 @@ unfolding isAmong
 among-key [] n = refl
 among-key (x ∷ xs) n = ap (λ (b : Bool). eqb x n || b) (among-key xs n)
 
-not-false : (b : Bool) → (T (not b) → ⊥) → b ≡ true
-not-false true h = refl
-not-false false h = absurd (h tt)
-
 not-true : (b : Bool) → (T b → ⊥) → b ≡ false
 not-true true h = absurd (h tt)
 not-true false h = refl
-
-pub among-hit : (keys : List ℕ) (n : ℕ) → OneOf keys n → isAmong n keys ≡ true
-among-hit keys n one = sym (among-key keys n) ∙ not-false (hasKey keys n) (λ t. miss keys n t one)
 
 pub among-miss : (keys : List ℕ) (n : ℕ) → (OneOf keys n → ⊥) → isAmong n keys ≡ false
 among-miss keys n none = sym (among-key keys n) ∙ not-true (hasKey keys n) (λ t. none (hit keys n t))

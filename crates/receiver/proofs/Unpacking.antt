@@ -10,16 +10,16 @@ use borrow.Author.Tests.{eq-eqb}
 use lib.ListN as L
 use lib.ListN.{length, getD, take, drop, replicate, length-drop, length-append, length-replicate, getD-replicate, List·getD-append, take-append-drop}
 use lib.Seq.{take-at, drop-at, drop-append-add, drop-drop, take-append-le, take-add, length-take-le, getD-drop, getD-take, getD-append-add, drop-paste}
-use Rattle.runs.specs.Runs.{over}
+use Rattle.runs.specs.Runs.{over, written}
 use Rattle.runs.proofs.Filling.{Filled, turned, done}
 use Rattle.runs.proofs.Laws.{length-tab, getD-tab, tab-is}
 use Rattle.formats.specs.declared.Format.{Format}
 use Rattle.formats.specs.declared.Settled.{Settled}
-use Rattle.formats.specs.Sound.{Sound, Limits}
+use Rattle.formats.specs.Sound.{Limits}
 use Rattle.cells.specs.Cells.{subframeAt, sampleIn, ancillaryIn, markIn, entriesOf}
 use Rattle.cells.specs.Placement.{slotOf, slotOfEntry}
 use Rattle.cells.proofs.Placement.{slot-lt}
-use Rattle.receiver.specs.Unpacking.{usedIn, ownEntries, written, Unpacks, Writes, Room, Misses, Roomy, held, Splits}
+use Rattle.receiver.specs.Unpacking.{usedIn, ownEntries, Unpacks, Writes, Room, Misses, Roomy, held, Splits}
 
 -- a run that a loop fills with as many entries as it counts
 module _ (d₀ : List ℕ) (at : ℕ) (vs : List ℕ) {used : ℕ} (long : length vs ≡ used) (room : at + used ≤ length d₀) where
@@ -95,13 +95,6 @@ written-again read run at used each room =
     ∙ ap₂ (λ (a b : List ℕ). a ++ b)
     (take-add at used run ∙ ap (λ (l : List ℕ). take at run ++ l) (sym part))
     (ap (λ (n : ℕ). drop (at + n) run) (sym (held-length read run at used)))
-
--- ancillary bits are four or none
-pub four-bits : {f : Format} → Sound f → (f .ancillary ≡ 0 → ⊥) → f .ancillary ≡ 4
-four-bits {f} s some = four-of (f .ancillary) (s .ancillary-fours) (s .ancillary-to) some
-  where
-    four-of : (n : ℕ) → n % 4 ≡ 0 → n ≤ 4 → (n ≡ 0 → ⊥) → n ≡ 4
-    four-of n e h some = omega arith
 
 -- formats without overhead: the parts of a subframe
 module _ (f : Format) (none : f .overhead ≡ 0) where

@@ -5,8 +5,8 @@ use mathlib.Core.List.{List, _++_}
 use mathlib.Core.Path.{_≡_}
 use Prim.Native.Nat.{ℕ, _+_, _*_, _-_, _≤_}
 use lib.Dec.{ltb}
-use lib.ListN.{length, getD, take, drop, replicate}
-use Rattle.runs.specs.Runs.{tab, over}
+use lib.ListN.{length, getD, replicate}
+use Rattle.runs.specs.Runs.{tab, over, written}
 use Rattle.formats.specs.declared.Format.{Format}
 use Rattle.formats.specs.declared.Settled.{Settled}
 use Rattle.formats.specs.Formats.{isUsual}
@@ -20,10 +20,6 @@ usedIn set = set .channels * set .times
 -- a cell's own entries, read off each subframe
 abbrev pub ownEntries : (ℕ → ℕ) → Settled → List ℕ → List ℕ
 ownEntries read set cell = entriesOf read (set .format) (set .«by_channel») (set .channels) (set .times) cell
-
--- a run with these entries written from `at` on
-abbrev pub written : List ℕ → ℕ → List ℕ → List ℕ
-written run at new = take at run ++ new ++ drop (at + length new) run
 
 -- three runs after a cell's own entries were written from `at` on
 pub record Unpacks (set : Settled) (cell : List ℕ) (at : ℕ) (samples ancillary marks samples₁ ancillary₁ marks₁ : List ℕ) : Type 0 where

@@ -3,14 +3,13 @@ ghost use mathlib.Core.Bool.{true, false};
 ghost use mathlib.Core.Path.{_≡_};
 ghost use Prim.Native.Nat.{_+_, _*_, _/_, _%_, _≤_, _<_};
 ghost use lib.ListN.{length, getD, replicate};
-ghost use Rattle.runs.specs.Runs.{over};
+ghost use Rattle.runs.specs.Runs.{over, written};
 ghost use Rattle.formats.specs.Sound.{Sound, Limits};
 ghost use Rattle.cells.specs.Cells.{subframeAt, bitIn, eightIn};
 ghost use Rattle.receiver.specs.Receiver.{numberNow, secondNow};
 ghost use Rattle.receiver.specs.Unpacking.{
   usedIn,
   ownEntries,
-  written,
   Unpacks,
   Writes,
   Room,

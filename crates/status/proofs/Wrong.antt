@@ -1,6 +1,5 @@
 -- Wrong answers, two or more for each public function: its contract rules them out. Stated over the contracts themselves.
 -- Assumes nothing.
-use mathlib.Core.List.{List, [], _∷_}
 use mathlib.Core.Path.{_≡_, sym, _∙_, ap}
 use Prim.Native.Nat.{ℕ}
 use native.Mathlib.Omega.{arith}

@@ -2,7 +2,8 @@
 -- Assumes nothing.
 use denote.Ref.{now}
 use Rattle.cells.proofs.Subframes.{four}
-use Rattle.receiver.proofs.Unpacking.{splits-plain, splits-bare, four-bits}
+use Rattle.cells.proofs.Subframes.{four-ancillary}
+use Rattle.receiver.proofs.Unpacking.{splits-plain, splits-bare}
 use borrow.Author.Needs.{needs}
 use Rattle.receiver.proofs.unpack.parts.Statement.{statement}
 use Rattle.receiver.proofs.unpack.parts.Tie as tie
@@ -65,7 +66,7 @@ returns-3 c =
     (c .before .before .before .before .before .before .before .before .before .before .before .before .before .if1 .left)
     (s .args .at) (s .args .used) (now (s .args .samples)) (now (s .args .ancillary)) (now (s .args .marks)) (s .pre .2)
     (c .before .before .before .before .before .before .before .before .before .before .before .octets .ensures)
-    (four-bits (s .pre .0) (c .before .before .before .before .before .before .before .if2 .left))
+    (four-ancillary (s .pre .0) (c .before .before .before .before .before .before .before .if2 .left))
     (c .before .before .before .before .split-bare .ensures .0) (c .before .before .before .before .split-bare .ensures .1)
 
 pub parts-spec : {M : Type 1} → statement M
