@@ -13,9 +13,9 @@ use Rattle.formats.proofs.Laws.{usual-is, usual-set}
 use Rattle.numbers.specs.Numbers.{sequenceOf}
 use Rattle.guards.specs.Guards.{sevenGuards}
 use Rattle.sender.specs.declared.Sender.{Sender}
-use Rattle.sender.specs.Packing.{shape, packed, Packable, Fillable, inOrder, written, Continues, Usual}
+use Rattle.sender.specs.Packing.{shape, packed, Packable, Named, Fillable, inOrder, written, Continues, Usual}
 use Rattle.sender.proofs.Filling.{continues-begun}
-use Rattle.sender.proofs.Packing.{Named, written-as, fillable, packs, placed-in-order}
+use Rattle.sender.proofs.Packing.{written-as, fillable, packs, placed-in-order}
 
 module _ {st : Sender} (samples : List ℕ) (u : Usual st (length samples)) {set : Settled}
     (given : set ≡ settingsOf 0x56 (cond (eqb (st .channels) 2) 2 1) 0)

@@ -20,42 +20,10 @@ use Rattle.numbers.proofs.Laws.{sequence-bit}
 use Rattle.guards.specs.Guards.{nineOf, tenGuard, sevenGuards, guardOf}
 use Rattle.cells.specs.Cells.{overheadOf, subframeOf, slotOctets, cellOf}
 use Rattle.cells.specs.Placement.{entryOfSlot, carried}
-use Rattle.cells.proofs.Subframes.{four}
-use Rattle.sender.specs.Packing.{packed, shape, Packable, Fillable, Turnable, inOrder, byChannel, placed, slotWith, written, idleNumber, Continues}
+use Rattle.sender.specs.Packing.{packed, shape, Packable, Named, Fillable, Turnable, inOrder, byChannel, placed, slotWith, written, idleNumber, Continues}
 use Rattle.sender.proofs.Filling.{filled}
 
--- a format told by the numbers that a call names
-pub record Named (f : Format) (sample ancillary overhead width : ℕ) : Type 0 where
-  pub sample-is : sample ≡ f .sample
-  pub ancillary-is : ancillary ≡ f .ancillary
-  pub overhead-is : overhead ≡ f .overhead
-  pub width-is : width ≡ f .width
-
 module _ {f : Format} (s : Sound f) where
-  pub named-octet : f .overhead ≡ 0 → f .width ≡ 1 → Named f 8 0 0 1
-  named-octet none one =
-      record {
-        sample-is = omega (arith, s .bits, s .sample-from);
-        ancillary-is = omega (arith, s .bits, s .sample-from);
-        overhead-is = sym none;
-        width-is = sym one;
-      }
-
-  pub named-plain : {width : ℕ} → f .overhead ≡ 0 → f .width ≡ width → Named f (f .sample) (f .ancillary) 0 width
-  named-plain none e = record { sample-is = refl; ancillary-is = refl; overhead-is = sym none; width-is = sym e }
-
-  pub named-guarded : {sample width : ℕ} → (f .overhead ≡ 0 → ⊥) → f .sample ≡ sample → 8 * width ≡ sample + 8
-      → Named f sample 4 4 width
-  named-guarded some e whole =
-      let overheads : f .overhead ≡ 4 = four s some in
-      let ancillaries : f .ancillary ≡ 4 = omega (arith, s .bits, s .ancillary-fours, s .ancillary-to) in
-      record {
-        sample-is = sym e;
-        ancillary-is = sym ancillaries;
-        overhead-is = sym overheads;
-        width-is = omega (arith, s .bits);
-      }
-
   module _ {sample ancillary overhead width : ℕ} (named : Named f sample ancillary overhead width) where
     pub shape-is : shape sample ancillary overhead ≡ f
     shape-is =

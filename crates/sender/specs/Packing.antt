@@ -40,6 +40,13 @@ shape sample ancillary overhead =
       slots = 48 / ((sample + ancillary + overhead) / 8);
     }
 
+-- a format told by the numbers that a call names
+pub record Named (f : Format) (sample ancillary overhead width : ℕ) : Type 0 where
+  pub sample-is : sample ≡ f .sample
+  pub ancillary-is : ancillary ≡ f .ancillary
+  pub overhead-is : overhead ≡ f .overhead
+  pub width-is : width ≡ f .width
+
 -- what filling a cell's used slots asks
 pub record Fillable (f : Format) (width : ℕ) (table samples ancillary cell : List ℕ) : Type 0 where
   pub sound : Sound f

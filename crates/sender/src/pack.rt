@@ -2,11 +2,13 @@
 // that names none.
 ghost use mathlib.Core.Path.{_≡_};
 ghost use Prim.Native.Nat.{_*_, _%_, _≤_, _<_};
-ghost use lib.ListN.{length};
+ghost use lib.ListN as L;
 ghost use Rattle.formats.specs.Sound.{Limits};
 ghost use Rattle.numbers.specs.Numbers.{entryOf};
+ghost use Rattle.guards.specs.Guards.{sevenGuards};
 ghost use Rattle.sender.specs.Packing.{
   Packable,
+  Named,
   inOrder,
   byChannel,
   placed,
@@ -20,11 +22,71 @@ use crate::fill::fill_in_order;
 use crate::fill::put;
 use formats::Settled;
 
+// The used slots in order 0, the format's numbers named again: where they are constants the compiler makes a loop of its own of
+// the call.
+fn in_order_as(
+    set: Settled,
+    table: &[u8; 128],
+    length: u64,
+    four: u64,
+    overhead: u64,
+    width: usize,
+    sequence: u64,
+    samples: &[u64],
+    ancillary: &[u8],
+    cell: &mut [u8],
+)
+    requires { ⌜ Packable set (now samples) (now ancillary) × Named (set .format) length four overhead width × (now table ≡ sevenGuards) × (L.length (now cell) ≡ 48) ⌝ }
+    ensures { λ r. ⌜ now (cell .exit) ≡ written (set .format) inOrder sequence (now (samples .entry)) (now (ancillary .entry)) (now (cell .entry)) ⌝ }
+{
+    fill_in_order(
+        table,
+        length,
+        four,
+        overhead,
+        width,
+        sequence,
+        samples,
+        ancillary,
+        cell,
+    );
+}
+
+// The same in order 1.
+fn by_channel_as(
+    set: Settled,
+    table: &[u8; 128],
+    length: u64,
+    four: u64,
+    overhead: u64,
+    width: usize,
+    sequence: u64,
+    samples: &[u64],
+    ancillary: &[u8],
+    cell: &mut [u8],
+)
+    requires { ⌜ Packable set (now samples) (now ancillary) × Named (set .format) length four overhead width × (now table ≡ sevenGuards) × (L.length (now cell) ≡ 48) ⌝ }
+    ensures { λ r. ⌜ now (cell .exit) ≡ written (set .format) (byChannel (set .channels) (now (samples .entry))) sequence (now (samples .entry)) (now (ancillary .entry)) (now (cell .entry)) ⌝ }
+{
+    fill_by_channel(
+        table,
+        length,
+        four,
+        overhead,
+        width,
+        set.channels,
+        sequence,
+        samples,
+        ancillary,
+        cell,
+    );
+}
+
 // The used slots in order 0, a loop for each width without overhead and for each sample length with it. The table is made on each
 // side, so that it is left out where no loop reads it.
 fn pack_in_order(set: Settled, sequence: u64, samples: &[u64], ancillary: &[u8], cell: &mut [u8])
-    requires { ⌜ Packable set (now samples) (now ancillary) × (length (now cell) ≡ 48) ⌝ }
-    ensures { λ r. ⌜ now (cell .exit) ≡ written (set .format) (inOrder) sequence (now (samples .entry)) (now (ancillary .entry)) (now (cell .entry)) ⌝ }
+    requires { ⌜ Packable set (now samples) (now ancillary) × (L.length (now cell) ≡ 48) ⌝ }
+    ensures { λ r. ⌜ now (cell .exit) ≡ written (set .format) inOrder sequence (now (samples .entry)) (now (ancillary .entry)) (now (cell .entry)) ⌝ }
 {
     let width = set.format.width;
     let length = set.format.sample;
@@ -33,8 +95,9 @@ fn pack_in_order(set: Settled, sequence: u64, samples: &[u64], ancillary: &[u8],
     if overhead == 0 {
         let table = guards::sevens();
         match width {
-            1 => fill_in_order(&table, 8, 0, 0, 1, sequence, samples, ancillary, cell),
-            2 => fill_in_order(
+            1 => in_order_as(set, &table, 8, 0, 0, 1, sequence, samples, ancillary, cell),
+            2 => in_order_as(
+                set,
                 &table,
                 length,
                 four,
@@ -45,7 +108,8 @@ fn pack_in_order(set: Settled, sequence: u64, samples: &[u64], ancillary: &[u8],
                 ancillary,
                 cell,
             ),
-            3 => fill_in_order(
+            3 => in_order_as(
+                set,
                 &table,
                 length,
                 four,
@@ -56,7 +120,8 @@ fn pack_in_order(set: Settled, sequence: u64, samples: &[u64], ancillary: &[u8],
                 ancillary,
                 cell,
             ),
-            4 => fill_in_order(
+            4 => in_order_as(
+                set,
                 &table,
                 length,
                 four,
@@ -67,7 +132,8 @@ fn pack_in_order(set: Settled, sequence: u64, samples: &[u64], ancillary: &[u8],
                 ancillary,
                 cell,
             ),
-            _ => fill_in_order(
+            _ => in_order_as(
+                set,
                 &table,
                 length,
                 four,
@@ -83,11 +149,12 @@ fn pack_in_order(set: Settled, sequence: u64, samples: &[u64], ancillary: &[u8],
     }
     let table = guards::sevens();
     match length {
-        8 => fill_in_order(&table, 8, 4, 4, 2, sequence, samples, ancillary, cell),
-        16 => fill_in_order(&table, 16, 4, 4, 3, sequence, samples, ancillary, cell),
-        24 => fill_in_order(&table, 24, 4, 4, 4, sequence, samples, ancillary, cell),
-        40 => fill_in_order(&table, 40, 4, 4, 6, sequence, samples, ancillary, cell),
-        _ => fill_in_order(
+        8 => in_order_as(set, &table, 8, 4, 4, 2, sequence, samples, ancillary, cell),
+        16 => in_order_as(set, &table, 16, 4, 4, 3, sequence, samples, ancillary, cell),
+        24 => in_order_as(set, &table, 24, 4, 4, 4, sequence, samples, ancillary, cell),
+        40 => in_order_as(set, &table, 40, 4, 4, 6, sequence, samples, ancillary, cell),
+        _ => in_order_as(
+            set,
             &table,
             length,
             four,
@@ -103,72 +170,60 @@ fn pack_in_order(set: Settled, sequence: u64, samples: &[u64], ancillary: &[u8],
 
 // The same in order 1.
 fn pack_by_channel(set: Settled, sequence: u64, samples: &[u64], ancillary: &[u8], cell: &mut [u8])
-    requires { ⌜ Packable set (now samples) (now ancillary) × (length (now cell) ≡ 48) ⌝ }
+    requires { ⌜ Packable set (now samples) (now ancillary) × (L.length (now cell) ≡ 48) ⌝ }
     ensures { λ r. ⌜ now (cell .exit) ≡ written (set .format) (byChannel (set .channels) (now (samples .entry))) sequence (now (samples .entry)) (now (ancillary .entry)) (now (cell .entry)) ⌝ }
 {
     let width = set.format.width;
     let length = set.format.sample;
     let four = set.format.ancillary;
     let overhead = set.format.overhead;
-    let channels = set.channels;
     if overhead == 0 {
         let table = guards::sevens();
         match width {
-            1 => fill_by_channel(
-                &table,
-                8,
-                0,
-                0,
-                1,
-                channels,
-                sequence,
-                samples,
-                ancillary,
-                cell,
-            ),
-            2 => fill_by_channel(
+            1 => by_channel_as(set, &table, 8, 0, 0, 1, sequence, samples, ancillary, cell),
+            2 => by_channel_as(
+                set,
                 &table,
                 length,
                 four,
                 0,
                 2,
-                channels,
                 sequence,
                 samples,
                 ancillary,
                 cell,
             ),
-            3 => fill_by_channel(
+            3 => by_channel_as(
+                set,
                 &table,
                 length,
                 four,
                 0,
                 3,
-                channels,
                 sequence,
                 samples,
                 ancillary,
                 cell,
             ),
-            4 => fill_by_channel(
+            4 => by_channel_as(
+                set,
                 &table,
                 length,
                 four,
                 0,
                 4,
-                channels,
                 sequence,
                 samples,
                 ancillary,
                 cell,
             ),
-            _ => fill_by_channel(
+            _ => by_channel_as(
+                set,
                 &table,
                 length,
                 four,
                 0,
                 width,
-                channels,
                 sequence,
                 samples,
                 ancillary,
@@ -179,61 +234,17 @@ fn pack_by_channel(set: Settled, sequence: u64, samples: &[u64], ancillary: &[u8
     }
     let table = guards::sevens();
     match length {
-        8 => fill_by_channel(
-            &table,
-            8,
-            4,
-            4,
-            2,
-            channels,
-            sequence,
-            samples,
-            ancillary,
-            cell,
-        ),
-        16 => fill_by_channel(
-            &table,
-            16,
-            4,
-            4,
-            3,
-            channels,
-            sequence,
-            samples,
-            ancillary,
-            cell,
-        ),
-        24 => fill_by_channel(
-            &table,
-            24,
-            4,
-            4,
-            4,
-            channels,
-            sequence,
-            samples,
-            ancillary,
-            cell,
-        ),
-        40 => fill_by_channel(
-            &table,
-            40,
-            4,
-            4,
-            6,
-            channels,
-            sequence,
-            samples,
-            ancillary,
-            cell,
-        ),
-        _ => fill_by_channel(
+        8 => by_channel_as(set, &table, 8, 4, 4, 2, sequence, samples, ancillary, cell),
+        16 => by_channel_as(set, &table, 16, 4, 4, 3, sequence, samples, ancillary, cell),
+        24 => by_channel_as(set, &table, 24, 4, 4, 4, sequence, samples, ancillary, cell),
+        40 => by_channel_as(set, &table, 40, 4, 4, 6, sequence, samples, ancillary, cell),
+        _ => by_channel_as(
+            set,
             &table,
             length,
             four,
             overhead,
             width,
-            channels,
             sequence,
             samples,
             ancillary,
@@ -244,7 +255,7 @@ fn pack_by_channel(set: Settled, sequence: u64, samples: &[u64], ancillary: &[u8
 
 // The used slots in either order.
 fn pack_used(set: Settled, sequence: u64, samples: &[u64], ancillary: &[u8], cell: &mut [u8])
-    requires { ⌜ Packable set (now samples) (now ancillary) × (length (now cell) ≡ 48) ⌝ }
+    requires { ⌜ Packable set (now samples) (now ancillary) × (L.length (now cell) ≡ 48) ⌝ }
     ensures { λ r. ⌜ now (cell .exit) ≡ written (set .format) (placed set (now (samples .entry))) sequence (now (samples .entry)) (now (ancillary .entry)) (now (cell .entry)) ⌝ }
 {
     if set.by_channel {
@@ -267,7 +278,7 @@ fn idle_subframe(overhead: u64, bit: u64) -> u64
 
 // The unused slots.
 fn fill_idle(set: Settled, used: usize, sequence: u64, cell: &mut [u8])
-    requires { ⌜ Limits set × (used ≤ set .format .slots) × (length (now cell) ≡ 48) ⌝ }
+    requires { ⌜ Limits set × (used ≤ set .format .slots) × (L.length (now cell) ≡ 48) ⌝ }
     ensures { λ r. ⌜ Continues (set .format .width) (set .format .overhead) sequence (now (cell .entry)) used (now (cell .exit)) (set .format .slots) ⌝ }
 {
     let width = set.format.width;
@@ -290,7 +301,7 @@ pub(crate) fn pack(
     ancillary: &[u8],
     cell: &mut [u8],
 )
-    requires { ⌜ Packable set (now samples) (now ancillary) × (second < 16) × (length (now cell) ≡ 48) ⌝ }
+    requires { ⌜ Packable set (now samples) (now ancillary) × (second < 16) × (L.length (now cell) ≡ 48) ⌝ }
     ensures { λ r. ⌜ now (cell .exit) ≡ packed set (entryOf (number % 16)) second (now (samples .entry)) (now (ancillary .entry)) ⌝ }
 {
     let sequence = numbers::sequence_of(number, second);
