@@ -82,71 +82,122 @@ fn by_channel_as(
     );
 }
 
-// The used slots in order 0, a loop for each width without overhead and for each sample length with it. The table is made on each
-// side, so that it is left out where no loop reads it.
-fn pack_in_order(set: Settled, sequence: u64, samples: &[u64], ancillary: &[u8], cell: &mut [u8])
-    requires { ⌜ Packable set (now samples) (now ancillary) × (L.length (now cell) ≡ 48) ⌝ }
+// The same in the settings' order.
+fn used_as(
+    set: Settled,
+    table: &[u8; 128],
+    length: u64,
+    four: u64,
+    overhead: u64,
+    width: usize,
+    sequence: u64,
+    samples: &[u64],
+    ancillary: &[u8],
+    cell: &mut [u8],
+)
+    requires { ⌜ Packable set (now samples) (now ancillary) × Named (set .format) length four overhead width × (now table ≡ sevenGuards) × (L.length (now cell) ≡ 48) ⌝ }
+    ensures { λ r. ⌜ now (cell .exit) ≡ written (set .format) (placed set (now (samples .entry))) sequence (now (samples .entry)) (now (ancillary .entry)) (now (cell .entry)) ⌝ }
+{
+    if set.by_channel {
+        by_channel_as(
+            set,
+            table,
+            length,
+            four,
+            overhead,
+            width,
+            sequence,
+            samples,
+            ancillary,
+            cell,
+        );
+        return;
+    }
+    in_order_as(
+        set,
+        table,
+        length,
+        four,
+        overhead,
+        width,
+        sequence,
+        samples,
+        ancillary,
+        cell,
+    );
+}
+
+// The used slots without overhead, a loop for each width and order.
+fn pack_plain(set: Settled, sequence: u64, samples: &[u64], ancillary: &[u8], cell: &mut [u8])
+    requires { ⌜ Packable set (now samples) (now ancillary) × (set .format .overhead ≡ 0) × (L.length (now cell) ≡ 48) ⌝ }
+    ensures { λ r. ⌜ now (cell .exit) ≡ written (set .format) (placed set (now (samples .entry))) sequence (now (samples .entry)) (now (ancillary .entry)) (now (cell .entry)) ⌝ }
+{
+    let width = set.format.width;
+    let length = set.format.sample;
+    let four = set.format.ancillary;
+    let table = guards::sevens();
+    match width {
+        1 => used_as(set, &table, 8, 0, 0, 1, sequence, samples, ancillary, cell),
+        2 => used_as(
+            set,
+            &table,
+            length,
+            four,
+            0,
+            2,
+            sequence,
+            samples,
+            ancillary,
+            cell,
+        ),
+        3 => used_as(
+            set,
+            &table,
+            length,
+            four,
+            0,
+            3,
+            sequence,
+            samples,
+            ancillary,
+            cell,
+        ),
+        4 => used_as(
+            set,
+            &table,
+            length,
+            four,
+            0,
+            4,
+            sequence,
+            samples,
+            ancillary,
+            cell,
+        ),
+        _ => used_as(
+            set,
+            &table,
+            length,
+            four,
+            0,
+            width,
+            sequence,
+            samples,
+            ancillary,
+            cell,
+        ),
+    }
+}
+
+// The used slots with overhead in order 0, a loop for each sample length. (`used_as` is too large to be made a loop of here.)
+fn guarded_in_order(set: Settled, sequence: u64, samples: &[u64], ancillary: &[u8], cell: &mut [u8])
+    requires { ⌜ Packable set (now samples) (now ancillary) × (set .format .overhead ≡ 0 → ⊥) × (L.length (now cell) ≡ 48) ⌝ }
     ensures { λ r. ⌜ now (cell .exit) ≡ written (set .format) inOrder sequence (now (samples .entry)) (now (ancillary .entry)) (now (cell .entry)) ⌝ }
 {
     let width = set.format.width;
     let length = set.format.sample;
     let four = set.format.ancillary;
     let overhead = set.format.overhead;
-    if overhead == 0 {
-        let table = guards::sevens();
-        match width {
-            1 => in_order_as(set, &table, 8, 0, 0, 1, sequence, samples, ancillary, cell),
-            2 => in_order_as(
-                set,
-                &table,
-                length,
-                four,
-                0,
-                2,
-                sequence,
-                samples,
-                ancillary,
-                cell,
-            ),
-            3 => in_order_as(
-                set,
-                &table,
-                length,
-                four,
-                0,
-                3,
-                sequence,
-                samples,
-                ancillary,
-                cell,
-            ),
-            4 => in_order_as(
-                set,
-                &table,
-                length,
-                four,
-                0,
-                4,
-                sequence,
-                samples,
-                ancillary,
-                cell,
-            ),
-            _ => in_order_as(
-                set,
-                &table,
-                length,
-                four,
-                0,
-                width,
-                sequence,
-                samples,
-                ancillary,
-                cell,
-            ),
-        }
-        return;
-    }
     let table = guards::sevens();
     match length {
         8 => in_order_as(set, &table, 8, 4, 4, 2, sequence, samples, ancillary, cell),
@@ -169,69 +220,20 @@ fn pack_in_order(set: Settled, sequence: u64, samples: &[u64], ancillary: &[u8],
 }
 
 // The same in order 1.
-fn pack_by_channel(set: Settled, sequence: u64, samples: &[u64], ancillary: &[u8], cell: &mut [u8])
-    requires { ⌜ Packable set (now samples) (now ancillary) × (L.length (now cell) ≡ 48) ⌝ }
+fn guarded_by_channel(
+    set: Settled,
+    sequence: u64,
+    samples: &[u64],
+    ancillary: &[u8],
+    cell: &mut [u8],
+)
+    requires { ⌜ Packable set (now samples) (now ancillary) × (set .format .overhead ≡ 0 → ⊥) × (L.length (now cell) ≡ 48) ⌝ }
     ensures { λ r. ⌜ now (cell .exit) ≡ written (set .format) (byChannel (set .channels) (now (samples .entry))) sequence (now (samples .entry)) (now (ancillary .entry)) (now (cell .entry)) ⌝ }
 {
     let width = set.format.width;
     let length = set.format.sample;
     let four = set.format.ancillary;
     let overhead = set.format.overhead;
-    if overhead == 0 {
-        let table = guards::sevens();
-        match width {
-            1 => by_channel_as(set, &table, 8, 0, 0, 1, sequence, samples, ancillary, cell),
-            2 => by_channel_as(
-                set,
-                &table,
-                length,
-                four,
-                0,
-                2,
-                sequence,
-                samples,
-                ancillary,
-                cell,
-            ),
-            3 => by_channel_as(
-                set,
-                &table,
-                length,
-                four,
-                0,
-                3,
-                sequence,
-                samples,
-                ancillary,
-                cell,
-            ),
-            4 => by_channel_as(
-                set,
-                &table,
-                length,
-                four,
-                0,
-                4,
-                sequence,
-                samples,
-                ancillary,
-                cell,
-            ),
-            _ => by_channel_as(
-                set,
-                &table,
-                length,
-                four,
-                0,
-                width,
-                sequence,
-                samples,
-                ancillary,
-                cell,
-            ),
-        }
-        return;
-    }
     let table = guards::sevens();
     match length {
         8 => by_channel_as(set, &table, 8, 4, 4, 2, sequence, samples, ancillary, cell),
@@ -253,16 +255,21 @@ fn pack_by_channel(set: Settled, sequence: u64, samples: &[u64], ancillary: &[u8
     }
 }
 
-// The used slots in either order.
+// The used slots.
 fn pack_used(set: Settled, sequence: u64, samples: &[u64], ancillary: &[u8], cell: &mut [u8])
     requires { ⌜ Packable set (now samples) (now ancillary) × (L.length (now cell) ≡ 48) ⌝ }
     ensures { λ r. ⌜ now (cell .exit) ≡ written (set .format) (placed set (now (samples .entry))) sequence (now (samples .entry)) (now (ancillary .entry)) (now (cell .entry)) ⌝ }
 {
-    if set.by_channel {
-        pack_by_channel(set, sequence, samples, ancillary, cell);
+    let overhead = set.format.overhead;
+    if overhead == 0 {
+        pack_plain(set, sequence, samples, ancillary, cell);
         return;
     }
-    pack_in_order(set, sequence, samples, ancillary, cell);
+    if set.by_channel {
+        guarded_by_channel(set, sequence, samples, ancillary, cell);
+        return;
+    }
+    guarded_in_order(set, sequence, samples, ancillary, cell);
 }
 
 // The subframe of an unused slot, whose sample and ancillary are 0.
