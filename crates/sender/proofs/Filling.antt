@@ -1,7 +1,7 @@
 -- Laws of filling: the code's arithmetic on one subframe, and a cell that is filled slot after slot.
 -- Assumes nothing.
 use mathlib.Core.Bool.{true}
-use mathlib.Core.List.{List, _++_, append-nil}
+use mathlib.Core.List.{List, [], _∷_, _++_, append-nil, append-assoc}
 use mathlib.Core.Path.{_≡_, refl, sym, _∙_, ap, ap₂, subst}
 use Prim.Native.Nat.{ℕ, zero, suc, _+_, _*_, _/_, _%_, _-_, _^_, _≤_, _<_}
 use native.Mathlib.Nat.{mul-one, zero-mul, zero-mod, zero-div, suc-mul, pow-le-pow-right, mod-lt, mod-eq-of-lt, not-suc-le-zero, le-of-suc-le-suc}
@@ -11,13 +11,13 @@ use borrow.Author.Tests.{ne-eqb}
 use lib.Arith.{digits-lt}
 use lib.Bits.{bitXor}
 use lib.Dec.{eqb, eqb→eq}
-use lib.ListN.{length, getD, take, drop}
+use lib.ListN.{length, getD, take, drop, length-append}
 use lib.Pow.{pow-add, pow-mono, shl-exact}
-use lib.Seq.{take-at, drop-drop, drop-append-add, drop-length}
-use Rattle.runs.specs.Runs.{joined, octetsOf}
+use lib.Seq.{take-at, drop-drop, drop-append-add, drop-length, length-take-le}
+use Rattle.runs.specs.Runs.{tab, joined, octetsOf}
 use Rattle.runs.specs.Test.{every}
 use Rattle.runs.proofs.Arms.{NoneOf, orListed, others, singles}
-use Rattle.runs.proofs.Laws.{every-at, length-joined, length-octets}
+use Rattle.runs.proofs.Laws.{every-at, length-tab, getD-tab, length-joined, length-octets}
 use Rattle.formats.specs.declared.Format.{Format}
 use Rattle.formats.specs.Sound.{Sound}
 use Rattle.guards.specs.Guards.{nineOf, tenGuard, sevenGuards, guardOf}
@@ -26,7 +26,7 @@ use Rattle.cells.specs.Cells.{overheadOf, subframeOf}
 use Rattle.cells.specs.Placement.{entryOfSlot, nextEntry}
 use Rattle.cells.proofs.Placement.{entry-lt, entry-next}
 use Rattle.cells.proofs.Subframes.{subframe-lt, octets-pow, slot-room, four}
-use Rattle.sender.specs.Packing.{shape, Fillable, Turnable, byChannel, slotWith, written, idleNumber, Continues}
+use Rattle.sender.specs.Packing.{shape, lowOctets, Fillable, Turnable, byChannel, slotWith, written, idleNumber, Continues}
 
 module _ {f : Format} (s : Sound f) {sample ancillary bit : ℕ}
     (hs : sample < 2 ^ f .sample) (ha : ancillary < 2 ^ f .ancillary) (hb : bit < 2)
@@ -153,6 +153,84 @@ octet-at (suc w) n zero h =
 octet-at (suc w) n (suc i) h =
     let place : suc w - 1 - suc i ≡ w - 1 - i = omega arith in
     ap (λ (k : ℕ). n / 2 ^ (8 * k) % 256) place ∙ octet-at w n i (le-of-suc-le-suc h)
+
+-- lowest octets: how many, and each
+pub low-length : (count number : ℕ) → length (lowOctets count number) ≡ count
+unfolding lowOctets
+low-length count number = length-tab _ count
+
+pub low-at : (count number : ℕ) {i : ℕ} → i < count → number / 2 ^ (8 * i) % 256 ≡ getD (lowOctets count number) i 0
+unfolding lowOctets
+low-at count number less = sym (getD-tab _ count less)
+
+-- four octets and two turned round, as the code does it: the lowest first they are the highest first
+four-digits : (a b c d : ℕ) → a < 256 → b < 256 → c < 256 → d < 256
+    → ((a * 16777216 + b * 65536 + c * 256 + d) / 1 % 256 ≡ d)
+    × ((a * 16777216 + b * 65536 + c * 256 + d) / 256 % 256 ≡ c)
+    × ((a * 16777216 + b * 65536 + c * 256 + d) / 65536 % 256 ≡ b)
+    × ((a * 16777216 + b * 65536 + c * 256 + d) / 16777216 % 256 ≡ a)
+four-digits a b c d ha hb hc hd = (omega arith, omega arith, omega arith, omega arith)
+
+two-digits : (a b : ℕ) → a < 256 → b < 256 → ((a * 256 + b) / 1 % 256 ≡ b) × ((a * 256 + b) / 256 % 256 ≡ a)
+two-digits a b ha hb = (omega arith, omega arith)
+
+module _ (number : ℕ) where
+  abbrev high : ℕ
+  high = number / 65536
+
+  abbrev four-turned : ℕ
+  four-turned = high % 256 * 16777216 + high / 256 % 256 * 65536 + high / 65536 % 256 * 256 + high / 16777216 % 256
+
+  abbrev two-turned : ℕ
+  two-turned = number % 256 * 256 + number / 256 % 256
+
+  four-octets : lowOctets 4 four-turned ≡ octetsOf 4 high
+  unfolding lowOctets tab octetsOf
+  four-octets =
+      let less : (x : ℕ) → x % 256 < 256 = λ x. mod-lt x (omega arith) in
+      let each = four-digits (high % 256) (high / 256 % 256) (high / 65536 % 256) (high / 16777216 % 256) (less high) (less (high / 256)) (less (high / 65536)) (less (high / 16777216)) in
+      let last : high % 256 ≡ high / 1 % 256 = omega arith in
+      λ i. each .0 i ∷ each .1 i ∷ each .2 i ∷ (each .3 ∙ last) i ∷ []
+
+  two-octets : lowOctets 2 two-turned ≡ octetsOf 2 number
+  unfolding lowOctets tab octetsOf
+  two-octets =
+      let less : (x : ℕ) → x % 256 < 256 = λ x. mod-lt x (omega arith) in
+      let each = two-digits (number % 256) (number / 256 % 256) (less number) (less (number / 256)) in
+      let last : number % 256 ≡ number / 1 % 256 = omega arith in
+      λ i. each .0 i ∷ (each .1 ∙ last) i ∷ []
+
+  six-octets : octetsOf 4 high ++ octetsOf 2 number ≡ octetsOf 6 number
+  unfolding octetsOf
+  six-octets =
+      let e0 : high / 16777216 % 256 ≡ number / 1099511627776 % 256 = omega arith in
+      let e1 : high / 65536 % 256 ≡ number / 4294967296 % 256 = omega arith in
+      let e2 : high / 256 % 256 ≡ number / 16777216 % 256 = omega arith in
+      let e3 : high / 1 % 256 ≡ number / 65536 % 256 = omega arith in
+      λ i. e0 i ∷ e1 i ∷ e2 i ∷ e3 i ∷ octetsOf 2 number
+
+  -- and so they are written, one after the other
+  pub six-put : (at : ℕ) (cell : List ℕ) {cell₁ cell₂ : List ℕ} → at + 6 ≤ length cell
+      → cell₁ ≡ take at cell ++ lowOctets 4 four-turned ++ drop (at + 4) cell
+      → cell₂ ≡ take (at + 4) cell₁ ++ lowOctets 2 two-turned ++ drop (at + 4 + 2) cell₁
+      → cell₂ ≡ take at cell ++ octetsOf 6 number ++ drop (at + 6) cell
+  six-put at cell {cell₁} room first next =
+      let four = lowOctets 4 four-turned in
+      let front : length (take at cell ++ four) ≡ at + 4
+      = length-append (take at cell) four
+      ∙ ap₂ (λ (x y : ℕ). x + y) (length-take-le at cell (omega arith)) (low-length 4 four-turned) in
+      next
+      ∙ ap₂ (λ (before after : List ℕ). before ++ lowOctets 2 two-turned ++ after)
+      (ap (take (at + 4)) first ∙ take-at (take at cell ++ four) (drop (at + 4) cell) (at + 4) front)
+      (ap (drop (at + 4 + 2)) first
+      ∙ ap (λ (n : ℕ). drop (n + 2) (take at cell ++ four ++ drop (at + 4) cell)) (sym front)
+      ∙ drop-append-add (take at cell ++ four) (drop (at + 4) cell) 2
+      ∙ drop-drop 2 (at + 4) cell
+      ∙ ap (λ (n : ℕ). drop n cell) (let whole : at + 4 + 2 ≡ at + 6 = omega arith in whole))
+      ∙ ap (λ (l : List ℕ). l ++ drop (at + 6) cell)
+      (append-assoc (take at cell) four (lowOctets 2 two-turned)
+      ∙ ap (λ (l : List ℕ). take at cell ++ l)
+      (ap₂ (λ (x y : List ℕ). x ++ y) four-octets two-octets ∙ six-octets))
 
 -- a cell that is filled slot after slot: the slots so far, and then what it held
 module _ (g : ℕ → List ℕ) (w : ℕ) (cell₀ : List ℕ) where

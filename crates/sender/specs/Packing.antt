@@ -6,7 +6,7 @@ use mathlib.Core.Path.{_≡_}
 use Prim.Native.Nat.{ℕ, _+_, _*_, _/_, _%_, _^_, _≤_, _<_}
 use lib.Dec.{eqb, ltb}
 use lib.ListN.{length, getD, drop}
-use Rattle.runs.specs.Runs.{joined, octetsOf}
+use Rattle.runs.specs.Runs.{tab, joined, octetsOf}
 use Rattle.formats.specs.declared.Format.{Format}
 use Rattle.formats.specs.declared.Settled.{Settled}
 use Rattle.formats.specs.Formats.{isUsual}
@@ -78,6 +78,10 @@ placed set samples slot = entryOfSlot (set .«by_channel») (set .channels) (len
 unfoldable pub slotWith : Format → (ℕ → ℕ) → ℕ → List ℕ → List ℕ → ℕ → List ℕ
 slotWith f entry sequence samples ancillary k =
     octetsOf (f .width) (subframeOf f (getD samples (entry k) 0) (getD ancillary (entry k) 0) (sequence / 2 ^ k % 2))
+
+-- a number's lowest octets, the lowest first
+unfoldable pub lowOctets : ℕ → ℕ → List ℕ
+lowOctets count number = tab (λ i. number / 2 ^ (8 * i) % 256) count
 
 -- a cell whose used slots are filled
 abbrev pub written : Format → (ℕ → ℕ) → ℕ → List ℕ → List ℕ → List ℕ → List ℕ

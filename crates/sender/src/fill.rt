@@ -12,6 +12,7 @@ ghost use Rattle.cells.specs.Cells.{subframeOf};
 ghost use Rattle.cells.specs.Placement.{nextEntry};
 ghost use Rattle.guards.specs.Guards.{sevenGuards};
 ghost use Rattle.sender.specs.Packing.{
+  lowOctets,
   shape,
   Fillable,
   Turnable,
@@ -57,6 +58,46 @@ pub(crate) fn put(cell: &mut [u8], at: usize, width: usize, number: u64)
     }
 }
 
+// Writes a number's lowest octets, the lowest first.
+fn put_low(cell: &mut [u8], at: usize, count: usize, number: u64)
+    requires { ⌜ (at + count ≤ length (now cell)) × (count ≤ 8) ⌝ }
+    ensures { λ r. ⌜ now (cell .exit) ≡ take at (now (cell .entry)) ++ lowOctets count number ++ drop (at + count) (now (cell .entry)) ⌝ }
+{
+    let mut i = 0;
+    while i < count {
+        cell[at + i] = ((number >> (8 * i)) % 256) as u8;
+        i += 1;
+    }
+}
+
+// Writes six octets of a number, the highest first. Four and two are turned round and written lowest first: so they are two stores,
+// where six that are shifted down stay six.
+fn put_six(cell: &mut [u8], at: usize, number: u64)
+    requires { ⌜ at + 6 ≤ length (now cell) ⌝ }
+    ensures { λ r. ⌜ now (cell .exit) ≡ take at (now (cell .entry)) ++ octetsOf 6 number ++ drop (at + 6) (now (cell .entry)) ⌝ }
+{
+    let high = number / 65536;
+    let four = high % 256 * 16777216
+        + high / 256 % 256 * 65536
+        + high / 65536 % 256 * 256
+        + high / 16777216 % 256;
+    let two = number % 256 * 256 + number / 256 % 256;
+    put_low(cell, at, 4, four);
+    put_low(cell, at + 4, 2, two);
+}
+
+// Writes a subframe's octets, the highest first.
+fn put_subframe(cell: &mut [u8], at: usize, width: usize, number: u64)
+    requires { ⌜ (at + width ≤ length (now cell)) × (width ≤ 6) ⌝ }
+    ensures { λ r. ⌜ now (cell .exit) ≡ take at (now (cell .entry)) ++ octetsOf width number ++ drop (at + width) (now (cell .entry)) ⌝ }
+{
+    if width == 6 {
+        put_six(cell, at, number);
+        return;
+    }
+    put(cell, at, width, number);
+}
+
 // The used slots in order 0: slot k carries entry k.
 pub(crate) fn fill_in_order(
     table: &[u8; 128],
@@ -84,7 +125,7 @@ pub(crate) fn fill_in_order(
             wide(ancillary[slot]),
             bit,
         );
-        put(cell, slot * width, width, number);
+        put_subframe(cell, slot * width, width, number);
         slot += 1;
     }
 }
@@ -130,7 +171,7 @@ pub(crate) fn fill_by_channel(
             wide(ancillary[entry]),
             bit,
         );
-        put(cell, slot * width, width, number);
+        put_subframe(cell, slot * width, width, number);
         entry = next_entry(channels, samples.len(), entry);
         slot += 1;
     }

@@ -55,13 +55,13 @@ subframe-requires c κs =
       omega arith,
     )
 
-mul-put : tie.Need-mul-put Inv-loop μ-loop
-mul-put c =
+mul-put-subframe : tie.Need-mul-put-subframe Inv-loop μ-loop
+mul-put-subframe c =
     let a = c .before .before .before .before .before .before .before .before .before .before .args in omega
     (arith, used-room (shape (a .length) (a .four) (a .overhead)) (byChannel (a .channels) (now (a .samples))) (a .sequence) (c .before .before .before .before .before .before .before .before .before .before .pre .1) (c .before .before .before .before .before .loop-test .taken))
 
-put-requires : tie.Need-put-requires Inv-loop μ-loop
-put-requires c κs =
+put-subframe-requires : tie.Need-put-subframe-requires Inv-loop μ-loop
+put-subframe-requires c κs =
     let a = c .before .before .before .before .before .before .before .before .before .before .args in let given =
     c .before .before .before .before .before .before .before .before .before .before .pre in
     (omega (arith, used-room (shape (a .length) (a .four) (a .overhead)) (byChannel (a .channels) (now (a .samples))) (a .sequence) (given .1) (c .before .before .before .before .before .loop-test .taken), c .before .before .before .before .before .before .loop .inv .0 .same, given .1 .whole), omega (arith, given .1 .width-is, given .1 .sound .width-to))
@@ -81,7 +81,7 @@ loop-again : tie.Need-loop-again Inv-loop μ-loop
 loop-again c =
     let a =
     c .before .before .before .before .before .before .before .before .before .before .before .before .before .before .args in
-    (filling-on (shape (a .length) (a .four) (a .overhead)) (byChannel (a .channels) (now (a .samples))) (a .sequence) (c .before .before .before .before .before .before .before .before .before .before .before .before .before .before .pre .1) (c .before .before .before .before .before .before .before .before .before .before .loop .inv .0) (c .before .before .before .before .before .before .before .before .before .loop-test .taken) (c .before .before .before .before .before .before .before .before .before .before .loop .inv .1 (c .before .before .before .before .before .before .before .before .before .loop-test .taken)) (c .before .before .before .before .before .before .wide .ensures) (c .before .before .before .before .before .subframe .ensures) (c .before .before .before .put .ensures) (c .before .before .before .put .kept .0), entry-on (a .channels) (c .before .before .before .before .before .before .before .before .before .before .before .before .before .before .pre .0) (c .before .before .before .before .before .before .before .before .before .before .loop .slot) (c .before .before .before .before .before .before .before .before .before .before .loop .inv .1 (c .before .before .before .before .before .before .before .before .before .loop-test .taken)) (c .next-entry .ensures))
+    (filling-on (shape (a .length) (a .four) (a .overhead)) (byChannel (a .channels) (now (a .samples))) (a .sequence) (c .before .before .before .before .before .before .before .before .before .before .before .before .before .before .pre .1) (c .before .before .before .before .before .before .before .before .before .before .loop .inv .0) (c .before .before .before .before .before .before .before .before .before .loop-test .taken) (c .before .before .before .before .before .before .before .before .before .before .loop .inv .1 (c .before .before .before .before .before .before .before .before .before .loop-test .taken)) (c .before .before .before .before .before .before .wide .ensures) (c .before .before .before .before .before .subframe .ensures) (c .before .before .before .put-subframe .ensures) (c .before .before .before .put-subframe .kept .0), entry-on (a .channels) (c .before .before .before .before .before .before .before .before .before .before .before .before .before .before .pre .0) (c .before .before .before .before .before .before .before .before .before .before .loop .slot) (c .before .before .before .before .before .before .before .before .before .before .loop .inv .1 (c .before .before .before .before .before .before .before .before .before .loop-test .taken)) (c .next-entry .ensures))
 
 same-length : tie.Need-same-length Inv-loop μ-loop
 same-length c = c .before .loop .inv .0 .same
@@ -96,4 +96,4 @@ pub fill-by-channel-spec : {M : Type 1} → statement M
 fill-by-channel-spec =
     tie.close
     (tie.spec Inv-loop μ-loop loop-holds shr-bit mul-subframe shared-slice-read-subframe shared-slice-read-wide (search needs)
-    subframe-requires mul-put put-requires next-entry-requires add-slot loop-less loop-again same-length returns)
+    subframe-requires mul-put-subframe put-subframe-requires next-entry-requires add-slot loop-less loop-again same-length returns)

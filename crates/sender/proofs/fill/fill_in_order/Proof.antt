@@ -44,13 +44,13 @@ subframe-requires c κs =
       omega arith,
     )
 
-mul-put : tie.Need-mul-put Inv-loop μ-loop
-mul-put c =
+mul-put-subframe : tie.Need-mul-put-subframe Inv-loop μ-loop
+mul-put-subframe c =
     let a = c .before .before .before .before .before .before .before .before .before .before .args in omega
     (arith, used-room (shape (a .length) (a .four) (a .overhead)) inOrder (a .sequence) (c .before .before .before .before .before .before .before .before .before .before .pre) (c .before .before .before .before .before .loop-test .taken))
 
-put-requires : tie.Need-put-requires Inv-loop μ-loop
-put-requires c κs =
+put-subframe-requires : tie.Need-put-subframe-requires Inv-loop μ-loop
+put-subframe-requires c κs =
     let a = c .before .before .before .before .before .before .before .before .before .before .args in let given =
     c .before .before .before .before .before .before .before .before .before .before .pre in
     (omega (arith, used-room (shape (a .length) (a .four) (a .overhead)) inOrder (a .sequence) (given) (c .before .before .before .before .before .loop-test .taken), c .before .before .before .before .before .before .loop .inv .same, given .whole), omega (arith, given .width-is, given .sound .width-to))
@@ -69,7 +69,7 @@ loop-again c =
     (c .before .before .before .before .before .before .before .before .before .loop .inv)
     (c .before .before .before .before .before .before .before .before .loop-test .taken) refl
     (c .before .before .before .before .before .wide .ensures) (c .before .before .before .before .subframe .ensures)
-    (c .before .before .put .ensures) (c .before .before .put .kept .0)
+    (c .before .before .put-subframe .ensures) (c .before .before .put-subframe .kept .0)
 
 same-length : tie.Need-same-length Inv-loop μ-loop
 same-length c = c .before .loop .inv .same
@@ -84,4 +84,4 @@ pub fill-in-order-spec : {M : Type 1} → statement M
 fill-in-order-spec =
     tie.close
     (tie.spec Inv-loop μ-loop loop-holds shr-bit mul-subframe shared-slice-read-subframe shared-slice-read-wide (search needs)
-    subframe-requires mul-put put-requires add-slot loop-less loop-again same-length returns)
+    subframe-requires mul-put-subframe put-subframe-requires add-slot loop-less loop-again same-length returns)
