@@ -210,17 +210,17 @@ module _ (number : ℕ) where
       λ i. e0 i ∷ e1 i ∷ e2 i ∷ e3 i ∷ octetsOf 2 number
 
   -- and so they are written, one after the other
-  pub six-put : (at : ℕ) (cell : List ℕ) {cell₁ cell₂ : List ℕ} → at + 6 ≤ length cell
-      → cell₁ ≡ take at cell ++ lowOctets 4 four-turned ++ drop (at + 4) cell
-      → cell₂ ≡ take (at + 4) cell₁ ++ lowOctets 2 two-turned ++ drop (at + 4 + 2) cell₁
+  pub six-put : (at : ℕ) (cell : List ℕ) (x y : ℕ) {cell₁ cell₂ : List ℕ} → at + 6 ≤ length cell → x ≡ four-turned → y ≡ two-turned
+      → cell₁ ≡ take at cell ++ lowOctets 4 x ++ drop (at + 4) cell
+      → cell₂ ≡ take (at + 4) cell₁ ++ lowOctets 2 y ++ drop (at + 4 + 2) cell₁
       → cell₂ ≡ take at cell ++ octetsOf 6 number ++ drop (at + 6) cell
-  six-put at cell {cell₁} room first next =
-      let four = lowOctets 4 four-turned in
+  six-put at cell x y {cell₁} room x-is y-is first next =
+      let four = lowOctets 4 x in
       let front : length (take at cell ++ four) ≡ at + 4
       = length-append (take at cell) four
-      ∙ ap₂ (λ (x y : ℕ). x + y) (length-take-le at cell (omega arith)) (low-length 4 four-turned) in
+      ∙ ap₂ (λ (m n : ℕ). m + n) (length-take-le at cell (omega arith)) (low-length 4 x) in
       next
-      ∙ ap₂ (λ (before after : List ℕ). before ++ lowOctets 2 two-turned ++ after)
+      ∙ ap₂ (λ (before after : List ℕ). before ++ lowOctets 2 y ++ after)
       (ap (take (at + 4)) first ∙ take-at (take at cell ++ four) (drop (at + 4) cell) (at + 4) front)
       (ap (drop (at + 4 + 2)) first
       ∙ ap (λ (n : ℕ). drop (n + 2) (take at cell ++ four ++ drop (at + 4) cell)) (sym front)
@@ -228,9 +228,9 @@ module _ (number : ℕ) where
       ∙ drop-drop 2 (at + 4) cell
       ∙ ap (λ (n : ℕ). drop n cell) (let whole : at + 4 + 2 ≡ at + 6 = omega arith in whole))
       ∙ ap (λ (l : List ℕ). l ++ drop (at + 6) cell)
-      (append-assoc (take at cell) four (lowOctets 2 two-turned)
+      (append-assoc (take at cell) four (lowOctets 2 y)
       ∙ ap (λ (l : List ℕ). take at cell ++ l)
-      (ap₂ (λ (x y : List ℕ). x ++ y) four-octets two-octets ∙ six-octets))
+      (ap₂ (λ (m n : List ℕ). m ++ n) (ap (lowOctets 4) x-is ∙ four-octets) (ap (lowOctets 2) y-is ∙ two-octets) ∙ six-octets))
 
 -- a cell that is filled slot after slot: the slots so far, and then what it held
 module _ (g : ℕ → List ℕ) (w : ℕ) (cell₀ : List ℕ) where

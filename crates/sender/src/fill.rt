@@ -4,7 +4,7 @@
 // loop of each without a shift or a width that varies.
 ghost use mathlib.Core.List.{_++_};
 ghost use mathlib.Core.Path.{_≡_};
-ghost use Prim.Native.Nat.{_+_, _*_, _^_, _≤_, _<_};
+ghost use Prim.Native.Nat.{_+_, _*_, _/_, _%_, _^_, _≤_, _<_};
 ghost use lib.ListN.{length, take, drop};
 ghost use Rattle.runs.specs.Runs.{octetsOf};
 ghost use Rattle.formats.specs.Sound.{Sound};
@@ -70,18 +70,27 @@ fn put_low(cell: &mut [u8], at: usize, count: usize, number: u64)
     }
 }
 
+// Four octets of a number, and two, turned round.
+fn turned_four(x: u64) -> u64
+    ensures { λ r. ⌜ r ≡ x % 256 * 16777216 + x / 256 % 256 * 65536 + x / 65536 % 256 * 256 + x / 16777216 % 256 ⌝ }
+{
+    x % 256 * 16777216 + x / 256 % 256 * 65536 + x / 65536 % 256 * 256 + x / 16777216 % 256
+}
+
+fn turned_two(x: u64) -> u64
+    ensures { λ r. ⌜ r ≡ x % 256 * 256 + x / 256 % 256 ⌝ }
+{
+    x % 256 * 256 + x / 256 % 256
+}
+
 // Writes six octets of a number, the highest first. Four and two are turned round and written lowest first: so they are two stores,
 // where six that are shifted down stay six.
 fn put_six(cell: &mut [u8], at: usize, number: u64)
     requires { ⌜ at + 6 ≤ length (now cell) ⌝ }
     ensures { λ r. ⌜ now (cell .exit) ≡ take at (now (cell .entry)) ++ octetsOf 6 number ++ drop (at + 6) (now (cell .entry)) ⌝ }
 {
-    let high = number / 65536;
-    let four = high % 256 * 16777216
-        + high / 256 % 256 * 65536
-        + high / 65536 % 256 * 256
-        + high / 16777216 % 256;
-    let two = number % 256 * 256 + number / 256 % 256;
+    let four = turned_four(number / 65536);
+    let two = turned_two(number);
     put_low(cell, at, 4, four);
     put_low(cell, at + 4, 2, two);
 }
