@@ -1,28 +1,30 @@
 -- Laws of the usual call: its settings, and that every slot of the cell is an entry.
 -- Assumes nothing.
-use mathlib.Core.Bool.{cond}
+use mathlib.Core.Bool.{false, cond}
 use mathlib.Core.List.{List, _++_}
 use mathlib.Core.Path.{_≡_, refl, sym, _∙_, ap, subst}
 use Prim.Native.Nat.{ℕ, _+_, _*_, _/_, _%_, _^_, _≤_, _<_}
+use native.Mathlib.Nat.{mul-div-cancel}
 use native.Mathlib.Omega.{arith}
 use lib.Dec.{eqb}
 use lib.ListN as L
 use lib.ListN.{length, getD, replicate}
-use Rattle.runs.specs.Runs.{tab, over}
+use Rattle.runs.specs.Runs.{tab, over, written}
 use Rattle.runs.proofs.Filling.{Filled, begun}
+use Rattle.runs.proofs.Laws.{tab-is}
 use Rattle.formats.specs.declared.Format.{Format}
 use Rattle.formats.specs.declared.Settled.{Settled}
 use Rattle.formats.specs.Formats.{settingsOf, usualWith}
-use Rattle.formats.specs.Sound.{Sound}
+use Rattle.formats.specs.Sound.{Sound, Limits}
 use Rattle.formats.proofs.Laws.{usual-is, usual-set}
 use Rattle.numbers.specs.Numbers.{numberIn}
 use Rattle.cells.specs.Cells.{subframeAt, sampleIn, ancillaryIn, markIn, eightIn, entriesOf}
 use Rattle.cells.specs.Placement.{slotOf, slotOfEntry}
-use Rattle.tables.specs.Marks.{MarksOf}
+use Rattle.cells.proofs.Subframes.{four}
 use Rattle.receiver.specs.declared.Receiver.{Receiver}
 use Rattle.receiver.specs.Receiver.{numberNow}
-use Rattle.receiver.specs.Unpacking.{usedIn, ownEntries, twoAt, Unpacks, Writes, Room, Roomy, Usual}
-use Rattle.receiver.proofs.Marking.{sample-over, ancillary-over, mark-on-top}
+use Rattle.receiver.specs.Unpacking.{usedIn, ownEntries, twoAt, Unpacks, Writes, Room, Roomy, Together, OneTurn, straightWith, threes, sixes, Usual}
+use Rattle.receiver.proofs.Marking.{sample-over, ancillary-over}
 use Rattle.receiver.proofs.Reading.{four-read, by-width}
 use Rattle.receiver.proofs.Unpacking.{fill-on, fill-done, own-length, own-at, straight}
 
@@ -49,58 +51,123 @@ sound-usual =
       slots-to = omega arith;
     }
 
+pub record Entered (set : Settled) (cell : List ℕ) (at : ℕ) (samples₀ ancillary₀ marks₀ samples ancillary marks : List ℕ) (i : ℕ) : Type 0 where
+  pub samples-so-far : Filled samples samples₀ at (ownEntries (sampleIn (set .format)) set cell) i
+  pub ancillary-so-far : Filled ancillary ancillary₀ at (ownEntries (ancillaryIn (set .format)) set cell) i
+  pub marks-so-far : Filled marks marks₀ at (ownEntries (markIn (set .format)) set cell) i
+
 -- a slot's subframe, as four octets are read
 pub subframe-is : (cell : List ℕ) (slot : ℕ) {number : ℕ} → length cell ≡ 48 → slot < 12
     → number ≡ twoAt cell (slot * 4) * 65536 + twoAt cell (slot * 4 + 2) → number ≡ subframeAt f cell slot
 subframe-is cell slot whole less e = by-width f cell slot refl (e ∙ four-read cell (slot * 4) (omega arith))
 
--- the three runs while the loop fills them, and its three laws
-module _ (cell : List ℕ) (at : ℕ) (samples₀ ancillary₀ marks₀ : List ℕ) where
-  pub record Entered (samples ancillary marks : List ℕ) (i : ℕ) : Type 0 where
-    pub samples-so-far : Filled samples samples₀ at (ownEntries (sampleIn f) one cell) i
-    pub ancillary-so-far : Filled ancillary ancillary₀ at (ownEntries (ancillaryIn f) one cell) i
-    pub marks-so-far : Filled marks marks₀ at (ownEntries (markIn f) one cell) i
+-- settings with overhead in order 0: the three runs while a loop fills them, and its three laws
+module _ (set : Settled) (in-order : set .«by_channel» ≡ false) (four-a : set .format .ancillary ≡ 4) (four-o : set .format .overhead ≡ 4)
+    (cell : List ℕ) (at : ℕ) (samples₀ ancillary₀ marks₀ : List ℕ)
+  where
+    abbrev g : Format
+    g = set .format
 
-  pub entered-begun : Entered samples₀ ancillary₀ marks₀ 0
-  entered-begun =
+    pub entered-begun : Entered set cell at samples₀ ancillary₀ marks₀ samples₀ ancillary₀ marks₀ 0
+    entered-begun =
+        record {
+          samples-so-far = begun samples₀ at (ownEntries (sampleIn g) set cell);
+          ancillary-so-far = begun ancillary₀ at (ownEntries (ancillaryIn g) set cell);
+          marks-so-far = begun marks₀ at (ownEntries (markIn g) set cell);
+        }
+
+    entry-here : (read : ℕ → ℕ) {i : ℕ} → i < usedIn set → read (subframeAt g cell i) ≡ getD (ownEntries read set cell) i 0
+    entry-here read {i} less =
+        ap (λ (k : ℕ). read (subframeAt g cell k)) (straight set cell in-order i) ∙ own-at set cell read less
+
+    module _ (room : Room at (usedIn set) samples₀ ancillary₀ marks₀) where
+      pub entered-on : {samples ancillary marks : List ℕ} {i word mark : ℕ}
+          → Entered set cell at samples₀ ancillary₀ marks₀ samples ancillary marks i
+          → i < usedIn set
+          → word ≡ subframeAt g cell i
+          → mark ≡ markIn g word
+          → Entered set cell at samples₀ ancillary₀ marks₀ (L.set samples (at + i) (word / 256)) (L.set ancillary (at + i) (word / 16 % 16))
+          (L.set marks (at + i) mark) (i + 1)
+      entered-on {word = word} so-far less word-is mark-is =
+          record {
+            samples-so-far =
+                fill-on samples₀ at _ (own-length set cell (sampleIn g)) (room .samples-room) (so-far .samples-so-far) less
+                (sample-over g four-a four-o word ∙ ap (sampleIn g) word-is ∙ entry-here (sampleIn g) less);
+            ancillary-so-far =
+                fill-on ancillary₀ at _ (own-length set cell (ancillaryIn g)) (room .ancillary-room) (so-far .ancillary-so-far) less
+                (ancillary-over g four-a four-o word ∙ ap (ancillaryIn g) word-is ∙ entry-here (ancillaryIn g) less);
+            marks-so-far =
+                fill-on marks₀ at _ (own-length set cell (markIn g)) (room .marks-room) (so-far .marks-so-far) less
+                (mark-is ∙ ap (markIn g) word-is ∙ entry-here (markIn g) less);
+          }
+
+      pub entered-done : {samples ancillary marks : List ℕ} {i : ℕ}
+          → Entered set cell at samples₀ ancillary₀ marks₀ samples ancillary marks i → usedIn set ≤ i
+          → Unpacks set cell at samples₀ ancillary₀ marks₀ samples ancillary marks
+      entered-done so-far all =
+          record {
+            samples-are = fill-done samples₀ at _ (own-length set cell (sampleIn g)) (room .samples-room) (so-far .samples-so-far) all;
+            ancillary-is = fill-done ancillary₀ at _ (own-length set cell (ancillaryIn g)) (room .ancillary-room) (so-far .ancillary-so-far) all;
+            marks-are = fill-done marks₀ at _ (own-length set cell (markIn g)) (room .marks-room) (so-far .marks-so-far) all;
+          }
+
+-- settings whose subframes are so wide: their format, and the same entries by its numbers alone
+module _ {set : Settled} {width : ℕ} (limits : Limits set) (together : Together (set .format)) (turn : OneTurn set width) where
+  pub turn-format : {f : Format} → f .ancillary ≡ 4 → f .overhead ≡ 4 → f .width ≡ width → f .sample + 8 ≡ 8 * width → f .slots * width ≡ 48
+      → f ≡ set .format
+  turn-format {f} a o w n k =
+      let sound = limits .sound in
+      let overhead : set .format .overhead ≡ 4 = four sound (turn .guarded) in
+      let ancillary : set .format .ancillary ≡ 4 = together (turn .guarded) in
+      let sample : f .sample ≡ set .format .sample = omega (arith, sound .bits, overhead, ancillary, turn .width-is) in
+      let from : 1 ≤ width = omega (arith, sound .width-from, turn .width-is) in
+      let slots : f .slots ≡ set .format .slots
+      = sym (mul-div-cancel (f .slots) from)
+      ∙ ap (λ (x : ℕ). x / width) (k ∙ sym (sound .cell) ∙ ap (λ (x : ℕ). set .format .slots * x) (turn .width-is))
+      ∙ mul-div-cancel (set .format .slots) from in
+      λ i.
       record {
-        samples-so-far = begun samples₀ at (ownEntries (sampleIn f) one cell);
-        ancillary-so-far = begun ancillary₀ at (ownEntries (ancillaryIn f) one cell);
-        marks-so-far = begun marks₀ at (ownEntries (markIn f) one cell);
+        sample = sample i;
+        ancillary = (a ∙ sym ancillary) i;
+        overhead = (o ∙ sym overhead) i;
+        width = (w ∙ sym (turn .width-is)) i;
+        slots = slots i;
       }
 
-  entry-here : (read : ℕ → ℕ) {i : ℕ} → i < 12 → read (subframeAt f cell i) ≡ getD (ownEntries read one cell) i 0
-  entry-here read {i} less =
-      ap (λ (k : ℕ). read (subframeAt f cell k)) (straight one cell refl i) ∙ own-at one cell read less
+  module _ {f : Format} {used : ℕ} (format-is : f ≡ set .format) (used-is : used ≡ usedIn set) (cell : List ℕ) where
+    straight-own : (read : Format → ℕ → ℕ) → ownEntries (read f) (straightWith f used) cell ≡ ownEntries (read (set .format)) set cell
+    unfolding entriesOf
+    straight-own read =
+        ap (λ (x : Format). ownEntries (read x) (straightWith x used) cell) format-is
+        ∙ tab-is _ (used * 1) (ownEntries (read (set .format)) set cell) (own-length set cell (read (set .format)) ∙ omega (arith, used-is))
+        (λ i less.
+        ap (λ (k : ℕ). read (set .format) (subframeAt (set .format) cell k))
+        (sym (straight (straightWith (set .format) used) cell refl i) ∙ straight set cell (turn .in-order) i)
+        ∙ own-at set cell (read (set .format)) (omega (arith, used-is)))
 
-  module _ (room : Room at 12 samples₀ ancillary₀ marks₀) where
-    pub entered-on : {samples ancillary marks : List ℕ} {i word : ℕ} (bits : ℕ) → Entered samples ancillary marks i → i < 12
-        → word ≡ subframeAt f cell i
-        → word < 4294967296
-        → MarksOf (word / 8388608 % 512) bits
-        → Entered (L.set samples (at + i) (word / 256)) (L.set ancillary (at + i) (word / 16 % 16))
-        (L.set marks (at + i) (bits / 2 ^ (word % 32) % 2)) (i + 1)
-    entered-on {word = word} bits so-far less word-is fits marked =
+    pub unpacks-as : {at : ℕ} {samples ancillary marks samples₁ ancillary₁ marks₁ : List ℕ}
+        → Unpacks (straightWith f used) cell at samples ancillary marks samples₁ ancillary₁ marks₁
+        → Unpacks set cell at samples ancillary marks samples₁ ancillary₁ marks₁
+    unpacks-as {at} {samples} {ancillary} {marks} did =
         record {
-          samples-so-far =
-              fill-on samples₀ at _ (own-length one cell (sampleIn f)) (room .samples-room) (so-far .samples-so-far) less
-              (sample-over f refl refl word ∙ ap (sampleIn f) word-is ∙ entry-here (sampleIn f) less);
-          ancillary-so-far =
-              fill-on ancillary₀ at _ (own-length one cell (ancillaryIn f)) (room .ancillary-room) (so-far .ancillary-so-far) less
-              (ancillary-over f refl refl word ∙ ap (ancillaryIn f) word-is ∙ entry-here (ancillaryIn f) less);
-          marks-so-far =
-              fill-on marks₀ at _ (own-length one cell (markIn f)) (room .marks-room) (so-far .marks-so-far) less
-              (mark-on-top f refl refl word refl fits bits marked ∙ ap (markIn f) word-is ∙ entry-here (markIn f) less);
+          samples-are = did .samples-are ∙ ap (written samples at) (straight-own sampleIn);
+          ancillary-is = did .ancillary-is ∙ ap (written ancillary at) (straight-own ancillaryIn);
+          marks-are = did .marks-are ∙ ap (written marks at) (straight-own markIn);
         }
 
-    pub entered-done : {samples ancillary marks : List ℕ} {i : ℕ} → Entered samples ancillary marks i → 12 ≤ i
-        → Unpacks one cell at samples₀ ancillary₀ marks₀ samples ancillary marks
-    entered-done so-far all =
-        record {
-          samples-are = fill-done samples₀ at _ (own-length one cell (sampleIn f)) (room .samples-room) (so-far .samples-so-far) all;
-          ancillary-is = fill-done ancillary₀ at _ (own-length one cell (ancillaryIn f)) (room .ancillary-room) (so-far .ancillary-so-far) all;
-          marks-are = fill-done marks₀ at _ (own-length one cell (markIn f)) (room .marks-room) (so-far .marks-so-far) all;
-        }
+-- of three octets, and of six
+pub turns : {set : Settled} {result : ℕ} (width : ℕ) → ((result ≡ 0 → ⊥) → OneTurn set result) → result ≡ width → 1 ≤ width → OneTurn set width
+turns {set} width told is from = subst (OneTurn set) is (told (λ none. omega (arith, is, none)))
+
+module _ {set : Settled} (limits : Limits set) (together : Together (set .format)) where
+  pub threes-are : OneTurn set 3 → threes ≡ set .format
+  threes-are turn = turn-format limits together turn refl refl refl refl refl
+
+  pub sixes-are : OneTurn set 6 → sixes ≡ set .format
+  sixes-are turn = turn-format limits together turn refl refl refl refl refl
+
+  pub turn-used : {f : Format} → f ≡ set .format → set .channels * set .times ≤ f .slots
+  turn-used is = rw (ap (λ (x : Format). x .slots) is) (limits .used-in)
 
 -- with two channels the entries are the same
 own-two : (read : ℕ → ℕ) (cell : List ℕ) → ownEntries read one cell ≡ ownEntries read (usualWith 2 6) cell

@@ -2,7 +2,7 @@
 -- Assumes nothing.
 use mathlib.Core.Bool.{cond}
 use mathlib.Core.Path.{_≡_, sym, _∙_, ap, ap₂}
-use Prim.Native.Nat.{ℕ, _+_, _*_, _/_, _%_, _^_, _<_}
+use Prim.Native.Nat.{ℕ, _+_, _*_, _/_, _%_, _-_, _^_, _≤_, _<_}
 use native.Mathlib.Nat.{mod-lt}
 use native.Mathlib.Omega.{arith}
 use borrow.Author.Tests.{ne-eqb}
@@ -66,11 +66,8 @@ module _ (f : Format) (ancillary-four : f .ancillary ≡ 4) (overhead-four : f .
       let few : nineOf (f .sample) (subframe / 256) < 512 = nine-lt (f .sample) (subframe / 256) in
       mark-by bits (λ low less. (rw nine-is at marks) low less ∙ fold-marks few less)
 
-  -- a subframe of 56 hex has its nine bits on top
-  pub mark-on-top : f .sample ≡ 24 → subframe < 4294967296 → (bits : ℕ) → MarksOf (subframe / 8388608 % 512) bits
-      → bits / 2 ^ (subframe % 32) % 2 ≡ markIn f subframe
-  mark-on-top length-is less bits marks =
-      let top : subframe / 8388608 % 512 ≡ subframe / 256 / 32768 % 512 = omega arith in
-      let nine-is : subframe / 8388608 % 512 ≡ nineOf (f .sample) (subframe / 256)
-      = top ∙ nine-long (subframe / 256) 24 (omega arith) ∙ ap (λ (n : ℕ). nineOf n (subframe / 256)) (sym length-is) in
-      mark-by bits (rw nine-is at marks)
+  -- a subframe has its nine bits on top
+  pub mark-on-top : (n top : ℕ) → f .sample ≡ n → 9 ≤ n → top % 512 ≡ subframe / 256 / 2 ^ (n - 9) % 512 → (bits : ℕ)
+      → MarksOf (top % 512) bits → bits / 2 ^ (subframe % 32) % 2 ≡ markIn f subframe
+  mark-on-top n top length-is from top-is bits marks =
+      mark-by bits (rw (top-is ∙ nine-long (subframe / 256) n from ∙ ap (λ (k : ℕ). nineOf k (subframe / 256)) (sym length-is)) at marks)

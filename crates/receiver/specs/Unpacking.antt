@@ -1,6 +1,6 @@
 -- What unpacking asks and leaves, told of the settings.
 -- Assumes nothing.
-use mathlib.Core.Bool.{true, cond}
+use mathlib.Core.Bool.{true, false, cond}
 use mathlib.Core.List.{List, _++_}
 use mathlib.Core.Path.{_≡_}
 use Prim.Native.Nat.{ℕ, _+_, _*_, _-_, _≤_}
@@ -51,6 +51,22 @@ Roomy set at samples ancillary marks = Room at (usedIn set) samples ancillary ma
 -- overhead alone is "not yet in the base"
 abbrev pub Together : Format → Type 0
 Together f = (f .overhead ≡ 0 → ⊥) → f .ancillary ≡ 4
+
+-- settings whose subframes, so many octets wide, have overhead and stand in order 0
+pub record OneTurn (set : Settled) (width : ℕ) : Type 0 where
+  pub in-order : set .«by_channel» ≡ false
+  pub guarded : set .format .overhead ≡ 0 → ⊥
+  pub width-is : set .format .width ≡ width
+
+-- settings of so many entries in order 0; subframes of three octets and of six, with overhead
+abbrev pub straightWith : Format → ℕ → Settled
+straightWith f used = record { refusal = 0; format = f; channels = used; times = 1; «by_channel» = false }
+
+abbrev pub threes : Format
+threes = record { sample = 16; ancillary = 4; overhead = 4; width = 3; slots = 16 }
+
+abbrev pub sixes : Format
+sixes = record { sample = 40; ancillary = 4; overhead = 4; width = 6; slots = 8 }
 
 -- the number of two octets
 abbrev pub twoAt : List ℕ → ℕ → ℕ

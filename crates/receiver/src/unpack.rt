@@ -15,6 +15,10 @@ ghost use Rattle.receiver.specs.Unpacking.{
   Room,
   Misses,
   Together,
+  OneTurn,
+  straightWith,
+  threes,
+  sixes,
   twoAt,
   nextSlot,
   held,
@@ -65,6 +69,14 @@ fn turned4(x: u64) -> u64
     x % 256 * 16777216 + x / 256 % 256 * 65536 + x / 65536 % 256 * 256 + x / 16777216 % 256
 }
 
+// Six octets, as four and two.
+fn in6(octets: &[u8], at: usize) -> u64
+    requires { ⌜ at + 6 ≤ length (now octets) ⌝ }
+    ensures { λ r. ⌜ (r ≡ (twoAt (now (octets .entry)) at * 65536 + twoAt (now (octets .entry)) (at + 2)) * 65536 + twoAt (now (octets .entry)) (at + 4)) × (r < 281474976710656) ⌝ }
+{
+    in4(octets, at) * 65536 + in2(octets, at + 4)
+}
+
 // The subframe of a slot. A loop over slots is compiled once for each width, since these are ifs and no match.
 fn subframe_in(format: Format, cell: &[u8], slot: usize) -> u64
     requires { ⌜ Sound format × (length (now cell) ≡ 48) × (slot < format .slots) ⌝ }
@@ -81,7 +93,7 @@ fn subframe_in(format: Format, cell: &[u8], slot: usize) -> u64
         return in2(cell, slot * 2);
     }
     if width == 6 {
-        return in4(cell, slot * 6) * 65536 + in2(cell, slot * 6 + 4);
+        return in6(cell, slot * 6);
     }
     cell[slot] as u64
 }
@@ -302,6 +314,65 @@ fn parts(
     split_bare(at, used, samples, ancillary);
 }
 
+// The width of subframes that are read, taken apart and marked in one turn of a loop of their own: with overhead in order 0. 0 for any
+// others.
+fn one_turn(set: Settled) -> usize
+    ensures { λ r. ⌜ ((r ≡ 0 → ⊥) → OneTurn set r) ⌝ }
+{
+    if set.by_channel {
+        return 0;
+    }
+    if set.format.overhead == 0 {
+        return 0;
+    }
+    set.format.width
+}
+
+// The cell's own entries, subframes of three octets.
+fn own_three(
+    cell: &[u8],
+    at: usize,
+    used: usize,
+    samples: &mut [u64],
+    ancillary: &mut [u8],
+    marks: &mut [u8],
+)
+    requires { ⌜ (used ≤ 16) × (length (now cell) ≡ 48) × Room at used (now samples) (now ancillary) (now marks) ⌝ }
+    ensures { λ r. ⌜ Unpacks (straightWith threes used) (now (cell .entry)) at (now (samples .entry)) (now (ancillary .entry)) (now (marks .entry)) (now (samples .exit)) (now (ancillary .exit)) (now (marks .exit)) ⌝ }
+{
+    let mut i = 0;
+    while i < used {
+        let subframe = in3(cell, i * 3);
+        samples[at + i] = subframe / 256;
+        ancillary[at + i] = (subframe / 16 % 16) as u8;
+        marks[at + i] = ((tables::marks_in_three(subframe / 32768) >> (subframe % 32)) % 2) as u8;
+        i += 1;
+    }
+}
+
+// The same, subframes of six.
+fn own_six(
+    cell: &[u8],
+    at: usize,
+    used: usize,
+    samples: &mut [u64],
+    ancillary: &mut [u8],
+    marks: &mut [u8],
+)
+    requires { ⌜ (used ≤ 8) × (length (now cell) ≡ 48) × Room at used (now samples) (now ancillary) (now marks) ⌝ }
+    ensures { λ r. ⌜ Unpacks (straightWith sixes used) (now (cell .entry)) at (now (samples .entry)) (now (ancillary .entry)) (now (marks .entry)) (now (samples .exit)) (now (ancillary .exit)) (now (marks .exit)) ⌝ }
+{
+    let mut i = 0;
+    while i < used {
+        let subframe = in6(cell, i * 6);
+        samples[at + i] = subframe / 256;
+        ancillary[at + i] = (subframe / 16 % 16) as u8;
+        marks[at + i] = ((tables::marks_in_six(subframe / 549755813888) >> (subframe % 32))
+            % 2) as u8;
+        i += 1;
+    }
+}
+
 // Writes the cell's own entries to the three runs from `at` on.
 fn own_entries(
     set: Settled,
@@ -314,8 +385,17 @@ fn own_entries(
     requires { ⌜ Limits set × Together (set .format) × (length (now cell) ≡ 48) × Room at (usedIn set) (now samples) (now ancillary) (now marks) ⌝ }
     ensures { λ r. ⌜ Unpacks set (now (cell .entry)) at (now (samples .entry)) (now (ancillary .entry)) (now (marks .entry)) (now (samples .exit)) (now (ancillary .exit)) (now (marks .exit)) ⌝ }
 {
-    let format = set.format;
+    let width = one_turn(set);
     let used = set.channels * set.times;
+    if width == 3 {
+        own_three(cell, at, used, samples, ancillary, marks);
+        return;
+    }
+    if width == 6 {
+        own_six(cell, at, used, samples, ancillary, marks);
+        return;
+    }
+    let format = set.format;
     subframes(set, cell, at, samples);
     parts(format, at, used, samples, ancillary, marks);
 }

@@ -12,6 +12,10 @@ use Rattle.tables.proofs.marks_of.Kinds as marks-of-kinds
 use Rattle.tables.proofs.marks_of.Reads as marks-of-reads
 use Rattle.tables.proofs.marks_at.Kinds as marks-at-kinds
 use Rattle.tables.proofs.marks_at.Reads as marks-at-reads
+use Rattle.tables.proofs.marks_in_six.Kinds as marks-in-six-kinds
+use Rattle.tables.proofs.marks_in_six.Reads as marks-in-six-reads
+use Rattle.tables.proofs.marks_in_three.Kinds as marks-in-three-kinds
+use Rattle.tables.proofs.marks_in_three.Reads as marks-in-three-reads
 
 pub guard-of-one : One guard-of-kinds.ps guard-of-kinds.r guard-of-reads.Pre guard-of-reads.Post
 guard-of-one κs a x y v w pre p q = (p ∙ sym q, refl)
@@ -24,3 +28,9 @@ marks-of-one κs a x y v w pre p q = (one-number _ p q, refl)
 
 pub marks-at-one : One marks-at-kinds.ps marks-at-kinds.r marks-at-reads.Pre marks-at-reads.Post
 marks-at-one κs a x y v w pre p q = (one-number _ p q, refl)
+
+pub marks-in-three-one : One marks-in-three-kinds.ps marks-in-three-kinds.r marks-in-three-reads.Pre marks-in-three-reads.Post
+marks-in-three-one κs a x y v w pre p q = (one-number _ p q, refl)
+
+pub marks-in-six-one : One marks-in-six-kinds.ps marks-in-six-kinds.r marks-in-six-reads.Pre marks-in-six-reads.Post
+marks-in-six-one κs a x y v w pre p q = (one-number _ p q, refl)

@@ -61,48 +61,22 @@ returns-3 c =
     (c .before .if3 .taken)
     (c .in2 .ensures .0 ∙ two-read (now (s .args .cell)) (s .args .slot * 2) (slot-at (given .0) (now (c .before .before .before .before .before .args .cell)) (given .1) (given .2) (c .before .if3 .taken)))
 
-mul-in4-2 : tie.Need-mul-in4-2
-mul-in4-2 c =
+mul-in6 : tie.Need-mul-in6
+mul-in6 c =
     let given = c .before .before .before .before .before .pre in
-    omega
-    (arith, slot-at (given .0) (now (c .before .before .before .before .before .args .cell)) (given .1) (given .2) (c .if4 .taken))
+    omega (arith, slot-at (given .0) (now (c .before .before .before .before .before .args .cell)) (given .1) (given .2) (c .if4 .taken))
 
-in4-requires-2 : tie.Need-in4-requires-2
-in4-requires-2 c κs =
+in6-requires : tie.Need-in6-requires
+in6-requires c κs =
     let given = c .before .before .before .before .before .pre in
-    omega
-    (arith, slot-at (given .0) (now (c .before .before .before .before .before .args .cell)) (given .1) (given .2) (c .if4 .taken))
-
-mul-result : tie.Need-mul-result
-mul-result c = omega (arith, c .in42 .ensures .1)
-
-mul-in2-2 : tie.Need-mul-in2-2
-mul-in2-2 c =
-    let given = c .before .before .before .before .before .before .pre in
-    omega
-    (arith, slot-at (given .0) (now (c .before .before .before .before .before .before .args .cell)) (given .1) (given .2) (c .before .if4 .taken))
-
-add-in2 : tie.Need-add-in2
-add-in2 c =
-    let given = c .before .before .before .before .before .before .pre in
-    omega
-    (arith, slot-at (given .0) (now (c .before .before .before .before .before .before .args .cell)) (given .1) (given .2) (c .before .if4 .taken))
-
-in2-requires-2 : tie.Need-in2-requires-2
-in2-requires-2 c κs =
-    let given = c .before .before .before .before .before .before .pre in
-    omega
-    (arith, slot-at (given .0) (now (c .before .before .before .before .before .before .args .cell)) (given .1) (given .2) (c .before .if4 .taken))
-
-add-result : tie.Need-add-result
-add-result c = omega (arith, c .in22 .ensures .1, c .before .in42 .ensures .1)
+    slot-at (given .0) (now (c .before .before .before .before .before .args .cell)) (given .1) (given .2) (c .if4 .taken)
 
 returns-4 : tie.Need-returns-4
 returns-4 c =
-    let given = c .before .before .before .before .before .before .before .pre in
-    let s = c .before .before .before .before .before .before .before in by-width (s .args .format) (now (s .args .cell))
-    (s .args .slot) (c .before .before .if4 .taken)
-    (ap₂ (λ (m n : ℕ). m * 65536 + n) (c .before .in42 .ensures .0) (c .in22 .ensures .0) ∙ six-read (now (s .args .cell)) (s .args .slot * 6) (slot-at (given .0) (now (c .before .before .before .before .before .before .before .args .cell)) (given .1) (given .2) (c .before .before .if4 .taken)))
+    let s = c .before .before .before .before .before .before in
+    by-width (s .args .format) (now (s .args .cell)) (s .args .slot) (c .before .if4 .taken)
+    (c .in6 .ensures .0
+    ∙ six-read (now (s .args .cell)) (s .args .slot * 6) (slot-at (s .pre .0) (now (s .args .cell)) (s .pre .1) (s .pre .2) (c .before .if4 .taken)))
 
 shared-slice-read-result : tie.Need-shared-slice-read-result
 shared-slice-read-result c =
@@ -133,13 +107,8 @@ subframe-in-spec =
     mul-in2
     in2-requires
     returns-3
-    mul-in4-2
-    in4-requires-2
-    mul-result
-    mul-in2-2
-    add-in2
-    in2-requires-2
-    add-result
+    mul-in6
+    in6-requires
     returns-4
     shared-slice-read-result
     cast-result

@@ -1,23 +1,26 @@
 -- `receiver::usual::own_entries` meets its contract.
 -- Assumes nothing.
-use Prim.Native.Nat.{_-_}
+use mathlib.Core.Path.{_≡_, refl}
+use Prim.Native.Nat.{_/_, _%_, _-_}
 use native.Mathlib.Omega.{arith}
 use denote.Ref.{now}
 use borrow.Author.Needs.{needs}
+use Rattle.formats.specs.Formats.{usualWith}
+use Rattle.receiver.proofs.Marking.{mark-on-top}
 use Rattle.receiver.proofs.AllSlots.{subframe-is, Entered, entered-begun, entered-on, entered-done}
 use Rattle.receiver.proofs.usual.own_entries.Statement.{statement}
 use Rattle.receiver.proofs.usual.own_entries.Tie as tie
 
 abbrev Inv-loop : tie.InvT-loop
 Inv-loop cell at samples₀ ancillary₀ marks₀ i₀ samples ancillary marks i =
-    Entered cell at samples₀ ancillary₀ marks₀ samples ancillary marks i
+    Entered (usualWith 1 12) cell at samples₀ ancillary₀ marks₀ samples ancillary marks i
 
 abbrev μ-loop : tie.MeasureT-loop
 μ-loop cell at samples₀ ancillary₀ marks₀ i₀ samples ancillary marks i = 12 - i
 
 loop-holds : tie.Need-loop-holds Inv-loop μ-loop
 loop-holds c =
-    let a = c .before .before .before .before .args in entered-begun (now (a .cell)) (a .at) (now (a .samples)) (now (a .ancillary)) (now (a .marks))
+    let a = c .before .before .before .before .args in entered-begun (usualWith 1 12) refl refl refl (now (a .cell)) (a .at) (now (a .samples)) (now (a .ancillary)) (now (a .marks))
 
 mul-in4 : tie.Need-mul-in4 Inv-loop μ-loop
 mul-in4 c = omega (arith, c .loop-test .taken)
@@ -64,10 +67,12 @@ loop-less c = omega (arith, c .before .before .loop-test .taken)
 loop-again : tie.Need-loop-again Inv-loop μ-loop
 loop-again c =
     let s = c .before .before .before .before .before .before .before .before in
-    entered-on (now (s .args .cell)) (s .args .at) (now (s .args .samples)) (now (s .args .ancillary)) (now (s .args .marks)) (s .pre .1)
-    (c .marks-at .result) (c .before .before .before .loop .inv) (c .before .before .loop-test .taken)
+    let word = c .before .in4 .result in
+    entered-on (usualWith 1 12) refl refl refl (now (s .args .cell)) (s .args .at) (now (s .args .samples)) (now (s .args .ancillary))
+    (now (s .args .marks)) (s .pre .1) (c .before .before .before .loop .inv) (c .before .before .loop-test .taken)
     (subframe-is (now (s .args .cell)) (c .before .before .before .loop .i) (s .pre .0) (c .before .before .loop-test .taken) (c .before .in4 .ensures .0))
-    (c .before .in4 .ensures .1) (c .marks-at .ensures .0)
+    (mark-on-top (usualWith 1 12 .format) refl refl word 24 (word / 8388608) refl (omega arith)
+    (let top : word / 8388608 % 512 ≡ word / 256 / 32768 % 512 = omega arith in top) (c .marks-at .result) (c .marks-at .ensures .0))
 
 same-length : tie.Need-same-length Inv-loop μ-loop
 same-length c = c .before .loop .inv .samples-so-far .same
@@ -81,7 +86,7 @@ same-length-3 c = c .before .loop .inv .marks-so-far .same
 returns : tie.Need-returns Inv-loop μ-loop
 returns c =
     let s = c .before .before .before .before .before .before in
-    entered-done (now (s .args .cell)) (s .args .at) (now (s .args .samples)) (now (s .args .ancillary)) (now (s .args .marks)) (s .pre .1)
+    entered-done (usualWith 1 12) refl refl refl (now (s .args .cell)) (s .args .at) (now (s .args .samples)) (now (s .args .ancillary)) (now (s .args .marks)) (s .pre .1)
     (c .before .loop .inv) (c .loop-test .left)
 
 pub own-entries-spec : {M : Type 1} → statement M

@@ -1,0 +1,115 @@
+-- `receiver::unpack::own_six` meets its contract.
+-- Assumes nothing.
+use mathlib.Core.List.{List}
+use mathlib.Core.Path.{_≡_, refl, _∙_}
+use Prim.Native.Nat.{ℕ, _*_, _/_, _%_, _-_, _≤_, _<_}
+use native.Mathlib.Omega.{arith}
+use denote.Ref.{now}
+use borrow.Author.Needs.{needs}
+use Rattle.receiver.specs.Unpacking.{Room, straightWith, sixes}
+use Rattle.receiver.proofs.Marking.{mark-on-top}
+use Rattle.receiver.proofs.Reading.{by-width, six-read}
+use Rattle.receiver.proofs.AllSlots.{Entered, entered-begun, entered-on, entered-done}
+use Rattle.receiver.proofs.unpack.own_six.Statement.{statement}
+use Rattle.receiver.proofs.unpack.own_six.Tie as tie
+
+-- used entries, as settings count them
+room : {at used : ℕ} {samples ancillary marks : List ℕ} → Room at used samples ancillary marks → Room at (used * 1) samples ancillary marks
+room r =
+    record {
+      samples-room = omega (arith, r .samples-room);
+      ancillary-room = omega (arith, r .ancillary-room);
+      marks-room = omega (arith, r .marks-room);
+    }
+
+on : {i used : ℕ} → i < used → i < used * 1
+on less = omega arith
+
+past : {i used : ℕ} → used ≤ i → used * 1 ≤ i
+past all = omega arith
+
+abbrev Inv-loop : tie.InvT-loop
+Inv-loop cell at used samples₀ ancillary₀ marks₀ i₀ samples ancillary marks i =
+    Entered (straightWith sixes used) cell at samples₀ ancillary₀ marks₀ samples ancillary marks i
+
+abbrev μ-loop : tie.MeasureT-loop
+μ-loop cell at used samples₀ ancillary₀ marks₀ i₀ samples ancillary marks i = used - i
+
+loop-holds : tie.Need-loop-holds Inv-loop μ-loop
+loop-holds c =
+    let a = c .before .before .before .before .args in entered-begun (straightWith sixes (a .used)) refl refl refl (now (a .cell)) (a .at) (now (a .samples)) (now (a .ancillary)) (now (a .marks))
+
+mul-in6 : tie.Need-mul-in6 Inv-loop μ-loop
+mul-in6 c = omega (arith, c .before .before .before .before .before .before .pre .0, c .loop-test .taken)
+
+in6-requires : tie.Need-in6-requires Inv-loop μ-loop
+in6-requires c κs = omega (arith, c .before .before .before .before .before .before .pre .0, c .before .before .before .before .before .before .pre .1, c .loop-test .taken)
+
+add-samples : tie.Need-add-samples Inv-loop μ-loop
+add-samples c = omega (arith, c .before .before .before .before .before .before .before .pre .2 .samples-room, c .before .loop-test .taken)
+
+mul-samples : tie.Need-mul-samples Inv-loop μ-loop
+mul-samples c = omega (arith, c .before .before .before .before .before .before .before .pre .2 .samples-room, c .before .loop-test .taken, c .before .before .before .before .before .before .before .good)
+
+slice-write-samples : tie.Need-slice-write-samples Inv-loop μ-loop
+slice-write-samples c = omega (arith, c .before .before .before .before .before .before .before .pre .2 .samples-room, c .before .loop-test .taken, c .before .before .loop .inv .samples-so-far .same)
+
+cast-ancillary : tie.Need-cast-ancillary Inv-loop μ-loop
+cast-ancillary c = omega arith
+
+add-ancillary : tie.Need-add-ancillary Inv-loop μ-loop
+add-ancillary c = omega (arith, c .before .before .before .before .before .before .before .pre .2 .ancillary-room, c .before .loop-test .taken)
+
+slice-write-ancillary : tie.Need-slice-write-ancillary Inv-loop μ-loop
+slice-write-ancillary c = omega (arith, c .before .before .before .before .before .before .before .pre .2 .ancillary-room, c .before .loop-test .taken, c .before .before .loop .inv .ancillary-so-far .same)
+
+shr-marks : tie.Need-shr-marks Inv-loop μ-loop
+shr-marks c = omega arith
+
+cast-marks : tie.Need-cast-marks Inv-loop μ-loop
+cast-marks c = omega arith
+
+add-marks : tie.Need-add-marks Inv-loop μ-loop
+add-marks c = omega (arith, c .before .before .before .before .before .before .before .before .pre .2 .marks-room, c .before .before .loop-test .taken)
+
+slice-write-marks : tie.Need-slice-write-marks Inv-loop μ-loop
+slice-write-marks c = omega (arith, c .before .before .before .before .before .before .before .before .pre .2 .marks-room, c .before .before .loop-test .taken, c .before .before .before .loop .inv .marks-so-far .same)
+
+add-i : tie.Need-add-i Inv-loop μ-loop
+add-i c = omega (arith, c .before .before .loop-test .taken)
+
+loop-less : tie.Need-loop-less Inv-loop μ-loop
+loop-less c = omega (arith, c .before .before .loop-test .taken)
+
+loop-again : tie.Need-loop-again Inv-loop μ-loop
+loop-again c =
+    let s = c .before .before .before .before .before .before .before .before in
+    let word = c .before .in6 .result in
+    entered-on (straightWith sixes (s .args .used)) refl refl refl (now (s .args .cell)) (s .args .at) (now (s .args .samples)) (now (s .args .ancillary))
+    (now (s .args .marks)) (room (s .pre .2)) (c .before .before .before .loop .inv) (on (c .before .before .loop-test .taken))
+    (by-width sixes (now (s .args .cell)) (c .before .before .before .loop .i) refl
+    (c .before .in6 .ensures .0 ∙ six-read (now (s .args .cell)) (c .before .before .before .loop .i * 6) (omega (arith, s .pre .0, s .pre .1, c .before .before .loop-test .taken))))
+    (mark-on-top sixes refl refl word 40 (word / 549755813888) refl (omega arith)
+    (let top : word / 549755813888 % 512 ≡ word / 256 / 2147483648 % 512 = omega arith in top) (c .marks-in-six .result) (c .marks-in-six .ensures .0))
+
+same-length : tie.Need-same-length Inv-loop μ-loop
+same-length c = c .before .loop .inv .samples-so-far .same
+
+same-length-2 : tie.Need-same-length-2 Inv-loop μ-loop
+same-length-2 c = c .before .loop .inv .ancillary-so-far .same
+
+same-length-3 : tie.Need-same-length-3 Inv-loop μ-loop
+same-length-3 c = c .before .loop .inv .marks-so-far .same
+
+returns : tie.Need-returns Inv-loop μ-loop
+returns c =
+    let s = c .before .before .before .before .before .before in
+    entered-done (straightWith sixes (s .args .used)) refl refl refl (now (s .args .cell)) (s .args .at) (now (s .args .samples)) (now (s .args .ancillary)) (now (s .args .marks)) (room (s .pre .2))
+    (c .before .loop .inv) (past (c .loop-test .left))
+
+pub own-six-spec : {M : Type 1} → statement M
+own-six-spec =
+    tie.close
+    (tie.spec Inv-loop μ-loop loop-holds mul-in6 in6-requires add-samples mul-samples slice-write-samples cast-ancillary
+    add-ancillary slice-write-ancillary (search needs) shr-marks cast-marks add-marks slice-write-marks add-i loop-less loop-again
+    same-length same-length-2 same-length-3 returns)
