@@ -3,7 +3,7 @@
 use mathlib.Core.Bool.{false, cond}
 use mathlib.Core.List.{List, _++_}
 use mathlib.Core.Path.{_≡_, refl, sym, _∙_, ap, subst}
-use Prim.Native.Nat.{ℕ, _+_, _*_, _/_, _%_, _^_, _≤_, _<_}
+use Prim.Native.Nat.{ℕ, _+_, _*_, _/_, _%_, _≤_, _<_}
 use native.Mathlib.Nat.{mul-div-cancel}
 use native.Mathlib.Omega.{arith}
 use lib.Dec.{eqb}
@@ -110,6 +110,22 @@ module _ (set : Settled) (in-order : set .«by_channel» ≡ false) (four-a : se
             ancillary-is = fill-done ancillary₀ at _ (own-length set cell (ancillaryIn g)) (room .ancillary-room) (so-far .ancillary-so-far) all;
             marks-are = fill-done marks₀ at _ (own-length set cell (markIn g)) (room .marks-room) (so-far .marks-so-far) all;
           }
+
+-- entries of a loop that counts them alone, as settings count them
+pub room-straight : {at used : ℕ} {samples ancillary marks : List ℕ} → Room at used samples ancillary marks
+    → Room at (used * 1) samples ancillary marks
+room-straight r =
+    record {
+      samples-room = omega (arith, r .samples-room);
+      ancillary-room = omega (arith, r .ancillary-room);
+      marks-room = omega (arith, r .marks-room);
+    }
+
+pub within-straight : {i used : ℕ} → i < used → i < used * 1
+within-straight less = omega arith
+
+pub past-straight : {i used : ℕ} → used ≤ i → used * 1 ≤ i
+past-straight all = omega arith
 
 -- settings whose subframes are so wide: their format, and the same entries by its numbers alone
 module _ {set : Settled} {width : ℕ} (limits : Limits set) (together : Together (set .format)) (turn : OneTurn set width) where

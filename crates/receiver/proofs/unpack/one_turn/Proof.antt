@@ -1,7 +1,6 @@
 -- `receiver::unpack::one_turn` meets its contract.
 -- Assumes nothing.
 use mathlib.Core.Path.{refl}
-use borrow.Author.Needs.{needs}
 use Rattle.receiver.proofs.unpack.one_turn.Statement.{statement}
 use Rattle.receiver.proofs.unpack.one_turn.Tie as tie
 

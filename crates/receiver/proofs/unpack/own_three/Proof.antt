@@ -1,32 +1,24 @@
 -- `receiver::unpack::own_three` meets its contract.
 -- Assumes nothing.
-use mathlib.Core.List.{List}
 use mathlib.Core.Path.{_≡_, refl, _∙_}
-use Prim.Native.Nat.{ℕ, _*_, _/_, _%_, _-_, _≤_, _<_}
+use Prim.Native.Nat.{_*_, _/_, _%_, _-_}
 use native.Mathlib.Omega.{arith}
 use denote.Ref.{now}
 use borrow.Author.Needs.{needs}
-use Rattle.receiver.specs.Unpacking.{Room, straightWith, threes}
+use Rattle.receiver.specs.Unpacking.{straightWith, threes}
 use Rattle.receiver.proofs.Marking.{mark-on-top}
 use Rattle.receiver.proofs.Reading.{by-width, three-read}
-use Rattle.receiver.proofs.AllSlots.{Entered, entered-begun, entered-on, entered-done}
+use Rattle.receiver.proofs.AllSlots.{
+  Entered,
+  entered-begun,
+  entered-on,
+  entered-done,
+  room-straight,
+  within-straight,
+  past-straight,
+}
 use Rattle.receiver.proofs.unpack.own_three.Statement.{statement}
 use Rattle.receiver.proofs.unpack.own_three.Tie as tie
-
--- used entries, as settings count them
-room : {at used : ℕ} {samples ancillary marks : List ℕ} → Room at used samples ancillary marks → Room at (used * 1) samples ancillary marks
-room r =
-    record {
-      samples-room = omega (arith, r .samples-room);
-      ancillary-room = omega (arith, r .ancillary-room);
-      marks-room = omega (arith, r .marks-room);
-    }
-
-on : {i used : ℕ} → i < used → i < used * 1
-on less = omega arith
-
-past : {i used : ℕ} → used ≤ i → used * 1 ≤ i
-past all = omega arith
 
 abbrev Inv-loop : tie.InvT-loop
 Inv-loop cell at used samples₀ ancillary₀ marks₀ i₀ samples ancillary marks i =
@@ -86,7 +78,7 @@ loop-again c =
     let s = c .before .before .before .before .before .before .before .before in
     let word = c .before .in3 .result in
     entered-on (straightWith threes (s .args .used)) refl refl refl (now (s .args .cell)) (s .args .at) (now (s .args .samples)) (now (s .args .ancillary))
-    (now (s .args .marks)) (room (s .pre .2)) (c .before .before .before .loop .inv) (on (c .before .before .loop-test .taken))
+    (now (s .args .marks)) (room-straight (s .pre .2)) (c .before .before .before .loop .inv) (within-straight (c .before .before .loop-test .taken))
     (by-width threes (now (s .args .cell)) (c .before .before .before .loop .i) refl
     (c .before .in3 .ensures ∙ three-read (now (s .args .cell)) (c .before .before .before .loop .i * 3) (omega (arith, s .pre .0, s .pre .1, c .before .before .loop-test .taken))))
     (mark-on-top threes refl refl word 16 (word / 32768) refl (omega arith)
@@ -104,8 +96,8 @@ same-length-3 c = c .before .loop .inv .marks-so-far .same
 returns : tie.Need-returns Inv-loop μ-loop
 returns c =
     let s = c .before .before .before .before .before .before in
-    entered-done (straightWith threes (s .args .used)) refl refl refl (now (s .args .cell)) (s .args .at) (now (s .args .samples)) (now (s .args .ancillary)) (now (s .args .marks)) (room (s .pre .2))
-    (c .before .loop .inv) (past (c .loop-test .left))
+    entered-done (straightWith threes (s .args .used)) refl refl refl (now (s .args .cell)) (s .args .at) (now (s .args .samples)) (now (s .args .ancillary)) (now (s .args .marks)) (room-straight (s .pre .2))
+    (c .before .loop .inv) (past-straight (c .loop-test .left))
 
 pub own-three-spec : {M : Type 1} → statement M
 own-three-spec =
