@@ -3,13 +3,8 @@
 -- Assumes nothing.
 use mathlib.Core.Path.{refl, sym, _∙_}
 use Rattle.runs.proofs.One.{One}
-use Rattle.guards.proofs.nine_bits.Kinds as nine-bits-kinds
-use Rattle.guards.proofs.nine_bits.Reads as nine-bits-reads
 use Rattle.guards.proofs.sevens.Kinds as sevens-kinds
 use Rattle.guards.proofs.sevens.Reads as sevens-reads
-
-pub nine-bits-one : One nine-bits-kinds.ps nine-bits-kinds.r nine-bits-reads.Pre nine-bits-reads.Post
-nine-bits-one κs a x y v w pre p q = (p ∙ sym q, refl)
 
 pub sevens-one : One sevens-kinds.ps sevens-kinds.r sevens-reads.Pre sevens-reads.Post
 sevens-one κs a x y v w pre p q = (p ∙ sym q, refl)

@@ -10,8 +10,6 @@ use Rattle.runs.specs.Division.{coefficients, divided, takenDown}
 use Rattle.runs.proofs.Laws.{getD-tab}
 use Rattle.runs.proofs.Wrong.{Never}
 use Rattle.guards.specs.Guards.{nineOf, tenGuard, sevenGuards, guardOf}
-use Rattle.guards.proofs.nine_bits.Kinds as nine-bits-kinds
-use Rattle.guards.proofs.nine_bits.Reads as nine-bits-reads
 use Rattle.guards.proofs.sevens.Kinds as sevens-kinds
 use Rattle.guards.proofs.sevens.Reads as sevens-reads
 
@@ -21,16 +19,6 @@ unfolding coefficients divided takenDown nineOf tenGuard sevenGuards guardOf
 unfolded = tt
 
 module _ (κs : Lfts 0) where
-  -- the ninth bit of an 8-bit sample set
-  pub nine-not-with-a-ninth-bit : Never nine-bits-kinds.ps nine-bits-kinds.r nine-bits-reads.Post κs (8, (1, tt)) (λ x v. x ≡ 3)
-  unfolding unfolded
-  nine-not-with-a-ninth-bit x v wrong p = omega arith
-
-  -- the nine low bits of a 24-bit sample
-  pub nine-not-the-low-ones : Never nine-bits-kinds.ps nine-bits-kinds.r nine-bits-reads.Post κs (24, (0x123456, tt)) (λ x v. x ≡ 0x056)
-  unfolding unfolded
-  nine-not-the-low-ones x v wrong p = omega arith
-
   -- remainders and not their complements: nothing is protected by 000
   pub sevens-not-the-remainders-themselves : Never sevens-kinds.ps sevens-kinds.r sevens-reads.Post κs tt (λ x v. getD x 0 0 ≡ 0)
   unfolding unfolded

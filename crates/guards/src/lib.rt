@@ -1,21 +1,6 @@
 // Protection of a sample, document 01.
 ghost use mathlib.Core.Path.{_≡_};
-ghost use Rattle.guards.specs.Guards.{nineOf, sevenGuards};
-
-// The nine top bits of a sample of `length` bits; an 8-bit sample has a ninth bit of 0.
-pub fn nine_bits(length: u64, sample: u64) -> u64
-    ensures { λ r. ⌜ r ≡ nineOf length sample ⌝ }
-{
-    if length < 9 {
-        let room = 9 - length;
-        return ((sample % 512) << room) % 512;
-    }
-    let below = length - 9;
-    if 63 < below {
-        return 0;
-    }
-    (sample >> below) % 512
-}
+ghost use Rattle.guards.specs.Guards.{sevenGuards};
 
 const SEVENS: [u8; 128] = [
     7,

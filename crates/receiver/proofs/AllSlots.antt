@@ -3,8 +3,8 @@
 use mathlib.Core.Bool.{false, cond}
 use mathlib.Core.List.{List, _++_}
 use mathlib.Core.Path.{_≡_, refl, sym, _∙_, ap, subst}
-use Prim.Native.Nat.{ℕ, _+_, _*_, _/_, _%_, _≤_, _<_}
-use native.Mathlib.Nat.{mul-div-cancel}
+use Prim.Native.Nat.{ℕ, _+_, _*_, _/_, _%_, _^_, _≤_, _<_}
+use native.Mathlib.Nat.{mul-div-cancel, mul-one}
 use native.Mathlib.Omega.{arith}
 use lib.Dec.{eqb}
 use lib.ListN as L
@@ -23,18 +23,12 @@ use Rattle.cells.specs.Placement.{slotOf, slotOfEntry}
 use Rattle.cells.proofs.Subframes.{four}
 use Rattle.receiver.specs.declared.Receiver.{Receiver}
 use Rattle.receiver.specs.Receiver.{numberNow}
-use Rattle.receiver.specs.Unpacking.{usedIn, ownEntries, twoAt, Unpacks, Writes, Room, Roomy, Together, OneTurn, straightWith, threes, sixes, Usual}
+use Rattle.receiver.specs.Unpacking.{usedIn, ownEntries, twoAt, Unpacks, Writes, Room, Enters, Roomy, Together, OneTurn, straightWith, threes, fours, sixes, Usual}
 use Rattle.receiver.proofs.Marking.{sample-over, ancillary-over}
 use Rattle.receiver.proofs.Reading.{four-read, by-width}
 use Rattle.receiver.proofs.Unpacking.{fill-on, fill-done, own-length, own-at, straight}
 
-abbrev one : Settled
-one = usualWith 1 12
-
-abbrev f : Format
-f = one .format
-
-pub sound-usual : Sound f
+pub sound-usual : Sound fours
 sound-usual =
     record {
       bits = refl;
@@ -51,81 +45,75 @@ sound-usual =
       slots-to = omega arith;
     }
 
-pub record Entered (set : Settled) (cell : List ℕ) (at : ℕ) (samples₀ ancillary₀ marks₀ samples ancillary marks : List ℕ) (i : ℕ) : Type 0 where
-  pub samples-so-far : Filled samples samples₀ at (ownEntries (sampleIn (set .format)) set cell) i
-  pub ancillary-so-far : Filled ancillary ancillary₀ at (ownEntries (ancillaryIn (set .format)) set cell) i
-  pub marks-so-far : Filled marks marks₀ at (ownEntries (markIn (set .format)) set cell) i
+pub record Entered (f : Format) (used : ℕ) (cell : List ℕ) (at : ℕ) (samples₀ ancillary₀ marks₀ samples ancillary marks : List ℕ) (i : ℕ) : Type 0 where
+  pub samples-so-far : Filled samples samples₀ at (ownEntries (sampleIn f) (straightWith f used) cell) i
+  pub ancillary-so-far : Filled ancillary ancillary₀ at (ownEntries (ancillaryIn f) (straightWith f used) cell) i
+  pub marks-so-far : Filled marks marks₀ at (ownEntries (markIn f) (straightWith f used) cell) i
 
--- a slot's subframe, as four octets are read
-pub subframe-is : (cell : List ℕ) (slot : ℕ) {number : ℕ} → length cell ≡ 48 → slot < 12
-    → number ≡ twoAt cell (slot * 4) * 65536 + twoAt cell (slot * 4 + 2) → number ≡ subframeAt f cell slot
-subframe-is cell slot whole less e = by-width f cell slot refl (e ∙ four-read cell (slot * 4) (omega arith))
-
--- settings with overhead in order 0: the three runs while a loop fills them, and its three laws
-module _ (set : Settled) (in-order : set .«by_channel» ≡ false) (four-a : set .format .ancillary ≡ 4) (four-o : set .format .overhead ≡ 4)
-    (cell : List ℕ) (at : ℕ) (samples₀ ancillary₀ marks₀ : List ℕ)
+-- subframes with overhead in order 0: the three runs while a loop fills them, and its laws
+module _ (f : Format) (four-a : f .ancillary ≡ 4) (four-o : f .overhead ≡ 4) (used : ℕ) (cell : List ℕ) (at : ℕ)
+    (samples₀ ancillary₀ marks₀ : List ℕ) (room : Room at used samples₀ ancillary₀ marks₀)
   where
-    abbrev g : Format
-    g = set .format
+    abbrev set : Settled
+    set = straightWith f used
 
-    pub entered-begun : Entered set cell at samples₀ ancillary₀ marks₀ samples₀ ancillary₀ marks₀ 0
+    long : (read : ℕ → ℕ) → length (ownEntries read set cell) ≡ used
+    long read = own-length set cell read ∙ mul-one used
+
+    pub entered-begun : Entered f used cell at samples₀ ancillary₀ marks₀ samples₀ ancillary₀ marks₀ 0
     entered-begun =
         record {
-          samples-so-far = begun samples₀ at (ownEntries (sampleIn g) set cell);
-          ancillary-so-far = begun ancillary₀ at (ownEntries (ancillaryIn g) set cell);
-          marks-so-far = begun marks₀ at (ownEntries (markIn g) set cell);
+          samples-so-far = begun samples₀ at (ownEntries (sampleIn f) set cell);
+          ancillary-so-far = begun ancillary₀ at (ownEntries (ancillaryIn f) set cell);
+          marks-so-far = begun marks₀ at (ownEntries (markIn f) set cell);
         }
 
-    entry-here : (read : ℕ → ℕ) {i : ℕ} → i < usedIn set → read (subframeAt g cell i) ≡ getD (ownEntries read set cell) i 0
+    entry-here : (read : ℕ → ℕ) {i : ℕ} → i < used → read (subframeAt f cell i) ≡ getD (ownEntries read set cell) i 0
     entry-here read {i} less =
-        ap (λ (k : ℕ). read (subframeAt g cell k)) (straight set cell in-order i) ∙ own-at set cell read less
+        ap (λ (k : ℕ). read (subframeAt f cell k)) (straight set cell refl i) ∙ own-at set cell read (rw (mul-one used) less)
 
-    module _ (room : Room at (usedIn set) samples₀ ancillary₀ marks₀) where
-      pub entered-on : {samples ancillary marks : List ℕ} {i word mark : ℕ}
-          → Entered set cell at samples₀ ancillary₀ marks₀ samples ancillary marks i
-          → i < usedIn set
-          → word ≡ subframeAt g cell i
-          → mark ≡ markIn g word
-          → Entered set cell at samples₀ ancillary₀ marks₀ (L.set samples (at + i) (word / 256)) (L.set ancillary (at + i) (word / 16 % 16))
-          (L.set marks (at + i) mark) (i + 1)
-      entered-on {word = word} so-far less word-is mark-is =
-          record {
-            samples-so-far =
-                fill-on samples₀ at _ (own-length set cell (sampleIn g)) (room .samples-room) (so-far .samples-so-far) less
-                (sample-over g four-a four-o word ∙ ap (sampleIn g) word-is ∙ entry-here (sampleIn g) less);
-            ancillary-so-far =
-                fill-on ancillary₀ at _ (own-length set cell (ancillaryIn g)) (room .ancillary-room) (so-far .ancillary-so-far) less
-                (ancillary-over g four-a four-o word ∙ ap (ancillaryIn g) word-is ∙ entry-here (ancillaryIn g) less);
-            marks-so-far =
-                fill-on marks₀ at _ (own-length set cell (markIn g)) (room .marks-room) (so-far .marks-so-far) less
-                (mark-is ∙ ap (markIn g) word-is ∙ entry-here (markIn g) less);
-          }
+    -- there is room for the next entry
+    pub room-here : {samples ancillary marks : List ℕ} {i : ℕ}
+        → Entered f used cell at samples₀ ancillary₀ marks₀ samples ancillary marks i → i < used → Room (at + i) 1 samples ancillary marks
+    room-here so-far less =
+        record {
+          samples-room = omega (arith, room .samples-room, so-far .samples-so-far .same, less);
+          ancillary-room = omega (arith, room .ancillary-room, so-far .ancillary-so-far .same, less);
+          marks-room = omega (arith, room .marks-room, so-far .marks-so-far .same, less);
+        }
 
-      pub entered-done : {samples ancillary marks : List ℕ} {i : ℕ}
-          → Entered set cell at samples₀ ancillary₀ marks₀ samples ancillary marks i → usedIn set ≤ i
-          → Unpacks set cell at samples₀ ancillary₀ marks₀ samples ancillary marks
-      entered-done so-far all =
-          record {
-            samples-are = fill-done samples₀ at _ (own-length set cell (sampleIn g)) (room .samples-room) (so-far .samples-so-far) all;
-            ancillary-is = fill-done ancillary₀ at _ (own-length set cell (ancillaryIn g)) (room .ancillary-room) (so-far .ancillary-so-far) all;
-            marks-are = fill-done marks₀ at _ (own-length set cell (markIn g)) (room .marks-room) (so-far .marks-so-far) all;
-          }
+    pub entered-on : {samples ancillary marks samples₁ ancillary₁ marks₁ : List ℕ} {i word bits : ℕ}
+        → Entered f used cell at samples₀ ancillary₀ marks₀ samples ancillary marks i
+        → i < used
+        → word ≡ subframeAt f cell i
+        → bits / 2 ^ (word % 32) % 2 ≡ markIn f word
+        → Enters word bits (at + i) samples ancillary marks samples₁ ancillary₁ marks₁
+        → Entered f used cell at samples₀ ancillary₀ marks₀ samples₁ ancillary₁ marks₁ (i + 1)
+    entered-on {word = word} so-far less word-is mark-is new =
+        record {
+          samples-so-far =
+              rw (new .samples-are)
+              (fill-on samples₀ at _ (long (sampleIn f)) (room .samples-room) (so-far .samples-so-far) less
+              (sample-over f four-a four-o word ∙ ap (sampleIn f) word-is ∙ entry-here (sampleIn f) less));
+          ancillary-so-far =
+              rw (new .ancillary-is)
+              (fill-on ancillary₀ at _ (long (ancillaryIn f)) (room .ancillary-room) (so-far .ancillary-so-far) less
+              (ancillary-over f four-a four-o word ∙ ap (ancillaryIn f) word-is ∙ entry-here (ancillaryIn f) less));
+          marks-so-far =
+              rw (new .marks-are)
+              (fill-on marks₀ at _ (long (markIn f)) (room .marks-room) (so-far .marks-so-far) less
+              (mark-is ∙ ap (markIn f) word-is ∙ entry-here (markIn f) less));
+        }
 
--- entries of a loop that counts them alone, as settings count them
-pub room-straight : {at used : ℕ} {samples ancillary marks : List ℕ} → Room at used samples ancillary marks
-    → Room at (used * 1) samples ancillary marks
-room-straight r =
-    record {
-      samples-room = omega (arith, r .samples-room);
-      ancillary-room = omega (arith, r .ancillary-room);
-      marks-room = omega (arith, r .marks-room);
-    }
-
-pub within-straight : {i used : ℕ} → i < used → i < used * 1
-within-straight less = omega arith
-
-pub past-straight : {i used : ℕ} → used ≤ i → used * 1 ≤ i
-past-straight all = omega arith
+    pub entered-done : {samples ancillary marks : List ℕ} {i : ℕ}
+        → Entered f used cell at samples₀ ancillary₀ marks₀ samples ancillary marks i → used ≤ i
+        → Unpacks set cell at samples₀ ancillary₀ marks₀ samples ancillary marks
+    entered-done so-far all =
+        record {
+          samples-are = fill-done samples₀ at _ (long (sampleIn f)) (room .samples-room) (so-far .samples-so-far) all;
+          ancillary-is = fill-done ancillary₀ at _ (long (ancillaryIn f)) (room .ancillary-room) (so-far .ancillary-so-far) all;
+          marks-are = fill-done marks₀ at _ (long (markIn f)) (room .marks-room) (so-far .marks-so-far) all;
+        }
 
 -- settings whose subframes are so wide: their format, and the same entries by its numbers alone
 module _ {set : Settled} {width : ℕ} (limits : Limits set) (together : Together (set .format)) (turn : OneTurn set width) where
@@ -185,10 +173,25 @@ module _ {set : Settled} (limits : Limits set) (together : Together (set .format
   pub turn-used : {f : Format} → f ≡ set .format → set .channels * set .times ≤ f .slots
   turn-used is = rw (ap (λ (x : Format). x .slots) is) (limits .used-in)
 
--- with two channels the entries are the same
-own-two : (read : ℕ → ℕ) (cell : List ℕ) → ownEntries read one cell ≡ ownEntries read (usualWith 2 6) cell
+-- the same entries with one channel and with two
+own-one : (read : ℕ → ℕ) (cell : List ℕ) → ownEntries read (straightWith fours 12) cell ≡ ownEntries read (usualWith 1 12) cell
+unfolding entriesOf tab slotOfEntry slotOf
+own-one read cell = refl
+
+own-two : (read : ℕ → ℕ) (cell : List ℕ) → ownEntries read (straightWith fours 12) cell ≡ ownEntries read (usualWith 2 6) cell
 unfolding entriesOf tab slotOfEntry slotOf
 own-two read cell = refl
+
+writes-as : (set : Settled) (cell : List ℕ) {at : ℕ} {samples ancillary marks samples₁ ancillary₁ marks₁ : List ℕ}
+    → ((read : Format → ℕ → ℕ) → ownEntries (read fours) (straightWith fours 12) cell ≡ ownEntries (read (set .format)) set cell)
+    → Writes (straightWith fours 12) cell at samples ancillary marks samples₁ ancillary₁ marks₁
+    → Writes set cell at samples ancillary marks samples₁ ancillary₁ marks₁
+writes-as set cell {at} {samples} {ancillary} {marks} same wrote =
+    record {
+      samples-are = wrote .samples-are ∙ ap (λ (l : List ℕ). over (replicate at 0 ++ l) samples) (same sampleIn);
+      ancillary-is = wrote .ancillary-is ∙ ap (λ (l : List ℕ). over (replicate at 0 ++ l) ancillary) (same ancillaryIn);
+      marks-are = wrote .marks-are ∙ ap (λ (l : List ℕ). over (replicate at 2 ++ l) marks) (same markIn);
+    }
 
 -- what the settings of a usual call give
 module _ {st : Receiver} {n : ℕ} (u : Usual st n) {set : Settled}
@@ -217,14 +220,11 @@ module _ {st : Receiver} {n : ℕ} (u : Usual st n) {set : Settled}
 
     pub usual-writes : (cell : List ℕ) (times : ℕ) {at : ℕ} {samples ancillary marks samples₁ ancillary₁ marks₁ : List ℕ}
         → at ≡ times * 12
-        → Writes one cell at samples ancillary marks samples₁ ancillary₁ marks₁
+        → Writes (straightWith fours 12) cell at samples ancillary marks samples₁ ancillary₁ marks₁
         → Writes set cell (times * usedIn set) samples ancillary marks samples₁ ancillary₁ marks₁
     usual-writes cell times {at} {samples} {ancillary} {marks} {samples₁} {ancillary₁} {marks₁} at-is wrote =
         subst (λ (k : ℕ). Writes set cell k samples ancillary marks samples₁ ancillary₁ marks₁)
         (at-is ∙ ap (λ (k : ℕ). times * k) (sym usual-used))
-        (usual-is (st .channels) given (λ (x : Settled). Writes x cell at samples ancillary marks samples₁ ancillary₁ marks₁) wrote
-        (record {
-          samples-are = wrote .samples-are ∙ ap (λ (l : List ℕ). over (replicate at 0 ++ l) samples) (own-two (sampleIn f) cell);
-          ancillary-is = wrote .ancillary-is ∙ ap (λ (l : List ℕ). over (replicate at 0 ++ l) ancillary) (own-two (ancillaryIn f) cell);
-          marks-are = wrote .marks-are ∙ ap (λ (l : List ℕ). over (replicate at 2 ++ l) marks) (own-two (markIn f) cell);
-        }))
+        (usual-is (st .channels) given (λ (x : Settled). Writes x cell at samples ancillary marks samples₁ ancillary₁ marks₁)
+        (writes-as (usualWith 1 12) cell (λ read. own-one (read fours) cell) wrote)
+        (writes-as (usualWith 2 6) cell (λ read. own-two (read fours) cell) wrote))

@@ -1,4 +1,4 @@
--- Laws of marks: the fold of nine bits to seven, and a subframe's mark by its nine bits.
+-- Laws of marks: a subframe's mark by its nine bits.
 -- Assumes nothing.
 use mathlib.Core.Bool.{cond}
 use mathlib.Core.Path.{_≡_, sym, _∙_, ap, ap₂}
@@ -11,23 +11,9 @@ use lib.Bits.{bitXor}
 use lib.Dec.{eqb}
 use Rattle.formats.specs.declared.Format.{Format}
 use Rattle.guards.specs.Guards.{nineOf, tenGuard, guardOf}
-use Rattle.guards.proofs.Laws.{nine-lt, nine-long, with-v, fold-nine}
+use Rattle.guards.proofs.Laws.{nine-shifted}
 use Rattle.cells.specs.Cells.{sampleIn, ancillaryIn, markIn}
 use Rattle.tables.specs.Marks.{markBit, MarksOf}
-
--- nine bits folded to seven have the same marks
-abbrev fold : ℕ → ℕ
-fold nine = bitXor nine (nine / 128) % 128
-
-fold-marks : {nine low : ℕ} → nine < 512 → low < 32 → markBit (fold nine) low ≡ markBit nine low
-unfolding markBit
-fold-marks {nine} {low} h l =
-    let seven : fold nine < 128 = mod-lt _ (omega arith) in
-    let v : low / 16 < 2 = omega arith in
-    ap (λ (guard : ℕ). cond (eqb (low % 8) guard) 0 1)
-    (sym (with-v {nine = fold nine} (omega arith) v)
-    ∙ ap (λ (guard : ℕ). bitXor guard (low / 16 * 3)) (fold-nine h)
-    ∙ with-v {nine = nine} h v)
 
 -- V, by the five low bits and by the ancillary number
 v-bit : (x : ℕ) → x % 32 / 16 ≡ x / 16 % 16 % 2
@@ -60,14 +46,7 @@ module _ (f : Format) (ancillary-four : f .ancillary ≡ 4) (overhead-four : f .
       (ap₂ (λ (x y : ℕ). tenGuard (x * 2 + y)) (ap (nineOf (f .sample)) sample-over) (v-bit subframe ∙ ap (λ (x : ℕ). x % 2) ancillary-over))
       ∙ sym (rw (ne-eqb (f .overhead) 0 some))
 
-  pub mark-over : {nine : ℕ} (bits : ℕ) → nine ≡ nineOf (f .sample) (subframe / 256) → MarksOf (fold nine) bits
-      → bits / 2 ^ (subframe % 32) % 2 ≡ markIn f subframe
-  mark-over {nine} bits nine-is marks =
-      let few : nineOf (f .sample) (subframe / 256) < 512 = nine-lt (f .sample) (subframe / 256) in
-      mark-by bits (λ low less. (rw nine-is at marks) low less ∙ fold-marks few less)
-
-  -- a subframe has its nine bits on top
-  pub mark-on-top : (n top : ℕ) → f .sample ≡ n → 9 ≤ n → top % 512 ≡ subframe / 256 / 2 ^ (n - 9) % 512 → (bits : ℕ)
+  pub mark-on-top : (n top : ℕ) → f .sample ≡ n → 8 ≤ n → top % 512 ≡ subframe / 256 * 2 / 2 ^ (n - 8) % 512 → (bits : ℕ)
       → MarksOf (top % 512) bits → bits / 2 ^ (subframe % 32) % 2 ≡ markIn f subframe
   mark-on-top n top length-is from top-is bits marks =
-      mark-by bits (rw (top-is ∙ nine-long (subframe / 256) n from ∙ ap (λ (k : ℕ). nineOf k (subframe / 256)) (sym length-is)) at marks)
+      mark-by bits (rw (top-is ∙ nine-shifted n (subframe / 256) from ∙ ap (λ (k : ℕ). nineOf k (subframe / 256)) (sym length-is)) at marks)

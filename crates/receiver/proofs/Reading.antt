@@ -21,7 +21,7 @@ use Rattle.formats.specs.Sound.{Sound}
 use Rattle.cells.proofs.Subframes.{slot-room}
 use Rattle.cells.specs.Cells.{subframeAt}
 use Rattle.cells.specs.Placement.{slotOf, slotOfEntry}
-use Rattle.receiver.specs.Unpacking.{twoAt, nextSlot}
+use Rattle.receiver.specs.Unpacking.{twoAt, turnedTwo, nextSlot}
 
 -- the number of the octets from `at` on, one octet more at a time
 module _ (octets : List ℕ) (at : ℕ) where
@@ -92,57 +92,23 @@ module _ {f : Format} (s : Sound f) where
       left-of w from to four three two six five = omega arith
 
 -- octets read low end first and turned round
-pub two-turned : (a b : ℕ) → a < 256 → b < 256 → (a + b * 256) % 256 * 256 + (a + b * 256) / 256 % 256 ≡ a * 256 + b
+pub two-turned : (a b : ℕ) → a < 256 → b < 256 → turnedTwo (a + b * 256) ≡ a * 256 + b
 two-turned a b ha hb =
     let whole : a + b * 256 ≡ b * 256 + a = omega arith in
     rw (whole, digits-mod b ha, digits-div b ha, mod-eq-of-lt hb)
 
-pub four-turned : (a b c d : ℕ) → a < 256 → b < 256 → c < 256 → d < 256
-    → (a + b * 256 + c * 65536 + d * 16777216) % 256 * 16777216
-    + (a + b * 256 + c * 65536 + d * 16777216) / 256 % 256 * 65536
-    + (a + b * 256 + c * 65536 + d * 16777216) / 65536 % 256 * 256
-    + (a + b * 256 + c * 65536 + d * 16777216) / 16777216 % 256
-    ≡ (a * 256 + b) * 65536 + (c * 256 + d)
-four-turned a b c d ha hb hc hd =
-    let x = a + b * 256 + c * 65536 + d * 16777216 in
-    let by-1 : x ≡ ((d * 256 + c) * 256 + b) * 256 + a = omega arith in
-    let by-2 : x ≡ (d * 256 + c) * 65536 + (b * 256 + a) = omega arith in
-    let by-3 : x ≡ d * 16777216 + (c * 65536 + b * 256 + a) = omega arith in
-    let first : x % 256 ≡ a = ap (λ (n : ℕ). n % 256) by-1 ∙ digits-mod ((d * 256 + c) * 256 + b) ha in
-    let second : x / 256 % 256 ≡ b
-    = ap (λ (n : ℕ). n / 256 % 256) by-1 ∙ ap (λ (n : ℕ). n % 256) (digits-div ((d * 256 + c) * 256 + b) ha)
-    ∙ digits-mod (d * 256 + c) hb in
-    let third : x / 65536 % 256 ≡ c
-    = ap (λ (n : ℕ). n / 65536 % 256) by-2
-    ∙ ap (λ (n : ℕ). n % 256) (digits-div (d * 256 + c) {m = 65536} (omega arith)) ∙ digits-mod d hc in
-    let fourth : x / 16777216 % 256 ≡ d
-    = ap (λ (n : ℕ). n / 16777216 % 256) by-3
-    ∙ ap (λ (n : ℕ). n % 256) (digits-div d {m = 16777216} (omega arith)) ∙ mod-eq-of-lt hd in
-    ap₂ (λ (m n : ℕ). m + n)
-    (ap₂ (λ (m n : ℕ). m + n) (ap₂ (λ (m n : ℕ). m * 16777216 + n * 65536) first second) (ap (λ (n : ℕ). n * 256) third))
-    fourth
-    ∙ weights a b c d
-  where
-    weights : (a b c d : ℕ) → a * 16777216 + b * 65536 + c * 256 + d ≡ (a * 256 + b) * 65536 + (c * 256 + d)
-    weights a b c d = omega arith
-
-pub three-turned : (a b c : ℕ) → a < 256 → b < 256 → c < 256
-    → ((a + b * 256 + c * 65536) % 256 * 16777216
-    + (a + b * 256 + c * 65536) / 256 % 256 * 65536
-    + (a + b * 256 + c * 65536) / 65536 % 256 * 256
-    + (a + b * 256 + c * 65536) / 16777216 % 256)
-    / 256
-    ≡ (a * 256 + b) * 256 + c
-three-turned a b c ha hb hc =
-    let none : a + b * 256 + c * 65536 ≡ a + b * 256 + c * 65536 + 0 * 16777216 = omega arith in
-    ap
-    (λ (x : ℕ). (x % 256 * 16777216 + x / 256 % 256 * 65536 + x / 65536 % 256 * 256 + x / 16777216 % 256) / 256)
-    none
-    ∙ ap (λ (n : ℕ). n / 256) (four-turned a b c 0 ha hb hc (omega arith))
-    ∙ weights a b c
-  where
-    weights : (a b c : ℕ) → ((a * 256 + b) * 65536 + (c * 256 + 0)) / 256 ≡ (a * 256 + b) * 256 + c
-    weights a b c = omega arith
+pub four-low : (a b c d first second : ℕ) → a < 256 → b < 256 → c < 256 → d < 256 → a * 256 + b ≡ first → c * 256 + d ≡ second
+    → (a + b * 256 + c * 65536 + d * 16777216 < 4294967296)
+    × (turnedTwo ((a + b * 256 + c * 65536 + d * 16777216) % 65536) ≡ first)
+    × (turnedTwo ((a + b * 256 + c * 65536 + d * 16777216) / 65536) ≡ second)
+four-low a b c d first second ha hb hc hd e₁ e₂ =
+    let whole : a + b * 256 + c * 65536 + d * 16777216 ≡ (c + d * 256) * 65536 + (a + b * 256) = omega arith in
+    let low : a + b * 256 < 65536 = omega arith in
+    let high : c + d * 256 < 65536 = omega arith in (
+      rw whole (omega arith),
+      rw (whole, digits-mod (c + d * 256) low) (two-turned a b ha hb ∙ e₁),
+      rw (whole, digits-div (c + d * 256) low) (two-turned c d hc hd ∙ e₂),
+    )
 
 -- bits gathered one more
 module _ (bit : ℕ → ℕ) where

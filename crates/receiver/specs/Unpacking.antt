@@ -3,8 +3,9 @@
 use mathlib.Core.Bool.{true, false, cond}
 use mathlib.Core.List.{List, _++_}
 use mathlib.Core.Path.{_≡_}
-use Prim.Native.Nat.{ℕ, _+_, _*_, _-_, _≤_}
+use Prim.Native.Nat.{ℕ, _+_, _*_, _/_, _%_, _-_, _^_, _≤_}
 use lib.Dec.{ltb}
+use lib.ListN as L
 use lib.ListN.{length, getD, replicate}
 use Rattle.runs.specs.Runs.{tab, over, written}
 use Rattle.formats.specs.declared.Format.{Format}
@@ -39,6 +40,12 @@ pub record Room (at used : ℕ) (samples ancillary marks : List ℕ) : Type 0 wh
   pub ancillary-room : at + used ≤ length ancillary
   pub marks-room : at + used ≤ length marks
 
+-- three runs after a subframe with overhead was taken apart at one place of each, by the marks of its sample bits with each five low bits
+pub record Enters (subframe bits at : ℕ) (samples ancillary marks samples₁ ancillary₁ marks₁ : List ℕ) : Type 0 where
+  pub samples-are : samples₁ ≡ L.set samples at (subframe / 256)
+  pub ancillary-is : ancillary₁ ≡ L.set ancillary at (subframe / 16 % 16)
+  pub marks-are : marks₁ ≡ L.set marks at (bits / 2 ^ (subframe % 32) % 2)
+
 -- three runs after the entries of missing cells were written from their start
 pub record Misses (missing : ℕ) (samples ancillary marks samples₁ ancillary₁ marks₁ : List ℕ) : Type 0 where
   pub samples-are : samples₁ ≡ over (replicate missing 0) samples
@@ -58,12 +65,15 @@ pub record OneTurn (set : Settled) (width : ℕ) : Type 0 where
   pub guarded : set .format .overhead ≡ 0 → ⊥
   pub width-is : set .format .width ≡ width
 
--- settings of so many entries in order 0; subframes of three octets and of six, with overhead
+-- settings of so many entries in order 0; subframes of three octets, four and six, with overhead
 abbrev pub straightWith : Format → ℕ → Settled
 straightWith f used = record { refusal = 0; format = f; channels = used; times = 1; «by_channel» = false }
 
 abbrev pub threes : Format
 threes = record { sample = 16; ancillary = 4; overhead = 4; width = 3; slots = 16 }
+
+abbrev pub fours : Format
+fours = record { sample = 24; ancillary = 4; overhead = 4; width = 4; slots = 12 }
 
 abbrev pub sixes : Format
 sixes = record { sample = 40; ancillary = 4; overhead = 4; width = 6; slots = 8 }
@@ -71,6 +81,10 @@ sixes = record { sample = 40; ancillary = 4; overhead = 4; width = 6; slots = 8 
 -- the number of two octets
 abbrev pub twoAt : List ℕ → ℕ → ℕ
 twoAt octets at = getD octets at 0 * 256 + getD octets (at + 1) 0
+
+-- two octets of a number, turned round
+abbrev pub turnedTwo : ℕ → ℕ
+turnedTwo x = x % 256 * 256 + x / 256 % 256
 
 -- the slot after this one, where entries go by channel
 unfoldable pub nextSlot : ℕ → ℕ → ℕ → ℕ

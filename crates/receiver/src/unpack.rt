@@ -13,6 +13,7 @@ ghost use Rattle.receiver.specs.Unpacking.{
   Unpacks,
   Writes,
   Room,
+  Enters,
   Misses,
   Together,
   OneTurn,
@@ -20,6 +21,7 @@ ghost use Rattle.receiver.specs.Unpacking.{
   threes,
   sixes,
   twoAt,
+  turnedTwo,
   nextSlot,
   held,
   Splits,
@@ -28,26 +30,51 @@ use formats::Format;
 use formats::Settled;
 use numbers::Found;
 
-// Two octets read low end first and turned round: so they stay one load, where the highest first would be taken apart again.
-fn in2(octets: &[u8], at: usize) -> u64
+// Two octets, the first as the lowest. This and turning round are functions of their own, so that reading stays one load: in one
+// function, or with the highest first, the compiler takes the octets apart again.
+fn low2(octets: &[u8], at: usize) -> u64
     requires { ⌜ at + 2 ≤ length (now octets) ⌝ }
-    ensures { λ r. ⌜ (r ≡ twoAt (now (octets .entry)) at) × (r < 65536) ⌝ }
+    ensures { λ r. ⌜ (r < 65536) × (turnedTwo r ≡ twoAt (now (octets .entry)) at) ⌝ }
 {
-    turned2(octets[at] as u64 + octets[at + 1] as u64 * 256)
+    octets[at] as u64 + octets[at + 1] as u64 * 256
 }
 
 fn turned2(x: u64) -> u64
-    ensures { λ r. ⌜ r ≡ x % 256 * 256 + x / 256 % 256 ⌝ }
+    ensures { λ r. ⌜ (r ≡ turnedTwo x) × (r < 65536) ⌝ }
 {
     x % 256 * 256 + x / 256 % 256
 }
 
-// Three octets likewise, as the highest of four.
+// Two octets as a number.
+fn in2(octets: &[u8], at: usize) -> u64
+    requires { ⌜ at + 2 ≤ length (now octets) ⌝ }
+    ensures { λ r. ⌜ (r ≡ twoAt (now (octets .entry)) at) × (r < 65536) ⌝ }
+{
+    turned2(low2(octets, at))
+}
+
+// Three octets likewise.
 fn in3(octets: &[u8], at: usize) -> u64
     requires { ⌜ at + 3 ≤ length (now octets) ⌝ }
     ensures { λ r. ⌜ r ≡ twoAt (now (octets .entry)) at * 256 + getD (now (octets .entry)) (at + 2) 0 ⌝ }
 {
-    turned4(octets[at] as u64 + octets[at + 1] as u64 * 256 + octets[at + 2] as u64 * 65536) / 256
+    in2(octets, at) * 256 + octets[at + 2] as u64
+}
+
+fn low4(octets: &[u8], at: usize) -> u64
+    requires { ⌜ at + 4 ≤ length (now octets) ⌝ }
+    ensures { λ r. ⌜ (r < 4294967296) × (turnedTwo (r % 65536) ≡ twoAt (now (octets .entry)) at) × (turnedTwo (r / 65536) ≡ twoAt (now (octets .entry)) (at + 2)) ⌝ }
+{
+    octets[at] as u64
+        + octets[at + 1] as u64 * 256
+        + octets[at + 2] as u64 * 65536
+        + octets[at + 3] as u64 * 16777216
+}
+
+fn turned4(x: u64) -> u64
+    ensures { λ r. ⌜ (r ≡ turnedTwo (x % 65536) * 65536 + turnedTwo (x / 65536)) × (r < 4294967296) ⌝ }
+{
+    turned2(x % 65536) * 65536 + turned2(x / 65536)
 }
 
 // Four octets likewise.
@@ -55,18 +82,7 @@ pub(crate) fn in4(octets: &[u8], at: usize) -> u64
     requires { ⌜ at + 4 ≤ length (now octets) ⌝ }
     ensures { λ r. ⌜ (r ≡ twoAt (now (octets .entry)) at * 65536 + twoAt (now (octets .entry)) (at + 2)) × (r < 4294967296) ⌝ }
 {
-    turned4(
-        octets[at] as u64
-            + octets[at + 1] as u64 * 256
-            + octets[at + 2] as u64 * 65536
-            + octets[at + 3] as u64 * 16777216,
-    )
-}
-
-fn turned4(x: u64) -> u64
-    ensures { λ r. ⌜ r ≡ x % 256 * 16777216 + x / 256 % 256 * 65536 + x / 65536 % 256 * 256 + x / 16777216 % 256 ⌝ }
-{
-    x % 256 * 16777216 + x / 256 % 256 * 65536 + x / 65536 % 256 * 256 + x / 16777216 % 256
+    turned4(low4(octets, at))
 }
 
 // Six octets, as four and two.
@@ -261,7 +277,7 @@ fn split(
     ancillary: &mut [u8],
     marks: &mut [u8],
 )
-    requires { ⌜ (format .ancillary ≡ 4) × (format .overhead ≡ 4) × Room at used (now samples) (now ancillary) (now marks) ⌝ }
+    requires { ⌜ Sound format × (format .ancillary ≡ 4) × (format .overhead ≡ 4) × Room at used (now samples) (now ancillary) (now marks) ⌝ }
     ensures { λ r. ⌜ Splits format at used (now (samples .entry)) (now (ancillary .entry)) (now (marks .entry)) (now (samples .exit)) (now (ancillary .exit)) (now (marks .exit)) ⌝ }
 {
     let mut i = 0;
@@ -270,8 +286,8 @@ fn split(
         let sample = subframe / 256;
         samples[at + i] = sample;
         ancillary[at + i] = (subframe / 16 % 16) as u8;
-        let nine = guards::nine_bits(format.sample, sample);
-        marks[at + i] = ((tables::marks_of(nine ^ (nine / 128)) >> (subframe % 32)) % 2) as u8;
+        let nine = (sample * 2) >> (format.sample - 8);
+        marks[at + i] = ((tables::marks_of(nine) >> (subframe % 32)) % 2) as u8;
         i += 1;
     }
 }
@@ -328,6 +344,23 @@ fn one_turn(set: Settled) -> usize
     set.format.width
 }
 
+// Writes one entry to the three runs: a subframe with overhead, and the marks of its sample bits with each five low bits.
+pub(crate) fn enter(
+    subframe: u64,
+    bits: u64,
+    at: usize,
+    samples: &mut [u64],
+    ancillary: &mut [u8],
+    marks: &mut [u8],
+)
+    requires { ⌜ Room at 1 (now samples) (now ancillary) (now marks) ⌝ }
+    ensures { λ r. ⌜ Enters subframe bits at (now (samples .entry)) (now (ancillary .entry)) (now (marks .entry)) (now (samples .exit)) (now (ancillary .exit)) (now (marks .exit)) ⌝ }
+{
+    samples[at] = subframe / 256;
+    ancillary[at] = (subframe / 16 % 16) as u8;
+    marks[at] = ((bits >> (subframe % 32)) % 2) as u8;
+}
+
 // The cell's own entries, subframes of three octets.
 fn own_three(
     cell: &[u8],
@@ -343,9 +376,8 @@ fn own_three(
     let mut i = 0;
     while i < used {
         let subframe = in3(cell, i * 3);
-        samples[at + i] = subframe / 256;
-        ancillary[at + i] = (subframe / 16 % 16) as u8;
-        marks[at + i] = ((tables::marks_in_three(subframe / 32768) >> (subframe % 32)) % 2) as u8;
+        let bits = tables::marks_in_three(subframe / 32768);
+        enter(subframe, bits, at + i, samples, ancillary, marks);
         i += 1;
     }
 }
@@ -365,10 +397,8 @@ fn own_six(
     let mut i = 0;
     while i < used {
         let subframe = in6(cell, i * 6);
-        samples[at + i] = subframe / 256;
-        ancillary[at + i] = (subframe / 16 % 16) as u8;
-        marks[at + i] = ((tables::marks_in_six(subframe / 549755813888) >> (subframe % 32))
-            % 2) as u8;
+        let bits = tables::marks_in_six(subframe / 549755813888);
+        enter(subframe, bits, at + i, samples, ancillary, marks);
         i += 1;
     }
 }

@@ -3,12 +3,11 @@
 ghost use mathlib.Core.Bool.{true};
 ghost use mathlib.Core.Path.{_≡_};
 ghost use lib.ListN.{length};
-ghost use Rattle.formats.specs.Formats.{usualWith};
 ghost use Rattle.formats.specs.Sound.{Sound};
 ghost use Rattle.numbers.specs.Numbers.{numberIn};
 ghost use Rattle.cells.specs.Cells.{eightIn};
 ghost use Rattle.receiver.specs.Receiver.{Receives};
-ghost use Rattle.receiver.specs.Unpacking.{Unpacks, Writes, Room, Usual};
+ghost use Rattle.receiver.specs.Unpacking.{Unpacks, Writes, Room, straightWith, fours, Usual};
 use crate::Received;
 use crate::Receiver;
 use crate::judge;
@@ -53,14 +52,13 @@ fn number_in(format: Format, cell: &[u8]) -> u8
 // Writes the cell's own entries, which are those of all slots, to the three runs from `at` on.
 fn own_entries(cell: &[u8], at: usize, samples: &mut [u64], ancillary: &mut [u8], marks: &mut [u8])
     requires { ⌜ (length (now cell) ≡ 48) × Room at 12 (now samples) (now ancillary) (now marks) ⌝ }
-    ensures { λ r. ⌜ Unpacks (usualWith 1 12) (now (cell .entry)) at (now (samples .entry)) (now (ancillary .entry)) (now (marks .entry)) (now (samples .exit)) (now (ancillary .exit)) (now (marks .exit)) ⌝ }
+    ensures { λ r. ⌜ Unpacks (straightWith fours 12) (now (cell .entry)) at (now (samples .entry)) (now (ancillary .entry)) (now (marks .entry)) (now (samples .exit)) (now (ancillary .exit)) (now (marks .exit)) ⌝ }
 {
     let mut i = 0;
     while i < 12 {
         let subframe = unpack::in4(cell, i * 4);
-        samples[at + i] = subframe / 256;
-        ancillary[at + i] = (subframe / 16 % 16) as u8;
-        marks[at + i] = ((tables::marks_at(subframe / 8388608) >> (subframe % 32)) % 2) as u8;
+        let bits = tables::marks_at(subframe / 8388608);
+        unpack::enter(subframe, bits, at + i, samples, ancillary, marks);
         i += 1;
     }
 }
@@ -68,7 +66,7 @@ fn own_entries(cell: &[u8], at: usize, samples: &mut [u64], ancillary: &mut [u8]
 // Writes `missing` entries of zero with mark 2 to the three runs, and the cell's own entries after them.
 fn write(cell: &[u8], missing: usize, samples: &mut [u64], ancillary: &mut [u8], marks: &mut [u8])
     requires { ⌜ (length (now cell) ≡ 48) × Room missing 12 (now samples) (now ancillary) (now marks) ⌝ }
-    ensures { λ r. ⌜ Writes (usualWith 1 12) (now (cell .entry)) missing (now (samples .entry)) (now (ancillary .entry)) (now (marks .entry)) (now (samples .exit)) (now (ancillary .exit)) (now (marks .exit)) ⌝ }
+    ensures { λ r. ⌜ Writes (straightWith fours 12) (now (cell .entry)) missing (now (samples .entry)) (now (ancillary .entry)) (now (marks .entry)) (now (samples .exit)) (now (ancillary .exit)) (now (marks .exit)) ⌝ }
 {
     unpack::missing_entries(missing, samples, ancillary, marks);
     own_entries(cell, missing, samples, ancillary, marks);

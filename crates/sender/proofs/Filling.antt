@@ -4,7 +4,7 @@ use mathlib.Core.Bool.{true}
 use mathlib.Core.List.{List, [], _∷_, _++_, append-nil, append-assoc}
 use mathlib.Core.Path.{_≡_, refl, sym, _∙_, ap, ap₂, subst}
 use Prim.Native.Nat.{ℕ, zero, suc, _+_, _*_, _/_, _%_, _-_, _^_, _≤_, _<_}
-use native.Mathlib.Nat.{mul-one, zero-mul, zero-mod, zero-div, suc-mul, pow-le-pow-right, mod-lt, mod-eq-of-lt, not-suc-le-zero, le-of-suc-le-suc}
+use native.Mathlib.Nat.{mul-one, mul-assoc, zero-mul, zero-mod, zero-div, suc-mul, pow-le-pow-right, mod-lt, not-suc-le-zero, le-of-suc-le-suc}
 use native.Mathlib.Numerals.{add-one}
 use native.Mathlib.Omega.{arith}
 use borrow.Author.Tests.{ne-eqb}
@@ -21,81 +21,14 @@ use Rattle.runs.proofs.Laws.{every-at, length-tab, getD-tab, length-joined, len
 use Rattle.formats.specs.declared.Format.{Format}
 use Rattle.formats.specs.Sound.{Sound}
 use Rattle.guards.specs.Guards.{nineOf, tenGuard, sevenGuards, guardOf}
-use Rattle.guards.proofs.Laws.{nine-lt, nine-top, nine-long, seven-guard, with-v, ten-guard-lt}
+use Rattle.guards.proofs.Laws.{nine-lt, nine-top, seven-guard, with-v, ten-guard-lt}
 use Rattle.cells.specs.Cells.{overheadOf, subframeOf}
 use Rattle.cells.specs.Placement.{entryOfSlot, nextEntry}
 use Rattle.cells.proofs.Placement.{entry-lt, entry-next}
 use Rattle.cells.proofs.Subframes.{subframe-lt, octets-pow, slot-room, four}
 use Rattle.sender.specs.Packing.{shape, lowOctets, Fillable, Turnable, byChannel, slotWith, written, idleNumber, Continues}
 
-module _ {f : Format} (s : Sound f) {sample ancillary bit : ℕ}
-    (hs : sample < 2 ^ f .sample) (ha : ancillary < 2 ^ f .ancillary) (hb : bit < 2)
-  where
-    -- sample and ancillary side by side, as the code makes them
-    abbrev above : ℕ
-    above = (sample * 2 ^ f .ancillary) % 2 ^ 64 + ancillary
-
-    pub above-is : above ≡ sample * 2 ^ f .ancillary + ancillary
-    above-is =
-        ap (λ (n : ℕ). n + ancillary)
-        (shl-exact (f .sample) (f .ancillary) 64 hs (omega (arith, s .sample-to, s .ancillary-to)))
-
-    above-lt : sample * 2 ^ f .ancillary + ancillary < 2 ^ (f .sample + f .ancillary)
-    above-lt = rw (pow-add 2 (f .sample) (f .ancillary)) (digits-lt hs ha)
-
-    pub above-fits : above < 2 ^ 64
-    above-fits =
-        let less = above-lt in
-        let far : 2 ^ (f .sample + f .ancillary) ≤ 2 ^ 64
-        = pow-mono {i = f .sample + f .ancillary} {j = 64} (omega (arith, s .sample-to, s .ancillary-to)) in
-        omega (arith, above-is)
-
-    pub subframe-plain : f .overhead ≡ 0 → above ≡ subframeOf f sample ancillary bit
-    unfolding subframeOf overheadOf
-    subframe-plain none = above-is ∙ rw (none, mul-one) (omega arith)
-
-    -- the nine top bits as the code shifts them down, and with V the ten
-    abbrev ten : ℕ
-    ten = sample * 2 / 2 ^ (f .sample - 8) * 2 + ancillary % 2
-
-    pub twice-fits : sample * 2 < 2 ^ 64
-    twice-fits =
-        let far : 2 ^ f .sample ≤ 2 ^ 40 = pow-mono {i = f .sample} {j = 40} (s .sample-to) in
-        omega arith
-
-    ten-is : ten ≡ nineOf (f .sample) sample * 2 + ancillary % 2
-    ten-is = ap (λ (n : ℕ). n * 2 + ancillary % 2) (nine-top (f .sample) (s .sample-from) hs)
-
-    pub ten-lt : ten < 1024
-    ten-lt = rw ten-is (omega (arith, nine-lt (f .sample) sample))
-
-    pub guard-looked : {table : List ℕ} {guard : ℕ} → table ≡ sevenGuards → guard ≡ getD table (bitXor ten (ten / 128) % 128) 0
-        → guard ≡ guardOf (f .sample) sample ancillary
-    guard-looked same e =
-        e
-        ∙ ap (λ (l : List ℕ). getD l (bitXor ten (ten / 128) % 128) 0) same
-        ∙ seven-guard (f .sample) sample ancillary ten-is
-
-    module _ (some : f .overhead ≡ 0 → ⊥) where
-      whole-is : (above * 2 ^ f .overhead) % 2 ^ 64 ≡ (sample * 2 ^ f .ancillary + ancillary) * 2 ^ f .overhead
-      whole-is =
-          ap (λ (n : ℕ). (n * 2 ^ f .overhead) % 2 ^ 64) above-is
-          ∙ shl-exact (f .sample + f .ancillary) (f .overhead) 64 above-lt
-          (omega (arith, s .sample-to, s .ancillary-to, s .overhead-to))
-
-      pub subframe-guarded : {guard : ℕ} → guard ≡ guardOf (f .sample) sample ancillary
-          → (above * 2 ^ f .overhead) % 2 ^ 64 + (bit * 8 + guard) ≡ subframeOf f sample ancillary bit
-      unfolding subframeOf overheadOf
-      subframe-guarded {guard} e =
-          ap₂ (λ (x y : ℕ). x + (bit * 8 + y)) whole-is e ∙ rw (ne-eqb (f .overhead) 0 some)
-
-      pub guarded-fits : {guard : ℕ} → guard ≡ guardOf (f .sample) sample ancillary
-          → (above * 2 ^ f .overhead) % 2 ^ 64 + (bit * 8 + guard) < 2 ^ 64
-      guarded-fits e =
-          let far : 256 ^ f .width ≤ 256 ^ 6 = pow-le-pow-right (omega arith) (s .width-to) in
-          omega (arith, subframe-guarded e, subframe-lt s hs ha hb)
-
--- the last octet of a subframe of 56 hex, by the bits of the folded sample and those of the ancillary number
+-- a subframe's last octet, by the bits of the sample and those of the ancillary number
 low-parts : {guard four : ℕ} → guard < 8 → four < 16
     → bitXor guard (four % 16 * 16 + four % 16 % 2 * 3) ≡ four * 16 + bitXor guard (four % 2 * 3)
 unfolding every
@@ -119,24 +52,81 @@ pub low-rest : (X : Type 0) (four : ℕ) → four < 16 → NoneOf X (singles 15)
 unfolding every orListed
 low-rest X four less none = eqb→eq _ _ (others X (singles 15) (λ k. eqb 243 (k * 16 + k % 2 * 3)) 16 tt four less none)
 
+pub low-octet : (n sample : ℕ) {four guard low : ℕ} → four < 16 → guard ≡ tenGuard (nineOf n sample * 2) → low ≡ four % 16 * 16 + four % 16 % 2 * 3
+    → bitXor guard low ≡ four * 16 + guardOf n sample four
+unfolding guardOf
+low-octet n sample {four} hf guard-is low-is =
+    ap₂ bitXor guard-is low-is
+    ∙ low-parts (ten-guard-lt (nineOf n sample * 2)) hf
+    ∙ ap (λ (g : ℕ). four * 16 + g) (with-v {nine = nineOf n sample} (nine-lt n sample) (mod-lt four (omega arith)))
+
+module _ {f : Format} (s : Sound f) {sample ancillary bit : ℕ}
+    (hs : sample < 2 ^ f .sample) (ha : ancillary < 2 ^ f .ancillary) (hb : bit < 2)
+  where
+    -- the sample in its place, as the code moves it up
+    abbrev above : ℕ
+    above = (sample * 2 ^ (f .ancillary + f .overhead)) % 2 ^ 64
+
+    above-is : above ≡ sample * 2 ^ f .ancillary * 2 ^ f .overhead
+    above-is =
+        shl-exact (f .sample) (f .ancillary + f .overhead) 64 hs (omega (arith, s .sample-to, s .ancillary-to, s .overhead-to))
+        ∙ ap (λ (n : ℕ). sample * n) (pow-add 2 (f .ancillary) (f .overhead))
+        ∙ sym (mul-assoc sample (2 ^ f .ancillary) (2 ^ f .overhead))
+
+    pub subframe-fits : {number : ℕ} → number ≡ subframeOf f sample ancillary bit → number < 2 ^ 64
+    subframe-fits e =
+        let far : 256 ^ f .width ≤ 256 ^ 6 = pow-le-pow-right (omega arith) (s .width-to) in
+        omega (arith, e, subframe-lt s hs ha hb)
+
+    pub few-ancillary : ancillary < 16
+    few-ancillary =
+        let far : 2 ^ f .ancillary ≤ 2 ^ 4 = pow-mono {i = f .ancillary} {j = 4} (s .ancillary-to) in
+        omega arith
+
+    pub subframe-plain : f .overhead ≡ 0 → above + ancillary ≡ subframeOf f sample ancillary bit
+    unfolding subframeOf overheadOf
+    subframe-plain none = ap (λ (n : ℕ). n + ancillary) above-is ∙ rw (none, mul-one) (omega arith)
+
+    -- the nine top bits as the code shifts them down, and the ten with V 0
+    abbrev ten : ℕ
+    ten = sample * 2 / 2 ^ (f .sample - 8) * 2
+
+    pub twice-fits : sample * 2 < 2 ^ 64
+    twice-fits =
+        let far : 2 ^ f .sample ≤ 2 ^ 40 = pow-mono {i = f .sample} {j = 40} (s .sample-to) in
+        omega arith
+
+    ten-is : ten ≡ nineOf (f .sample) sample * 2
+    ten-is = ap (λ (n : ℕ). n * 2) (nine-top (f .sample) (s .sample-from) hs)
+
+    pub ten-lt : ten < 1024
+    ten-lt = rw ten-is (omega (arith, nine-lt (f .sample) sample))
+
+    pub low-looked : {table : List ℕ} {guard low : ℕ} → table ≡ sevenGuards → guard ≡ getD table (bitXor ten (ten / 128) % 128) 0
+        → low ≡ ancillary % 16 * 16 + ancillary % 16 % 2 * 3
+        → bitXor guard low ≡ ancillary * 16 + guardOf (f .sample) sample ancillary
+    low-looked same e low-is =
+        low-octet (f .sample) sample few-ancillary
+        (e
+        ∙ ap (λ (l : List ℕ). getD l (bitXor ten (ten / 128) % 128) 0) same
+        ∙ seven-guard ten-lt
+        ∙ ap tenGuard ten-is)
+        low-is
+
+    pub subframe-guarded : (f .overhead ≡ 0 → ⊥) → {low : ℕ} → low ≡ ancillary * 16 + guardOf (f .sample) sample ancillary
+        → above + (low + bit * 8) ≡ subframeOf f sample ancillary bit
+    unfolding subframeOf overheadOf
+    subframe-guarded some {low} e =
+        ap (λ (n : ℕ). n + (low + bit * 8)) above-is
+        ∙ rw (ne-eqb (f .overhead) 0 some, four s some) (omega (arith, e))
+
 module _ {sample four : ℕ} (hs : sample < 2 ^ 24) (hf : four < 16) where
-  abbrev nine : ℕ
-  nine = sample / 32768
-
-  nine-is : nine ≡ nineOf 24 sample
-  nine-is = (let whole : nine ≡ sample / 32768 % 512 = omega arith in whole) ∙ nine-long sample 24 (omega arith)
-
-  pub usual-low : {guard low : ℕ} → guard ≡ tenGuard (nine % 512 * 2)
-      → low ≡ four % 16 * 16 + four % 16 % 2 * 3
+  pub usual-low : {guard low : ℕ} → guard ≡ tenGuard (sample / 32768 % 512 * 2) → low ≡ four % 16 * 16 + four % 16 % 2 * 3
       → bitXor guard low ≡ four * 16 + guardOf 24 sample four
-  unfolding guardOf
-  usual-low {guard} {low} guard-is low-is =
-      let few : nine < 512 = omega arith in
-      let own : guard ≡ tenGuard (nine * 2) = guard-is ∙ ap (λ (n : ℕ). tenGuard (n * 2)) (mod-eq-of-lt few) in
-      ap₂ bitXor own low-is
-      ∙ low-parts (ten-guard-lt (nine * 2)) hf
-      ∙ ap (λ (g : ℕ). four * 16 + g)
-      (with-v {nine = nine} few (mod-lt four (omega arith)) ∙ ap (λ (n : ℕ). tenGuard (n * 2 + four % 2)) nine-is)
+  usual-low guard-is =
+      low-octet 24 sample hf
+      (guard-is
+      ∙ ap (λ (n : ℕ). tenGuard (n * 2)) ((let whole : sample / 32768 % 512 ≡ sample * 2 / 2 ^ 16 = omega arith in whole) ∙ nine-top 24 (omega arith) hs))
 
 pub usual-subframe : (sample four bit : ℕ) {low : ℕ} → low ≡ four * 16 + guardOf 24 sample four
     → sample * 256 + (low + bit * 8) ≡ subframeOf (shape 24 4 4) sample four bit

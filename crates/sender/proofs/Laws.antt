@@ -99,6 +99,16 @@ module _ (used : ℕ) (samples ancillary : List ℕ) (room : ℕ) where
     unfolding lengthsRefused
     by-ancillary all = rw (eq-eqb room 48 whole, eq-eqb (length samples) used all)
 
+  pub lengths-are : lengthsRefused used samples ancillary room ≡ false → (room ≡ 48) × (length samples ≡ used) × (length ancillary ≡ used)
+  unfolding lengthsRefused
+  lengths-are taken =
+      let first = neither (not (eqb room 48)) _ taken in
+      let next = neither (not (eqb (length samples) used)) _ (first .1) in (
+        eqb-true room 48 (not-false _ (first .0)),
+        eqb-true (length samples) used (not-false _ (next .0)),
+        eqb-true (length ancillary) used (not-false _ (next .1)),
+      )
+
 -- numbers are below a power of two just where the bits that any of them has are
 or-below : (a b k : ℕ) → ltb (bitOr a b) (2 ^ k) ≡ ltb a (2 ^ k) && ltb b (2 ^ k)
 or-below a b k =
@@ -272,14 +282,7 @@ module _ (st : Sender) (indication : Bool) (samples ancillary : List ℕ) (room 
     sixth = past (valuesRefused (formatOf (st .format)) samples ancillary) 5 from-7 (fifth .1)
 
     lengths : (room ≡ 48) × (length samples ≡ usedNow st) × (length ancillary ≡ usedNow st)
-    unfolding lengthsRefused
-    lengths =
-        let first = neither (not (eqb room 48)) _ (fifth .0) in
-        let next = neither (not (eqb (length samples) (usedNow st))) _ (first .1) in (
-          eqb-true room 48 (not-false _ (first .0)),
-          eqb-true (length samples) (usedNow st) (not-false _ (next .0)),
-          eqb-true (length ancillary) (usedNow st) (not-false _ (next .1)),
-        )
+    lengths = lengths-are (usedNow st) samples ancillary room (fifth .0)
 
     pub room-is : room ≡ 48
     room-is = lengths .0

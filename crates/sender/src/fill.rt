@@ -22,6 +22,31 @@ ghost use Rattle.sender.specs.Packing.{
 };
 use crate::judge::wide;
 
+// The ancillary bits in their place in a subframe's last octet, and what V adds to the protection bits.
+pub(crate) fn low_of(four: u64) -> u64
+    ensures { λ r. ⌜ r ≡ four % 16 * 16 + four % 16 % 2 * 3 ⌝ }
+{
+    let key = four % 16;
+    match key {
+        0 => 0,
+        1 => 19,
+        2 => 32,
+        3 => 51,
+        4 => 64,
+        5 => 83,
+        6 => 96,
+        7 => 115,
+        8 => 128,
+        9 => 147,
+        10 => 160,
+        11 => 179,
+        12 => 192,
+        13 => 211,
+        14 => 224,
+        _ => 243,
+    }
+}
+
 // One subframe as a number, with the protection bits of the table.
 fn subframe(
     table: &[u8; 128],
@@ -35,15 +60,16 @@ fn subframe(
     requires { ⌜ Sound (shape length four overhead) × (now table ≡ sevenGuards) × (sample < 2 ^ length) × (ancillary < 2 ^ four) × (bit < 2) ⌝ }
     ensures { λ r. ⌜ r ≡ subframeOf (shape length four overhead) sample ancillary bit ⌝ }
 {
-    let above = (sample << four) + ancillary;
+    let above = sample << (four + overhead);
     if overhead == 0 {
-        return above;
+        return above + ancillary;
     }
     let nine = (sample * 2) >> (length - 8);
-    let ten = nine * 2 + ancillary % 2;
+    let ten = nine * 2;
     let place = ((ten ^ (ten >> 7)) % 128) as usize;
     let guard = wide(table[place]);
-    (above << overhead) + (bit * 8 + guard)
+    let low = guard ^ low_of(ancillary);
+    above + (low + bit * 8)
 }
 
 // Writes a number's octets, the highest first.

@@ -1,6 +1,7 @@
 // What the sender refuses, in the table's order, and which second number it writes.
 ghost use mathlib.Core.Path.{_≡_};
 ghost use Prim.Native.Nat.{_≤_};
+ghost use lib.ListN.{length};
 ghost use Rattle.formats.specs.Formats.{settingsOf};
 ghost use Rattle.sender.specs.Sender.{
   numbersRefused,
@@ -58,29 +59,29 @@ pub(crate) fn state_refusal(
     0
 }
 
-// The bits that any number of a run has: they are below a power of two just where all the numbers are.
-fn samples_united(run: &[u64]) -> u64
-    ensures { λ r. ⌜ Unites (now (run .entry)) r ⌝ }
-{
-    let mut all = 0;
-    let mut i = 0;
-    while i < run.len() {
-        all = all | run[i];
-        i += 1;
-    }
-    all
+// The bits that any sample has, and those that any ancillary number has: they are below a power of two just where all the numbers
+// are.
+struct AllBits {
+    samples: u64,
+    ancillary: u8,
 }
 
-fn octets_united(run: &[u8]) -> u8
-    ensures { λ r. ⌜ Unites (now (run .entry)) r ⌝ }
+fn united(samples: &[u64], ancillary: &[u8]) -> AllBits
+    requires { ⌜ length (now ancillary) ≡ length (now samples) ⌝ }
+    ensures { λ r. ⌜ Unites (now (samples .entry)) (r .samples) × Unites (now (ancillary .entry)) (r .ancillary) ⌝ }
 {
     let mut all = 0;
+    let mut few = 0;
     let mut i = 0;
-    while i < run.len() {
-        all = all | run[i];
+    while i < samples.len() {
+        all = all | samples[i];
+        few = few | ancillary[i];
         i += 1;
     }
-    all
+    AllBits {
+        samples: all,
+        ancillary: few,
+    }
 }
 
 pub(crate) fn wide(octet: u8) -> u64
@@ -104,13 +105,14 @@ fn lengths_refused(used: usize, samples: &[u64], ancillary: &[u8], room: usize) 
 
 // Check 6.
 fn values_refused(format: Format, samples: &[u64], ancillary: &[u8]) -> bool
-    requires { ⌜ (format .sample ≤ 40) × (format .ancillary ≤ 4) ⌝ }
+    requires { ⌜ (format .sample ≤ 40) × (format .ancillary ≤ 4) × (length (now ancillary) ≡ length (now samples)) ⌝ }
     ensures { λ r. ⌜ r ≡ valuesRefused format (now (samples .entry)) (now (ancillary .entry)) ⌝ }
 {
-    if 1 << format.sample <= samples_united(samples) {
+    let bits = united(samples, ancillary);
+    if 1 << format.sample <= bits.samples {
         return true;
     }
-    1 << format.ancillary <= wide(octets_united(ancillary))
+    1 << format.ancillary <= wide(bits.ancillary)
 }
 
 // Check 7.

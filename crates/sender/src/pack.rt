@@ -1,7 +1,9 @@
 // Packing a cell: each format's own call of the filling loops, and the unused slots. A format that no call names takes the call
 // that names none.
 ghost use mathlib.Core.Path.{_≡_};
-ghost use Prim.Native.Nat.{_*_, _%_, _≤_, _<_};
+ghost use mathlib.Core.List.{_++_};
+ghost use Prim.Native.Nat.{_+_, _*_, _%_, _≤_, _<_};
+ghost use Rattle.runs.specs.Runs.{octetsOf};
 ghost use lib.ListN as L;
 ghost use Rattle.formats.specs.Sound.{Limits};
 ghost use Rattle.numbers.specs.Numbers.{entryOf};
@@ -283,6 +285,29 @@ fn idle_subframe(overhead: u64, bit: u64) -> u64
     bit * 8 + 7
 }
 
+// Writes a number's octets, the highest first, the width named again.
+fn put_as(cell: &mut [u8], at: usize, width: usize, named: usize, number: u64)
+    requires { ⌜ (named ≡ width) × (at + width ≤ L.length (now cell)) × (width ≤ 6) ⌝ }
+    ensures { λ r. ⌜ now (cell .exit) ≡ L.take at (now (cell .entry)) ++ octetsOf width number ++ L.drop (at + width) (now (cell .entry)) ⌝ }
+{
+    put(cell, at, named, number);
+}
+
+// Writes the octets of an unused slot: where the width is a constant they are a store or two and no loop.
+fn put_idle(cell: &mut [u8], at: usize, width: usize, number: u64)
+    requires { ⌜ (at + width ≤ L.length (now cell)) × (width ≤ 6) ⌝ }
+    ensures { λ r. ⌜ now (cell .exit) ≡ L.take at (now (cell .entry)) ++ octetsOf width number ++ L.drop (at + width) (now (cell .entry)) ⌝ }
+{
+    match width {
+        1 => put_as(cell, at, width, 1, number),
+        2 => put_as(cell, at, width, 2, number),
+        3 => put_as(cell, at, width, 3, number),
+        4 => put_as(cell, at, width, 4, number),
+        6 => put_as(cell, at, width, 6, number),
+        _ => put_as(cell, at, width, width, number),
+    }
+}
+
 // The unused slots.
 fn fill_idle(set: Settled, used: usize, sequence: u64, cell: &mut [u8])
     requires { ⌜ Limits set × (used ≤ set .format .slots) × (L.length (now cell) ≡ 48) ⌝ }
@@ -295,7 +320,7 @@ fn fill_idle(set: Settled, used: usize, sequence: u64, cell: &mut [u8])
     while slot < slots {
         let bit = (sequence >> slot) % 2;
         let number = idle_subframe(overhead, bit);
-        put(cell, slot * width, width, number);
+        put_idle(cell, slot * width, width, number);
         slot += 1;
     }
 }

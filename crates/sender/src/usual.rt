@@ -9,33 +9,9 @@ ghost use Rattle.cells.specs.Cells.{subframeOf};
 ghost use Rattle.sender.specs.Sender.{Writes};
 ghost use Rattle.sender.specs.Packing.{shape, Fillable, inOrder, written, Usual};
 use crate::Sender;
+use crate::fill::low_of;
 use crate::fill::put;
 use crate::judge;
-
-// The ancillary bits in their place in a subframe's last octet, and what V adds to the protection bits.
-fn low_of(four: u64) -> u64
-    ensures { λ r. ⌜ r ≡ four % 16 * 16 + four % 16 % 2 * 3 ⌝ }
-{
-    let key = four % 16;
-    match key {
-        0 => 0,
-        1 => 19,
-        2 => 32,
-        3 => 51,
-        4 => 64,
-        5 => 83,
-        6 => 96,
-        7 => 115,
-        8 => 128,
-        9 => 147,
-        10 => 160,
-        11 => 179,
-        12 => 192,
-        13 => 211,
-        14 => 224,
-        _ => 243,
-    }
-}
 
 // One subframe as a number.
 fn subframe(sample: u64, four: u64, bit: u64) -> u64

@@ -60,28 +60,7 @@ arm-guard [] t i key one = absurd one
 arm-guard (arm ∷ arms) t zero key one = class (arm .guard) (arm .keys) (both-left (all-have (arm .guard) (arm .keys)) (right arms) t) key one
 arm-guard (arm ∷ arms) t (suc i) key one = arm-guard arms (both-right (all-have (arm .guard) (arm .keys)) (right arms) t) i key one
 
--- numbers of seven bits; the last arm of the `match` has those with 3
-abbrev pub sevens : List Arm
-sevens =
-    record { guard = 7; keys = 0 ∷ 11 ∷ 22 ∷ 29 ∷ 39 ∷ 44 ∷ 49 ∷ 58 ∷ 69 ∷ 78 ∷ 83 ∷ 88 ∷ 98 ∷ 105 ∷ 116 ∷ 127 ∷ [] }
-    ∷ record { guard = 1; keys = 1 ∷ 10 ∷ 23 ∷ 28 ∷ 38 ∷ 45 ∷ 48 ∷ 59 ∷ 68 ∷ 79 ∷ 82 ∷ 89 ∷ 99 ∷ 104 ∷ 117 ∷ 126 ∷ [] }
-    ∷ record { guard = 0; keys = 2 ∷ 9 ∷ 20 ∷ 31 ∷ 37 ∷ 46 ∷ 51 ∷ 56 ∷ 71 ∷ 76 ∷ 81 ∷ 90 ∷ 96 ∷ 107 ∷ 118 ∷ 125 ∷ [] }
-    ∷ record { guard = 6; keys = 3 ∷ 8 ∷ 21 ∷ 30 ∷ 36 ∷ 47 ∷ 50 ∷ 57 ∷ 70 ∷ 77 ∷ 80 ∷ 91 ∷ 97 ∷ 106 ∷ 119 ∷ 124 ∷ [] }
-    ∷ record { guard = 2; keys = 4 ∷ 15 ∷ 18 ∷ 25 ∷ 35 ∷ 40 ∷ 53 ∷ 62 ∷ 65 ∷ 74 ∷ 87 ∷ 92 ∷ 102 ∷ 109 ∷ 112 ∷ 123 ∷ [] }
-    ∷ record { guard = 4; keys = 5 ∷ 14 ∷ 19 ∷ 24 ∷ 34 ∷ 41 ∷ 52 ∷ 63 ∷ [] }
-    ∷ record { guard = 4; keys = 64 ∷ 75 ∷ 86 ∷ 93 ∷ 103 ∷ 108 ∷ 113 ∷ 122 ∷ [] }
-    ∷ record { guard = 5; keys = 6 ∷ 13 ∷ 16 ∷ 27 ∷ 33 ∷ 42 ∷ 55 ∷ 60 ∷ 67 ∷ 72 ∷ 85 ∷ 94 ∷ 100 ∷ 111 ∷ 114 ∷ 121 ∷ [] }
-    ∷ []
-
-pub of-seven : (i key : ℕ) → OneOf (armAt sevens i .keys) key → tenGuard (key * 2) ≡ armAt sevens i .guard
-unfolding right all-have has tenGuard coefficients divided takenDown
-of-seven = arm-guard sevens tt
-
-pub of-seven-last : (X : Type 0) (key : ℕ) → key < 128 → NoneOf X (keysBack sevens []) key → tenGuard (key * 2) ≡ 3
-unfolding every orListed has tenGuard coefficients divided takenDown
-of-seven-last X key less none = has-guard 3 key (others X (keysBack sevens []) (has 3) 128 tt key less none)
-
--- numbers of nine bits, likewise
+-- numbers of nine bits; the last arm of the `match` has those with 3
 abbrev pub nines : List Arm
 nines =
     record { guard = 7; keys = 0 ∷ 11 ∷ 22 ∷ 29 ∷ 39 ∷ 44 ∷ 49 ∷ 58 ∷ 69 ∷ 78 ∷ 83 ∷ 88 ∷ [] }

@@ -11,7 +11,7 @@ use Rattle.receiver.proofs.unpack.parts.Tie as tie
 split-requires : tie.Need-split-requires
 split-requires c κs =
     let s = c .before .before .before .before .before .before .before .before in
-    (s .pre .1 (c .before .before .before .if1 .taken), four (s .pre .0) (c .before .before .before .if1 .taken), s .pre .2)
+    (s .pre .0, s .pre .1 (c .before .before .before .if1 .taken), four (s .pre .0) (c .before .before .before .if1 .taken), s .pre .2)
 
 same-length : tie.Need-same-length
 same-length c = search needs

@@ -1,26 +1,29 @@
 -- `receiver::usual::own_entries` meets its contract.
 -- Assumes nothing.
-use mathlib.Core.Path.{_≡_, refl}
-use Prim.Native.Nat.{_/_, _%_, _-_}
+use mathlib.Core.Path.{_≡_, refl, _∙_}
+use Prim.Native.Nat.{_*_, _/_, _%_, _-_}
 use native.Mathlib.Omega.{arith}
 use denote.Ref.{now}
 use borrow.Author.Needs.{needs}
-use Rattle.formats.specs.Formats.{usualWith}
+use Rattle.receiver.specs.Unpacking.{fours}
 use Rattle.receiver.proofs.Marking.{mark-on-top}
-use Rattle.receiver.proofs.AllSlots.{subframe-is, Entered, entered-begun, entered-on, entered-done}
+use Rattle.receiver.proofs.Reading.{by-width, four-read}
+use Rattle.receiver.proofs.AllSlots.{Entered, entered-begun, room-here, entered-on, entered-done}
 use Rattle.receiver.proofs.usual.own_entries.Statement.{statement}
 use Rattle.receiver.proofs.usual.own_entries.Tie as tie
 
 abbrev Inv-loop : tie.InvT-loop
 Inv-loop cell at samples₀ ancillary₀ marks₀ i₀ samples ancillary marks i =
-    Entered (usualWith 1 12) cell at samples₀ ancillary₀ marks₀ samples ancillary marks i
+    Entered fours 12 cell at samples₀ ancillary₀ marks₀ samples ancillary marks i
 
 abbrev μ-loop : tie.MeasureT-loop
 μ-loop cell at samples₀ ancillary₀ marks₀ i₀ samples ancillary marks i = 12 - i
 
 loop-holds : tie.Need-loop-holds Inv-loop μ-loop
 loop-holds c =
-    let a = c .before .before .before .before .args in entered-begun (usualWith 1 12) refl refl refl (now (a .cell)) (a .at) (now (a .samples)) (now (a .ancillary)) (now (a .marks))
+    let s = c .before .before .before .before in
+    entered-begun fours refl refl 12 (now (s .args .cell)) (s .args .at) (now (s .args .samples)) (now (s .args .ancillary)) (now (s .args .marks))
+    (s .pre .1)
 
 mul-in4 : tie.Need-mul-in4 Inv-loop μ-loop
 mul-in4 c = omega (arith, c .loop-test .taken)
@@ -28,51 +31,34 @@ mul-in4 c = omega (arith, c .loop-test .taken)
 in4-requires : tie.Need-in4-requires Inv-loop μ-loop
 in4-requires c κs = omega (arith, c .before .before .before .before .before .before .pre .0, c .loop-test .taken)
 
-add-samples : tie.Need-add-samples Inv-loop μ-loop
-add-samples c = omega (arith, c .before .before .before .before .before .before .before .pre .1 .samples-room, c .before .loop-test .taken)
+add-enter : tie.Need-add-enter Inv-loop μ-loop
+add-enter c = omega (arith, c .before .before .before .before .before .before .before .before .pre .1 .samples-room, c .before .before .loop-test .taken)
 
-mul-samples : tie.Need-mul-samples Inv-loop μ-loop
-mul-samples c = omega (arith, c .before .before .before .before .before .before .before .pre .1 .samples-room, c .before .loop-test .taken, c .before .before .before .before .before .before .before .good)
-
-slice-write-samples : tie.Need-slice-write-samples Inv-loop μ-loop
-slice-write-samples c = omega (arith, c .before .before .before .before .before .before .before .pre .1 .samples-room, c .before .loop-test .taken, c .before .before .loop .inv .samples-so-far .same)
-
-cast-ancillary : tie.Need-cast-ancillary Inv-loop μ-loop
-cast-ancillary c = omega arith
-
-add-ancillary : tie.Need-add-ancillary Inv-loop μ-loop
-add-ancillary c = omega (arith, c .before .before .before .before .before .before .before .pre .1 .ancillary-room, c .before .loop-test .taken)
-
-slice-write-ancillary : tie.Need-slice-write-ancillary Inv-loop μ-loop
-slice-write-ancillary c = omega (arith, c .before .before .before .before .before .before .before .pre .1 .ancillary-room, c .before .loop-test .taken, c .before .before .loop .inv .ancillary-so-far .same)
-
-shr-marks : tie.Need-shr-marks Inv-loop μ-loop
-shr-marks c = omega arith
-
-cast-marks : tie.Need-cast-marks Inv-loop μ-loop
-cast-marks c = omega arith
-
-add-marks : tie.Need-add-marks Inv-loop μ-loop
-add-marks c = omega (arith, c .before .before .before .before .before .before .before .before .pre .1 .marks-room, c .before .before .loop-test .taken)
-
-slice-write-marks : tie.Need-slice-write-marks Inv-loop μ-loop
-slice-write-marks c = omega (arith, c .before .before .before .before .before .before .before .before .pre .1 .marks-room, c .before .before .loop-test .taken, c .before .before .before .loop .inv .marks-so-far .same)
+enter-requires : tie.Need-enter-requires Inv-loop μ-loop
+enter-requires c κs =
+    let s = c .before .before .before .before .before .before .before .before .before .before .before in
+    room-here fours refl refl 12 (now (s .args .cell)) (s .args .at) (now (s .args .samples)) (now (s .args .ancillary)) (now (s .args .marks))
+    (s .pre .1) (c .before .before .before .before .before .before .loop .inv) (c .before .before .before .before .before .loop-test .taken)
 
 add-i : tie.Need-add-i Inv-loop μ-loop
-add-i c = omega (arith, c .before .before .loop-test .taken)
+add-i c = omega (arith, c .before .before .before .before .before .before .before .before .before .before .before .before .loop-test .taken)
 
 loop-less : tie.Need-loop-less Inv-loop μ-loop
-loop-less c = omega (arith, c .before .before .loop-test .taken)
+loop-less c = omega (arith, c .before .before .before .before .before .before .before .before .before .before .before .before .loop-test .taken)
 
 loop-again : tie.Need-loop-again Inv-loop μ-loop
 loop-again c =
-    let s = c .before .before .before .before .before .before .before .before in
-    let word = c .before .in4 .result in
-    entered-on (usualWith 1 12) refl refl refl (now (s .args .cell)) (s .args .at) (now (s .args .samples)) (now (s .args .ancillary))
-    (now (s .args .marks)) (s .pre .1) (c .before .before .before .loop .inv) (c .before .before .loop-test .taken)
-    (subframe-is (now (s .args .cell)) (c .before .before .before .loop .i) (s .pre .0) (c .before .before .loop-test .taken) (c .before .in4 .ensures .0))
-    (mark-on-top (usualWith 1 12 .format) refl refl word 24 (word / 8388608) refl (omega arith)
-    (let top : word / 8388608 % 512 ≡ word / 256 / 32768 % 512 = omega arith in top) (c .marks-at .result) (c .marks-at .ensures .0))
+    let s = c .before .before .before .before .before .before .before .before .before .before .before .before .before .before .before .before .before .before in
+    let less = c .before .before .before .before .before .before .before .before .before .before .before .before .loop-test .taken in
+    let slot = c .before .before .before .before .before .before .before .before .before .before .before .before .before .loop .i in
+    let word = c .before .before .before .before .before .before .before .before .before .before .before .in4 .result in
+    entered-on fours refl refl 12 (now (s .args .cell)) (s .args .at) (now (s .args .samples)) (now (s .args .ancillary)) (now (s .args .marks))
+    (s .pre .1) (c .before .before .before .before .before .before .before .before .before .before .before .before .before .loop .inv) less
+    (by-width fours (now (s .args .cell)) slot refl
+    (c .before .before .before .before .before .before .before .before .before .before .before .in4 .ensures .0 ∙ four-read (now (s .args .cell)) (slot * 4) (omega (arith, s .pre .0, less))))
+    (mark-on-top fours refl refl word 24 (word / 8388608) refl (omega arith)
+    (let on-top : word / 8388608 % 512 ≡ word / 256 * 2 / 65536 % 512 = omega arith in on-top) (c .before .before .before .before .before .before .before .before .before .before .marks-at .result) (c .before .before .before .before .before .before .before .before .before .before .marks-at .ensures .0))
+    (c .before .before .before .before .before .before .enter .ensures)
 
 same-length : tie.Need-same-length Inv-loop μ-loop
 same-length c = c .before .loop .inv .samples-so-far .same
@@ -86,12 +72,11 @@ same-length-3 c = c .before .loop .inv .marks-so-far .same
 returns : tie.Need-returns Inv-loop μ-loop
 returns c =
     let s = c .before .before .before .before .before .before in
-    entered-done (usualWith 1 12) refl refl refl (now (s .args .cell)) (s .args .at) (now (s .args .samples)) (now (s .args .ancillary)) (now (s .args .marks)) (s .pre .1)
-    (c .before .loop .inv) (c .loop-test .left)
+    entered-done fours refl refl 12 (now (s .args .cell)) (s .args .at) (now (s .args .samples)) (now (s .args .ancillary)) (now (s .args .marks))
+    (s .pre .1) (c .before .loop .inv) (c .loop-test .left)
 
 pub own-entries-spec : {M : Type 1} → statement M
 own-entries-spec =
     tie.close
-    (tie.spec Inv-loop μ-loop loop-holds mul-in4 in4-requires add-samples mul-samples slice-write-samples cast-ancillary
-    add-ancillary slice-write-ancillary (search needs) shr-marks cast-marks add-marks slice-write-marks add-i loop-less loop-again
+    (tie.spec Inv-loop μ-loop loop-holds mul-in4 in4-requires (search needs) add-enter enter-requires add-i loop-less loop-again
     same-length same-length-2 same-length-3 returns)

@@ -1,7 +1,7 @@
 -- `receiver::usual::write` meets its contract.
 -- Assumes nothing.
 use denote.Ref.{now}
-use Rattle.formats.specs.Formats.{usualWith}
+use Rattle.receiver.specs.Unpacking.{straightWith, fours}
 use Rattle.receiver.proofs.Unpacking.{writes}
 use borrow.Author.Needs.{needs}
 use Rattle.receiver.proofs.usual.write.Statement.{statement}
@@ -10,7 +10,7 @@ use Rattle.receiver.proofs.usual.write.Tie as tie
 returns : tie.Need-returns
 returns c =
     let s = c .before .before .before .before .before .before .before .before .before .before .before .before .before .before .before .before .before .before .before .before .before .before .before .before in
-    writes (usualWith 1 12) (now (s .args .cell)) (s .args .missing) (now (s .args .samples)) (now (s .args .ancillary))
+    writes (straightWith fours 12) (now (s .args .cell)) (s .args .missing) (now (s .args .samples)) (now (s .args .ancillary))
     (now (s .args .marks)) (s .pre .1) (c .before .before .before .before .before .before .before .before .before .before .before .before .before .before .before .before .missing-entries .ensures) (c .before .before .before .before .before .before .own-entries .ensures)
 
 pub write-spec : {M : Type 1} → statement M

@@ -6,7 +6,7 @@ use Prim.Native.Nat.{_*_}
 use native.Mathlib.Omega.{arith}
 use denote.Ref.{now}
 use Rattle.sender.specs.Sender.{numbersRefused, lengthsRefused, valuesRefused}
-use Rattle.sender.proofs.Laws.{sends-settings, sends-4, sends-5, sends-6, sends-7, sends-0, limits}
+use Rattle.sender.proofs.Laws.{sends-settings, sends-4, sends-5, sends-6, sends-7, sends-0, limits, lengths-are}
 use borrow.Author.Needs.{needs}
 use Rattle.sender.proofs.judge.send_refusal.Statement.{statement}
 use Rattle.sender.proofs.judge.send_refusal.Tie as tie
@@ -48,8 +48,11 @@ returns-3 c =
 
 values-refused-requires : tie.Need-values-refused-requires
 values-refused-requires c κs =
-    let a = c .before .before .before .before .before .before .before .before .before .before .before .args in
-    (limits (a .state) (a .indication) (now (a .samples)) (now (a .ancillary)) (a .room) (c .before .before .before .before .before .before .before .before .before .before .before .pre) (c .before .before .before .before .before .before .before .before .if1 .left) .sample-to, limits (a .state) (a .indication) (now (a .samples)) (now (a .ancillary)) (a .room) (c .before .before .before .before .before .before .before .before .before .before .before .pre) (c .before .before .before .before .before .before .before .before .if1 .left) .ancillary-to)
+    let s = c .before .before .before .before .before .before .before .before .before .before .before in
+    let a = s .args in
+    let bounds = limits (a .state) (a .indication) (now (a .samples)) (now (a .ancillary)) (a .room) (s .pre) (c .before .before .before .before .before .before .before .before .if1 .left) in
+    let long = lengths-are (a .set .channels * a .set .times) (now (a .samples)) (now (a .ancillary)) (a .room) (sym (fifth c)) in
+    (bounds .sample-to, bounds .ancillary-to, long .2 ∙ sym (long .1))
 
 returns-4 : tie.Need-returns-4
 returns-4 c =

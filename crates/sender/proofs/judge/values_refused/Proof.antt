@@ -8,20 +8,14 @@ use Rattle.sender.proofs.judge.values_refused.Tie as tie
 
 returns : tie.Need-returns
 returns c =
-    let a = c .before .before .before .before .before .args in
-    samples-refused (a .format) (now (a .samples)) (now (a .ancillary)) (c .before .samples-united .ensures)
-    (c .before .before .before .before .before .pre .0) (c .if1 .taken)
+    let s = c .before .before .before .before .before .before in
+    samples-refused (s .args .format) (now (s .args .samples)) (now (s .args .ancillary)) (c .before .before .before .united .ensures .0) (s .pre .0) (c .if1 .taken)
 
 returns-2 : tie.Need-returns-2
 returns-2 c =
-    let a = c .before .before .before .before .before .before .before .before .args in
-    ancillary-refused (a .format) (now (a .samples)) (now (a .ancillary))
-    (c .before .before .before .before .samples-united .ensures)
-    (c .before .before .before .before .before .before .before .before .pre .0) (c .before .before .before .if1 .left)
-    (c .before .before .before .before .before .before .before .before .pre .1) (c .before .octets-united .ensures)
-    (c .wide .ensures)
+    let s = c .before .before .before .before .before .before .before .before in
+    ancillary-refused (s .args .format) (now (s .args .samples)) (now (s .args .ancillary)) (c .before .before .before .before .before .united .ensures .0)
+    (s .pre .0) (c .before .before .if1 .left) (s .pre .1) (c .before .before .before .before .before .united .ensures .1) (c .wide .ensures)
 
 pub values-refused-spec : {M : Type 1} → statement M
-values-refused-spec =
-    tie.close
-    (tie.spec (search needs) (search needs) returns (search needs) (search needs) (search needs) returns-2)
+values-refused-spec = tie.close (tie.spec (search needs) (search needs) returns (search needs) (search needs) returns-2)

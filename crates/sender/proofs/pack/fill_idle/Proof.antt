@@ -28,12 +28,12 @@ shr-bit c = omega arith
 idle-subframe-requires : tie.Need-idle-subframe-requires Inv-loop μ-loop
 idle-subframe-requires c κs = omega arith
 
-mul-put : tie.Need-mul-put Inv-loop μ-loop
-mul-put c =
+mul-put-idle : tie.Need-mul-put-idle Inv-loop μ-loop
+mul-put-idle c =
     omega (arith, slot-room (c .before .before .before .before .before .pre .0 .sound) (c .before .before .loop-test .taken))
 
-put-requires : tie.Need-put-requires Inv-loop μ-loop
-put-requires c κs =
+put-idle-requires : tie.Need-put-idle-requires Inv-loop μ-loop
+put-idle-requires c κs =
     let given = c .before .before .before .before .before .pre in
     (omega (arith, slot-room (given .0 .sound) (c .before .before .loop-test .taken), c .before .before .before .loop .inv .2 .same, given .2), given .0 .sound .width-to)
 
@@ -46,7 +46,7 @@ loop-less c = omega arith
 loop-again : tie.Need-loop-again Inv-loop μ-loop
 loop-again c =
     let a = c .before .before .before .before .before .before .before .before .args in
-    (omega (arith, c .before .before .before .before .before .before .loop .inv .0), omega (arith, c .before .before .before .before .before .loop-test .taken), continues-on (a .set .format .width) (a .set .format .overhead) (a .sequence) (now (a .cell)) (a .used) (c .before .before .before .before .before .before .loop .inv .2) (c .before .before .before .before .before .before .loop .inv .0) (c .before .before .before .before .idle-subframe .ensures) (c .before .before .put .ensures) (c .before .before .put .kept .0))
+    (omega (arith, c .before .before .before .before .before .before .loop .inv .0), omega (arith, c .before .before .before .before .before .loop-test .taken), continues-on (a .set .format .width) (a .set .format .overhead) (a .sequence) (now (a .cell)) (a .used) (c .before .before .before .before .before .before .loop .inv .2) (c .before .before .before .before .before .before .loop .inv .0) (c .before .before .before .before .idle-subframe .ensures) (c .before .before .put-idle .ensures) (c .before .before .put-idle .kept .0))
 
 same-length : tie.Need-same-length Inv-loop μ-loop
 same-length c = c .before .loop .inv .2 .same
@@ -68,8 +68,8 @@ fill-idle-spec =
     loop-holds
     shr-bit
     idle-subframe-requires
-    mul-put
-    put-requires
+    mul-put-idle
+    put-idle-requires
     add-slot
     loop-less
     loop-again
