@@ -4,13 +4,14 @@ use mathlib.Core.Bool.{Bool, true, false}
 use mathlib.Core.List.{List}
 use mathlib.Core.Logic.{⊎-elim}
 use mathlib.Core.Path.{_≡_, sym, _∙_, ap, ap₂}
-use Prim.Native.Nat.{ℕ, zero, suc, _+_, _*_, _/_, _%_, _-_, _≤_, _<_}
-use native.Mathlib.Nat.{mod-lt, div-lt-iff-lt-mul, div-add-mod', mul-comm, suc-mul, zero-mul, eq-or-lt-of-le}
+use Prim.Native.Nat.{ℕ, zero, suc, _+_, _*_, _/_, _%_, _-_, _<_}
+use native.Mathlib.Nat.{mod-lt, div-lt-iff-lt-mul, div-add-mod', mul-comm, suc-mul, eq-or-lt-of-le}
 use native.Mathlib.Omega.{arith}
 use borrow.Author.Tests.{lt-ltb, le-ltb}
 use lib.Arith.{digits-div, digits-mod, digits-lt}
 use lib.ListN.{getD}
-use Rattle.cells.specs.Placement.{slotOf, slotOfEntry, entryOfSlot, nextEntry, carried}
+use Rattle.cells.specs.Placement.{slotOf, slotOfEntry, entryOfSlot, carried}
+use Rattle.cells.specs.Code.{stepOn}
 
 -- rows of `across` numbers read down instead: each number once, and back by the same with the two lengths swapped
 swapped : ℕ → ℕ → ℕ → ℕ
@@ -27,6 +28,30 @@ swapped-back across down {n} some h =
     let less : n / across < down = div-lt-iff-lt-mul some .1 (rw (mul-comm across down) at h) in
     ap₂ (λ (high low : ℕ). high * across + low) (digits-mod (n % across) less) (digits-div (n % across) less)
     ∙ div-add-mod' n across
+
+swapped-next : (across down : ℕ) {n : ℕ} → zero < across → n < across * down
+    → stepOn down (across * down) (swapped across down n) ≡ swapped across down (n + 1)
+unfolding stepOn swapped
+swapped-next across down {n} some h =
+    step (n / across) (n % across) (mod-lt n some) (div-lt-iff-lt-mul some .1 (rw (mul-comm across down) at h))
+    ∙ ap (λ (m : ℕ). (m + 1) % across * down + (m + 1) / across) (div-add-mod' n across)
+  where
+    -- a number told by its row and its place there
+    step : (q r : ℕ) → r < across → q < down → stepOn down (across * down) (r * down + q)
+        ≡ (q * across + r + 1) % across * down + (q * across + r + 1) / across
+    step q r inside early =
+        ⊎-elim
+        (λ e.
+        let over : across * down ≡ r * down + down = ap (λ (m : ℕ). m * down) (sym e) ∙ suc-mul r down in
+        let whole : q * across + r + 1 ≡ suc q * across + 0 = omega (arith, e, suc-mul q across) in
+        rw (le-ltb (r * down + q + down) (across * down) (omega (arith, over)), whole, digits-mod (suc q) some, digits-div (suc q) some)
+        (omega (arith, over)))
+        (λ next.
+        let within : suc r * down + q < across * down = digits-lt next early in
+        let whole : q * across + r + 1 ≡ q * across + suc r = omega arith in
+        rw (lt-ltb (r * down + q + down) (across * down) (omega (arith, within, suc-mul r down)), whole, digits-mod q next, digits-div q next)
+        (omega (arith, suc-mul r down)))
+        (eq-or-lt-of-le inside)
 
 module _ (channels times : ℕ) (some : zero < channels) where
   pub slot-lt : (byChannel : Bool) {entry : ℕ} → entry < channels * times → slotOfEntry byChannel channels times entry < channels * times
@@ -52,49 +77,19 @@ module _ (channels times : ℕ) (some : zero < times) where
   slot-of-entry true {slot} h = swapped-back times channels some (rw (mul-comm channels times) at h)
   slot-of-entry false {slot} h = div-add-mod' slot channels
 
-module _ (channels times : ℕ) (some : zero < times) where
-  -- the entry of time r of channel q
-  at-row : (q : ℕ) {r slot : ℕ} → r < times → slot ≡ q * times + r → entryOfSlot true channels times slot ≡ r * channels + q
-  unfolding entryOfSlot
-  at-row q h e =
-      ap (entryOfSlot true channels times) e ∙ ap₂ (λ (low high : ℕ). low * channels + high) (digits-mod q h) (digits-div q h)
+-- the next place by a step on
+module _ (channels times : ℕ) where
+  pub slot-next : zero < channels → {entry : ℕ} → entry < channels * times
+      → stepOn times (channels * times) (slotOfEntry true channels times entry) ≡ slotOfEntry true channels times (entry + 1)
+  unfolding slotOfEntry slotOf swapped
+  slot-next some h = swapped-next channels times some h
 
-  pub entry-next : (slot : ℕ) → slot + 1 < channels * times
-      → nextEntry channels (channels * times) (entryOfSlot true channels times slot) ≡ entryOfSlot true channels times (slot + 1)
-  unfolding nextEntry
-  entry-next slot less =
-      go (slot / times) (slot % times) (sym (div-add-mod' slot times)) (mod-lt slot some)
-      (div-lt-iff-lt-mul some .1 (let h : slot < channels * times = omega arith in h))
-    where
-      go : (q r : ℕ) → slot ≡ q * times + r → r < times → q < channels
-          → nextEntry channels (channels * times) (entryOfSlot true channels times slot)
-          ≡ entryOfSlot true channels times (slot + 1)
-      go q r e h low =
-          let here : entryOfSlot true channels times slot ≡ r * channels + q = at-row q h e in
-          let row : (r + 1) * channels ≡ r * channels + channels = omega (arith, suc-mul r channels) in
-          ⊎-elim
-          (λ (last : suc r ≡ times).
-          let far : channels * times ≤ r * channels + q + channels
-          = rw (← last) (omega (arith, mul-comm channels (suc r), suc-mul r channels)) in
-          let first : entryOfSlot true channels times (slot + 1) ≡ 0 * channels + (q + 1)
-          = at-row (q + 1) some (let n : slot + 1 ≡ (q + 1) * times + 0 = omega (arith, e, suc-mul q times) in n) in
-          let whole : channels * times ≡ r * channels + channels
-          = rw (← last) (omega (arith, mul-comm channels (suc r), suc-mul r channels)) in
-          ap (nextEntry channels (channels * times)) here
-          ∙ rw (le-ltb (r * channels + q + channels) (channels * times) far)
-          (let n : r * channels + q + channels - (channels * times - 1) ≡ 0 * channels + (q + 1)
-          = omega (arith, whole, less, zero-mul channels) in n)
-          ∙ sym first)
-          (λ (more : suc r < times).
-          let near : r * channels + q + channels < channels * times
-          = omega (arith, digits-lt more low, suc-mul r channels, mul-comm channels times) in
-          let on : entryOfSlot true channels times (slot + 1) ≡ (r + 1) * channels + q
-          = at-row q (omega arith) (let n : slot + 1 ≡ q * times + (r + 1) = omega (arith, e) in n) in
-          ap (nextEntry channels (channels * times)) here
-          ∙ rw (lt-ltb (r * channels + q + channels) (channels * times) near)
-          (let n : r * channels + q + channels ≡ (r + 1) * channels + q = omega (arith, row) in n)
-          ∙ sym on)
-          (eq-or-lt-of-le h)
+  pub entry-next : zero < times → {slot : ℕ} → slot < channels * times
+      → stepOn channels (channels * times) (entryOfSlot true channels times slot) ≡ entryOfSlot true channels times (slot + 1)
+  unfolding entryOfSlot swapped
+  entry-next some {slot} h =
+      ap (λ (n : ℕ). stepOn channels n (entryOfSlot true channels times slot)) (mul-comm channels times)
+      ∙ swapped-next times channels some (rw (mul-comm channels times) at h)
 
 -- the slot of an entry carries it
 pub carried-entry : (channels times : ℕ) (byChannel : Bool) (run : List ℕ) {entry : ℕ} → zero < channels → entry < channels * times

@@ -1,7 +1,7 @@
 -- Placement, document 01: C channels at T times in the first C×T slots. `byChannel` is order 1.
 -- Assumes nothing.
 use mathlib.Core.Bool.{Bool, cond}
-use Prim.Native.Nat.{ℕ, _+_, _*_, _/_, _%_, _-_}
+use Prim.Native.Nat.{ℕ, _+_, _*_, _/_, _%_}
 use lib.Dec.{ltb}
 use lib.ListN.{getD}
 use mathlib.Core.List.{List}
@@ -17,10 +17,6 @@ slotOfEntry byChannel channels times entry = slotOf byChannel channels times (en
 -- the converse: the entry of a used slot
 unfoldable pub entryOfSlot : Bool → ℕ → ℕ → ℕ → ℕ
 entryOfSlot byChannel channels times slot = cond byChannel (slot % times * channels + slot / times) slot
-
--- the same from slot to slot in order 1: C entries on, and from a channel's last time back to the next channel's first
-unfoldable pub nextEntry : ℕ → ℕ → ℕ → ℕ
-nextEntry channels used entry = cond (ltb (entry + channels) used) (entry + channels) (entry + channels - (used - 1))
 
 -- "C times T slots are used, the first ones": what a slot carries of a run, and "Unused slots have sample and ancillary 0"
 unfoldable pub carried : Bool → ℕ → ℕ → List ℕ → ℕ → ℕ

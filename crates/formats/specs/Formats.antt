@@ -1,6 +1,6 @@
 -- Subframe formats, document 01: what the subframe octet (6.2) says, T, and checks 1 to 3.
 -- Assumes nothing.
-use mathlib.Core.Bool.{Bool, false, cond, not, _&&_, _||_}
+use mathlib.Core.Bool.{Bool, false, cond, not, _||_}
 use mathlib.Core.List.{List, [], _∷_}
 use Prim.Native.Nat.{ℕ, _+_, _*_, _/_, _%_}
 use lib.Dec.{eqb, leb, ltb}
@@ -69,11 +69,6 @@ unfoldable pub settingsRefusal : ℕ → ℕ → ℕ → ℕ
 settingsRefusal octet channels order =
     cond (not (isBase octet)) 1 (cond (eqb channels 0 || ltb (slotsOf octet) channels) 2 (cond (ltb 1 order) 3 0))
 
--- the same by S, which is 0 where there is no format
-abbrev pub refusalBy : ℕ → ℕ → ℕ → ℕ
-refusalBy slots channels order =
-    cond (eqb slots 0) 1 (cond (eqb channels 0 || ltb slots channels) 2 (cond (ltb 1 order) 3 0))
-
 -- what is settled where no check refuses
 abbrev pub settled : ℕ → ℕ → ℕ → Settled
 settled octet channels order =
@@ -95,18 +90,3 @@ settingsOf octet channels order =
     cond (eqb (settingsRefusal octet channels order) 0)
     (settled octet channels order)
     (unsettledBy (settingsRefusal octet channels order))
-
--- 56 hex in order 0 with one channel or two
-unfoldable pub isUsual : ℕ → ℕ → ℕ → Bool
-isUsual octet channels order = eqb octet 0x56 && (eqb order 0 && (not (ltb channels 1) && ltb channels 3))
-
--- what it settles, by C and T
-abbrev pub usualWith : ℕ → ℕ → Settled
-usualWith channels times =
-    record {
-      refusal = 0;
-      format = record { sample = 24; ancillary = 4; overhead = 4; width = 4; slots = 12 };
-      channels = channels;
-      times = times;
-      «by_channel» = false;
-    }

@@ -12,7 +12,8 @@ use Rattle.runs.specs.Division.{coefficients, divided, takenDown}
 use Rattle.runs.specs.Runs.{tab}
 use Rattle.runs.specs.Test.{every}
 use Rattle.runs.proofs.Laws.{every-at}
-use Rattle.guards.specs.Guards.{nineOf, tenGuard, sevenGuards, guardOf}
+use Rattle.guards.specs.Guards.{nineOf, tenGuard, guardOf}
+use Rattle.guards.specs.Code.{sevenGuards}
 
 pub nine-lt : (length sample : ℕ) → nineOf length sample < 512
 unfolding nineOf

@@ -9,7 +9,8 @@ use lib.ListN.{getD}
 use Rattle.runs.specs.Division.{coefficients, divided, takenDown}
 use Rattle.runs.proofs.Laws.{getD-tab}
 use Rattle.runs.proofs.Wrong.{Never}
-use Rattle.guards.specs.Guards.{nineOf, tenGuard, sevenGuards, guardOf}
+use Rattle.guards.specs.Guards.{nineOf, tenGuard, guardOf}
+use Rattle.guards.specs.Code.{sevenGuards}
 use Rattle.guards.proofs.sevens.Kinds as sevens-kinds
 use Rattle.guards.proofs.sevens.Reads as sevens-reads
 

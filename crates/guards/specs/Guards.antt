@@ -1,9 +1,7 @@
 -- Protection of a sample, document 01 and clause 4.1.4.2.
 -- Assumes nothing.
-use mathlib.Core.List.{List}
 use Prim.Native.Nat.{ℕ, _+_, _*_, _/_, _%_, _-_, _^_}
 use Rattle.runs.specs.Division.{remainder}
-use Rattle.runs.specs.Runs.{tab}
 
 -- "the nine top sample bits"; "an 8-bit sample has a ninth bit of 0"
 unfoldable pub nineOf : ℕ → ℕ → ℕ
@@ -14,9 +12,6 @@ nineOf length sample = sample * 512 / 2 ^ length % 512
 unfoldable pub tenGuard : ℕ → ℕ
 tenGuard ten = 7 - remainder 3 0b1011 13 (ten * 8)
 
--- the bits of all numbers of seven bits: ten bits have those of the seven that they are folded to
-unfoldable pub sevenGuards : List ℕ
-sevenGuards = tab tenGuard 128
-
+-- of a sample of so many bits, and V
 unfoldable pub guardOf : ℕ → ℕ → ℕ → ℕ
 guardOf length sample v = tenGuard (nineOf length sample * 2 + v % 2)

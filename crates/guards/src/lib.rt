@@ -1,6 +1,6 @@
 // Protection of a sample, document 01.
 ghost use mathlib.Core.Path.{_≡_};
-ghost use Rattle.guards.specs.Guards.{sevenGuards};
+ghost use Rattle.guards.specs.Code.{sevenGuards};
 
 const SEVENS: [u8; 128] = [
     7,

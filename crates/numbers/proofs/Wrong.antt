@@ -5,7 +5,8 @@ use Prim.Native.Nat.{ℕ}
 use native.Mathlib.Omega.{arith}
 use contract.Lifetimes.{Lfts}
 use Rattle.runs.proofs.Wrong.{Never}
-use Rattle.numbers.specs.Numbers.{tableA1, turned, placeIn, foundOf, wordBit, sequenceOf, gathered, differenceOf}
+use Rattle.numbers.specs.Numbers.{tableA1, turned, placeIn, foundOf, wordBit, gathered, differenceOf}
+use Rattle.numbers.specs.Code.{sequenceOf}
 use Rattle.numbers.specs.declared.Found.the-variants.{Number, Nothing}
 use Rattle.numbers.proofs.entry_of.Kinds as entry-of-kinds
 use Rattle.numbers.proofs.entry_of.Reads as entry-of-reads

@@ -53,10 +53,6 @@ unfoldable pub wordBit : ℕ → ℕ → ℕ → ℕ
 wordBit word second slot =
     cond (ltb slot 8) (word / 2 ^ (7 - slot) % 2) (cond (ltb slot 12) (second / 2 ^ (slot - 8) % 2) 0)
 
--- the sequencing bits of a cell as one number, slot k's worth 2^k
-unfoldable pub sequenceOf : ℕ → ℕ → ℕ
-sequenceOf word second = turned (word / 16) + turned (word % 16) * 16 + second * 256
-
 -- the number that the first n of some bits make, the first one the highest
 unfoldable pub gathered : (ℕ → ℕ) → ℕ → ℕ
 gathered bit zero = 0

@@ -1,7 +1,8 @@
 // The sequencing word, document 01: the cell number and its protection, the second number, and the difference of numbers.
 ghost use mathlib.Core.Path.{_≡_};
 ghost use Prim.Native.Nat.{_%_};
-ghost use Rattle.numbers.specs.Numbers.{turned, entryOf, foundOf, sequenceOf, differenceOf};
+ghost use Rattle.numbers.specs.Numbers.{turned, entryOf, foundOf, differenceOf};
+ghost use Rattle.numbers.specs.Code.{sequenceOf};
 
 // Table A.1: the first eight sequencing bits for numbers 0 to 15, the first bit sent being the top one.
 const TABLE: [u8; 16] = [

@@ -1,6 +1,6 @@
 -- Laws of the usual call: its settings, and that every slot of the cell is an entry.
 -- Assumes nothing.
-use mathlib.Core.Bool.{false, cond}
+use mathlib.Core.Bool.{cond}
 use mathlib.Core.List.{List, _++_}
 use mathlib.Core.Path.{_≡_, refl, sym, _∙_, ap, subst}
 use Prim.Native.Nat.{ℕ, _+_, _*_, _/_, _%_, _^_, _≤_, _<_}
@@ -14,7 +14,8 @@ use Rattle.runs.proofs.Filling.{Filled, begun}
 use Rattle.runs.proofs.Laws.{tab-is}
 use Rattle.formats.specs.declared.Format.{Format}
 use Rattle.formats.specs.declared.Settled.{Settled}
-use Rattle.formats.specs.Formats.{settingsOf, usualWith}
+use Rattle.formats.specs.Formats.{settingsOf}
+use Rattle.formats.specs.Code.{usualWith}
 use Rattle.formats.specs.Sound.{Sound, Limits}
 use Rattle.formats.proofs.Laws.{usual-is, usual-set}
 use Rattle.numbers.specs.Numbers.{numberIn}
@@ -23,9 +24,8 @@ use Rattle.cells.specs.Placement.{slotOf, slotOfEntry}
 use Rattle.cells.proofs.Subframes.{four}
 use Rattle.receiver.specs.declared.Receiver.{Receiver}
 use Rattle.receiver.specs.Receiver.{numberNow}
-use Rattle.receiver.specs.Unpacking.{usedIn, ownEntries, twoAt, Unpacks, Writes, Room, Enters, Roomy, Together, OneTurn, straightWith, threes, fours, sixes, Usual}
+use Rattle.receiver.specs.Unpacking.{usedIn, ownEntries, Unpacks, Writes, Room, Enters, Roomy, Together, OneTurn, straightWith, threes, fours, sixes, Usual}
 use Rattle.receiver.proofs.Marking.{sample-over, ancillary-over}
-use Rattle.receiver.proofs.Reading.{four-read, by-width}
 use Rattle.receiver.proofs.Unpacking.{fill-on, fill-done, own-length, own-at, straight}
 
 pub sound-usual : Sound fours

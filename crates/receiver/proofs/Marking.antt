@@ -7,7 +7,6 @@ use native.Mathlib.Nat.{mod-lt}
 use native.Mathlib.Omega.{arith}
 use borrow.Author.Tests.{ne-eqb}
 use lib.Arith.{mod-mul, digits-div}
-use lib.Bits.{bitXor}
 use lib.Dec.{eqb}
 use Rattle.formats.specs.declared.Format.{Format}
 use Rattle.guards.specs.Guards.{nineOf, tenGuard, guardOf}

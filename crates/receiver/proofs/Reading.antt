@@ -1,14 +1,12 @@
--- Laws of reading a cell: octets read into a number, its last bits, bits gathered, and the walk over the slots in order 1.
+-- Laws of reading a cell: octets read into a number, its last bits, bits gathered, and the first slot in order 1.
 -- Assumes nothing.
 use mathlib.Core.Bool.{true}
 use mathlib.Core.List.{List}
-use mathlib.Core.Logic.{⊎-elim}
 use mathlib.Core.Path.{_≡_, refl, sym, _∙_, ap, ap₂, subst}
 use Prim.Native.Nat.{ℕ, zero, suc, _+_, _*_, _/_, _%_, _-_, _^_, _≤_, _<_}
-use native.Mathlib.Nat.{pow-suc, mod-lt, mod-eq-of-lt, div-eq-of-lt, add-zero, zero-add, zero-mul, suc-mul, le-of-suc-le-suc, div-add-mod', div-lt-iff-lt-mul, mul-comm, eq-or-lt-of-le}
+use native.Mathlib.Nat.{pow-suc, mod-eq-of-lt, div-eq-of-lt, add-zero, zero-add, zero-mul, le-of-suc-le-suc}
 use native.Mathlib.Numerals.{add-one}
 use native.Mathlib.Omega.{arith}
-use borrow.Author.Tests.{lt-ltb, le-ltb}
 use lib.Arith.{digits-lt, digits-div, digits-mod}
 use lib.ListN.{length, getD, take, drop, length-drop}
 use lib.Pow.{pow-mono}
@@ -21,7 +19,7 @@ use Rattle.formats.specs.Sound.{Sound}
 use Rattle.cells.proofs.Subframes.{slot-room}
 use Rattle.cells.specs.Cells.{subframeAt}
 use Rattle.cells.specs.Placement.{slotOf, slotOfEntry}
-use Rattle.receiver.specs.Unpacking.{twoAt, turnedTwo, nextSlot}
+use Rattle.receiver.specs.Unpacking.{twoAt, turnedTwo}
 
 -- the number of the octets from `at` on, one octet more at a time
 module _ (octets : List ℕ) (at : ℕ) where
@@ -138,34 +136,7 @@ module _ (bit : ℕ → ℕ) where
         below = rw (low, add-one n, pow-suc) (digits-lt (so-far .below) small);
       }
 
--- the walk over the slots in order 1
-module _ (channels times : ℕ) (some : zero < channels) where
-  pub walk-begun : 0 ≡ slotOfEntry true channels times 0
-  unfolding slotOfEntry slotOf
-  walk-begun = rw (mod-eq-of-lt some, div-eq-of-lt some, zero-mul times)
-
-  -- one step, the entry told by its time and channel
-  step : (q r : ℕ) → r < channels → q < times → nextSlot times (channels * times) (r * times + q)
-      ≡ (q * channels + r + 1) % channels * times + (q * channels + r + 1) / channels
-  unfolding nextSlot
-  step q r inside early =
-      ⊎-elim
-      (λ e.
-      let over : channels * times ≡ r * times + times = ap (λ (n : ℕ). n * times) (sym e) ∙ suc-mul r times in
-      let whole : q * channels + r + 1 ≡ suc q * channels + 0 = omega (arith, e, suc-mul q channels) in
-      rw (le-ltb (r * times + q + times) (channels * times) (omega (arith, over)), whole, digits-mod (suc q) some, digits-div (suc q) some)
-      (omega (arith, over)))
-      (λ next.
-      let within : suc r * times + q < channels * times = digits-lt next early in
-      let whole : q * channels + r + 1 ≡ q * channels + suc r = omega arith in
-      rw (lt-ltb (r * times + q + times) (channels * times) (omega (arith, within, suc-mul r times)), whole, digits-mod q next, digits-div q next)
-      (omega (arith, suc-mul r times)))
-      (eq-or-lt-of-le inside)
-
-  pub walk-on : {slot i : ℕ} → slot ≡ slotOfEntry true channels times i → i < channels * times
-      → nextSlot times (channels * times) slot ≡ slotOfEntry true channels times (i + 1)
-  unfolding slotOfEntry slotOf
-  walk-on {slot} {i} e less =
-      ap (nextSlot times (channels * times)) e
-      ∙ step (i / channels) (i % channels) (mod-lt i some) (div-lt-iff-lt-mul some .1 (rw (mul-comm channels times) at less))
-      ∙ ap (λ (n : ℕ). (n + 1) % channels * times + (n + 1) / channels) (div-add-mod' i channels)
+-- the first slot in order 1
+pub walk-begun : (channels times : ℕ) → zero < channels → 0 ≡ slotOfEntry true channels times 0
+unfolding slotOfEntry slotOf
+walk-begun channels times some = rw (mod-eq-of-lt some, div-eq-of-lt some, zero-mul times)

@@ -1,16 +1,15 @@
 -- What unpacking asks and leaves, told of the settings.
 -- Assumes nothing.
-use mathlib.Core.Bool.{true, false, cond}
+use mathlib.Core.Bool.{true, false}
 use mathlib.Core.List.{List, _++_}
 use mathlib.Core.Path.{_≡_}
 use Prim.Native.Nat.{ℕ, _+_, _*_, _/_, _%_, _-_, _^_, _≤_}
-use lib.Dec.{ltb}
 use lib.ListN as L
 use lib.ListN.{length, getD, replicate}
 use Rattle.runs.specs.Runs.{tab, over, written}
 use Rattle.formats.specs.declared.Format.{Format}
 use Rattle.formats.specs.declared.Settled.{Settled}
-use Rattle.formats.specs.Formats.{isUsual}
+use Rattle.formats.specs.Code.{isUsual}
 use Rattle.cells.specs.Cells.{sampleIn, ancillaryIn, markIn, entriesOf}
 use Rattle.receiver.specs.declared.Receiver.{Receiver}
 
@@ -85,10 +84,6 @@ twoAt octets at = getD octets at 0 * 256 + getD octets (at + 1) 0
 -- two octets of a number, turned round
 abbrev pub turnedTwo : ℕ → ℕ
 turnedTwo x = x % 256 * 256 + x / 256 % 256
-
--- the slot after this one, where entries go by channel
-unfoldable pub nextSlot : ℕ → ℕ → ℕ → ℕ
-nextSlot times used slot = cond (ltb (slot + times) used) (slot + times) (slot + times - (used - 1))
 
 -- what is read off the entries that a run holds from `at` on
 unfoldable pub held : (ℕ → ℕ) → List ℕ → ℕ → ℕ → List ℕ

@@ -6,6 +6,7 @@ ghost use lib.ListN.{length, getD, replicate};
 ghost use Rattle.runs.specs.Runs.{over, written};
 ghost use Rattle.formats.specs.Sound.{Sound, Limits};
 ghost use Rattle.cells.specs.Cells.{subframeAt, bitIn, eightIn};
+ghost use Rattle.cells.specs.Code.{stepOn};
 ghost use Rattle.receiver.specs.Receiver.{numberNow, secondNow};
 ghost use Rattle.receiver.specs.Unpacking.{
   usedIn,
@@ -22,7 +23,6 @@ ghost use Rattle.receiver.specs.Unpacking.{
   sixes,
   twoAt,
   turnedTwo,
-  nextSlot,
   held,
   Splits,
 };
@@ -180,7 +180,7 @@ pub(crate) fn second_now(format: Format, cell: &[u8]) -> u8
 // The slot of the next entry in order 1.
 fn next_slot(times: usize, used: usize, slot: usize) -> usize
     requires { ⌜ (slot < used) × (used ≤ 48) × (times ≤ 48) ⌝ }
-    ensures { λ r. ⌜ r ≡ nextSlot times used slot ⌝ }
+    ensures { λ r. ⌜ r ≡ stepOn times used slot ⌝ }
 {
     let next = slot + times;
     if next < used {

@@ -10,8 +10,8 @@ use Rattle.formats.specs.declared.Format.{Format}
 use Rattle.formats.specs.declared.Settled.{Settled}
 use Rattle.formats.specs.Formats.{settingsOf}
 use Rattle.formats.proofs.Laws.{usual-is, usual-set}
-use Rattle.numbers.specs.Numbers.{sequenceOf}
-use Rattle.guards.specs.Guards.{sevenGuards}
+use Rattle.numbers.specs.Code.{sequenceOf}
+use Rattle.guards.specs.Code.{sevenGuards}
 use Rattle.sender.specs.declared.Sender.{Sender}
 use Rattle.sender.specs.Packing.{shape, packed, Packable, Named, Fillable, inOrder, written, Continues, Usual}
 use Rattle.sender.proofs.Filling.{continues-begun}

@@ -4,15 +4,14 @@ use mathlib.Core.Bool.{true}
 use mathlib.Core.List.{List, [], _∷_, _++_, append-nil, append-assoc}
 use mathlib.Core.Path.{_≡_, refl, sym, _∙_, ap, ap₂, subst}
 use Prim.Native.Nat.{ℕ, zero, suc, _+_, _*_, _/_, _%_, _-_, _^_, _≤_, _<_}
-use native.Mathlib.Nat.{mul-one, mul-assoc, zero-mul, zero-mod, zero-div, suc-mul, pow-le-pow-right, mod-lt, not-suc-le-zero, le-of-suc-le-suc}
+use native.Mathlib.Nat.{div-one, mul-one, mul-assoc, zero-mul, zero-mod, zero-div, suc-mul, pow-le-pow-right, mod-lt, not-suc-le-zero, le-of-suc-le-suc}
 use native.Mathlib.Numerals.{add-one}
 use native.Mathlib.Omega.{arith}
 use borrow.Author.Tests.{ne-eqb}
-use lib.Arith.{digits-lt}
 use lib.Bits.{bitXor}
 use lib.Dec.{eqb, eqb→eq}
 use lib.ListN.{length, getD, take, drop, length-append}
-use lib.Pow.{pow-add, pow-mono, shl-exact}
+use lib.Pow.{pow-add, pow-mono, shl-exact, shr-shr}
 use lib.Seq.{take-at, drop-drop, drop-append-add, drop-length, length-take-le}
 use Rattle.runs.specs.Runs.{tab, joined, octetsOf}
 use Rattle.runs.specs.Test.{every}
@@ -20,10 +19,12 @@ use Rattle.runs.proofs.Arms.{NoneOf, orListed, others, singles}
 use Rattle.runs.proofs.Laws.{every-at, length-tab, getD-tab, length-joined, length-octets}
 use Rattle.formats.specs.declared.Format.{Format}
 use Rattle.formats.specs.Sound.{Sound}
-use Rattle.guards.specs.Guards.{nineOf, tenGuard, sevenGuards, guardOf}
+use Rattle.guards.specs.Guards.{nineOf, tenGuard, guardOf}
+use Rattle.guards.specs.Code.{sevenGuards}
 use Rattle.guards.proofs.Laws.{nine-lt, nine-top, seven-guard, with-v, ten-guard-lt}
 use Rattle.cells.specs.Cells.{overheadOf, subframeOf}
-use Rattle.cells.specs.Placement.{entryOfSlot, nextEntry}
+use Rattle.cells.specs.Placement.{entryOfSlot}
+use Rattle.cells.specs.Code.{stepOn}
 use Rattle.cells.proofs.Placement.{entry-lt, entry-next}
 use Rattle.cells.proofs.Subframes.{subframe-lt, octets-pow, slot-room, four}
 use Rattle.sender.specs.Packing.{shape, lowOctets, Fillable, Turnable, byChannel, slotWith, written, idleNumber, Continues}
@@ -266,20 +267,21 @@ module _ (f : Format) (entry : ℕ → ℕ) (sequence : ℕ) {width : ℕ} {tabl
     pub used-room : {slot : ℕ} → slot < length samples → slot * width + width ≤ 48
     used-room {slot} less = rw (ok .width-is) (slot-room (ok .sound) (omega (arith, ok .fit)))
 
-    pub filling-on : {cell cell₁ : List ℕ} {slot at four number : ℕ} → Filling f entry sequence samples ancillary cell₀ cell slot
+    pub filling-on : {cell cell₁ : List ℕ} {slot at four bit number : ℕ} → Filling f entry sequence samples ancillary cell₀ cell slot
         → slot < length samples
         → at ≡ entry slot
         → four ≡ getD ancillary at 0
-        → number ≡ subframeOf f (getD samples at 0) four (sequence / 2 ^ slot % 2)
+        → bit ≡ sequence / 2 ^ slot % 2
+        → number ≡ subframeOf f (getD samples at 0) four bit
         → cell₁ ≡ take (slot * width) cell ++ octetsOf width number ++ drop (slot * width + width) cell
         → length cell₁ ≡ length cell
         → Filling f entry sequence samples ancillary cell₀ cell₁ (slot + 1)
     unfolding slotWith
-    filling-on {cell} {cell₁} {slot} {at} so-far less at-is four-is number-is put kept =
+    filling-on {cell} {cell₁} {slot} {at} so-far less at-is four-is bit-is number-is put kept =
         let carries : octetsOf width _ ≡ slotWith f entry sequence samples ancillary slot
         = ap₂ octetsOf (ok .width-is)
         (number-is
-        ∙ ap (λ (a : ℕ). subframeOf f (getD samples at 0) a (sequence / 2 ^ slot % 2)) four-is
+        ∙ ap₂ (λ (a b : ℕ). subframeOf f (getD samples at 0) a b) four-is bit-is
         ∙ ap (λ (i : ℕ). subframeOf f (getD samples i 0) (getD ancillary i 0) (sequence / 2 ^ slot % 2)) at-is) in
         record {
           within = omega arith;
@@ -303,6 +305,13 @@ module _ (f : Format) (entry : ℕ → ℕ) (sequence : ℕ) {width : ℕ} {tabl
         ∙ ap (λ (n : ℕ). joined (slotWith f entry sequence samples ancillary) n ++ drop (n * f .width) cell₀)
         (let end : slot ≡ length samples = omega (arith, so-far .within) in end)
 
+-- the sequencing bits, one taken off in each slot
+pub bits-begun : (sequence : ℕ) → sequence ≡ sequence / 2 ^ 0
+bits-begun sequence = sym (div-one sequence)
+
+pub bits-on : (sequence slot : ℕ) {rest : ℕ} → rest ≡ sequence / 2 ^ slot → rest / 2 ≡ sequence / 2 ^ (slot + 1)
+bits-on sequence slot e = ap (λ (n : ℕ). n / 2) e ∙ shr-shr sequence slot 1
+
 -- the entries by channel, from slot to slot
 module _ (channels : ℕ) {samples : List ℕ} (turns : Turnable channels samples) (slot : ℕ) {entry : ℕ}
     (is : entry ≡ byChannel channels samples slot)
@@ -315,13 +324,11 @@ module _ (channels : ℕ) {samples : List ℕ} (turns : Turnable channels sample
         let used : slot < channels * times = omega (arith, turns .rows) in
         omega (arith, is, entry-lt channels times (turns .times-from) true used, turns .rows)
 
-    pub entry-on : {next : ℕ} → next ≡ nextEntry channels (length samples) entry → slot + 1 < length samples
+    pub entry-on : {next : ℕ} → next ≡ stepOn channels (length samples) entry → slot < length samples
         → next ≡ byChannel channels samples (slot + 1)
     entry-on e less =
-        let used : slot + 1 < channels * times = omega (arith, turns .rows) in
-        e
-        ∙ ap₂ (nextEntry channels) (sym (turns .rows)) is
-        ∙ entry-next channels times (turns .times-from) slot used
+        let used : slot < channels * times = omega (arith, turns .rows) in
+        e ∙ ap₂ (stepOn channels) (sym (turns .rows)) is ∙ entry-next channels times (turns .times-from) used
 
 -- slot 0 carries entry 0
 pub entry-first : (channels : ℕ) (samples : List ℕ) → 0 ≡ byChannel channels samples 0

@@ -15,9 +15,11 @@ use Rattle.runs.proofs.Laws.{length-octets}
 use Rattle.formats.specs.declared.Format.{Format}
 use Rattle.formats.specs.declared.Settled.{Settled}
 use Rattle.formats.specs.Sound.{Sound}
-use Rattle.numbers.specs.Numbers.{wordBit, sequenceOf}
+use Rattle.numbers.specs.Numbers.{wordBit}
+use Rattle.numbers.specs.Code.{sequenceOf}
 use Rattle.numbers.proofs.Laws.{sequence-bit}
-use Rattle.guards.specs.Guards.{nineOf, tenGuard, sevenGuards, guardOf}
+use Rattle.guards.specs.Guards.{nineOf, tenGuard, guardOf}
+use Rattle.guards.specs.Code.{sevenGuards}
 use Rattle.cells.specs.Cells.{overheadOf, subframeOf, slotOctets, cellOf}
 use Rattle.cells.specs.Placement.{entryOfSlot, carried}
 use Rattle.sender.specs.Packing.{packed, shape, Packable, Named, Fillable, Turnable, inOrder, byChannel, placed, slotWith, written, idleNumber, Continues}

@@ -9,9 +9,9 @@ use lib.ListN.{length, getD, drop}
 use Rattle.runs.specs.Runs.{tab, joined, octetsOf}
 use Rattle.formats.specs.declared.Format.{Format}
 use Rattle.formats.specs.declared.Settled.{Settled}
-use Rattle.formats.specs.Formats.{isUsual}
+use Rattle.formats.specs.Code.{isUsual}
 use Rattle.formats.specs.Sound.{Sound, Limits}
-use Rattle.guards.specs.Guards.{sevenGuards}
+use Rattle.guards.specs.Code.{sevenGuards}
 use Rattle.cells.specs.Cells.{cellOf, subframeOf}
 use Rattle.cells.specs.Placement.{entryOfSlot}
 use Rattle.sender.specs.declared.Sender.{Sender}

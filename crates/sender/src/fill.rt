@@ -9,8 +9,8 @@ ghost use lib.ListN.{length, take, drop};
 ghost use Rattle.runs.specs.Runs.{octetsOf};
 ghost use Rattle.formats.specs.Sound.{Sound};
 ghost use Rattle.cells.specs.Cells.{subframeOf};
-ghost use Rattle.cells.specs.Placement.{nextEntry};
-ghost use Rattle.guards.specs.Guards.{sevenGuards};
+ghost use Rattle.cells.specs.Code.{stepOn};
+ghost use Rattle.guards.specs.Code.{sevenGuards};
 ghost use Rattle.sender.specs.Packing.{
   lowOctets,
   shape,
@@ -148,9 +148,11 @@ pub(crate) fn fill_in_order(
     requires { ⌜ Fillable (shape length four overhead) width (now table) (now samples) (now ancillary) (now cell) ⌝ }
     ensures { λ r. ⌜ now (cell .exit) ≡ written (shape length four overhead) inOrder sequence (now (samples .entry)) (now (ancillary .entry)) (now (cell .entry)) ⌝ }
 {
+    let mut rest = sequence;
     let mut slot = 0;
     while slot < samples.len() {
-        let bit = (sequence >> slot) % 2;
+        let bit = rest % 2;
+        rest = rest / 2;
         let number = subframe(
             table,
             length,
@@ -168,7 +170,7 @@ pub(crate) fn fill_in_order(
 // The entry of the next slot in order 1: C further, and where that is past the run back at the next channel's first.
 fn next_entry(channels: usize, used: usize, entry: usize) -> usize
     requires { ⌜ (entry < used) × (used ≤ 48) × (channels ≤ 48) ⌝ }
-    ensures { λ r. ⌜ r ≡ nextEntry channels used entry ⌝ }
+    ensures { λ r. ⌜ r ≡ stepOn channels used entry ⌝ }
 {
     let next = entry + channels;
     if next < used {
@@ -194,9 +196,11 @@ pub(crate) fn fill_by_channel(
     ensures { λ r. ⌜ now (cell .exit) ≡ written (shape length four overhead) (byChannel channels (now (samples .entry))) sequence (now (samples .entry)) (now (ancillary .entry)) (now (cell .entry)) ⌝ }
 {
     let mut entry = 0;
+    let mut rest = sequence;
     let mut slot = 0;
     while slot < samples.len() {
-        let bit = (sequence >> slot) % 2;
+        let bit = rest % 2;
+        rest = rest / 2;
         let number = subframe(
             table,
             length,

@@ -7,7 +7,7 @@ ghost use Rattle.runs.specs.Runs.{octetsOf};
 ghost use lib.ListN as L;
 ghost use Rattle.formats.specs.Sound.{Limits};
 ghost use Rattle.numbers.specs.Numbers.{entryOf};
-ghost use Rattle.guards.specs.Guards.{sevenGuards};
+ghost use Rattle.guards.specs.Code.{sevenGuards};
 ghost use Rattle.sender.specs.Packing.{
   Packable,
   Named,

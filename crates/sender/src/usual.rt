@@ -4,7 +4,7 @@ ghost use mathlib.Core.Bool.{true};
 ghost use mathlib.Core.Path.{_≡_};
 ghost use Prim.Native.Nat.{_+_, _*_, _%_, _^_, _<_};
 ghost use lib.ListN.{length};
-ghost use Rattle.guards.specs.Guards.{sevenGuards};
+ghost use Rattle.guards.specs.Code.{sevenGuards};
 ghost use Rattle.cells.specs.Cells.{subframeOf};
 ghost use Rattle.sender.specs.Sender.{Writes};
 ghost use Rattle.sender.specs.Packing.{shape, Fillable, inOrder, written, Usual};

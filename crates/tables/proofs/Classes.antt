@@ -111,6 +111,6 @@ pub of-nine : (i key : ℕ) → OneOf (armAt nines i .keys) key → tenGuard (ke
 unfolding right all-have has tenGuard coefficients divided takenDown
 of-nine = arm-guard nines tt
 
-pub of-nine-last : (X : Type 0) (key : ℕ) → key < 512 → NoneOf X (keysBack nines []) key → tenGuard (key * 2) ≡ 3
+pub of-nine-last : {X : Type 0} (key : ℕ) → key < 512 → NoneOf X (keysBack nines []) key → tenGuard (key * 2) ≡ 3
 unfolding every orListed has tenGuard coefficients divided takenDown
-of-nine-last X key less none = has-guard 3 key (others X (keysBack nines []) (has 3) 512 tt key less none)
+of-nine-last {X} key less none = has-guard 3 key (others X (keysBack nines []) (has 3) 512 tt key less none)

@@ -4,17 +4,20 @@ use mathlib.Core.Bool.{Bool, cond}
 use mathlib.Core.List.{List, [], _∷_}
 use mathlib.Core.Path.{_≡_, sym, _∙_, ap}
 use Prim.Native.Nat.{ℕ, zero, suc, _+_, _*_, _/_, _%_, _^_, _<_}
-use native.Mathlib.Nat.{div-one, pow-suc}
+use native.Mathlib.Nat.{div-one, pow-suc, mod-lt}
 use native.Mathlib.Omega.{arith}
+use types.Run.{OneOf}
 use lib.Bits.{bitXor}
 use lib.Dec.{T, eqb, ltb, eqb→eq, ltb→lt}
 use lib.ListN.{getD}
 use lib.Pow.{shr-shr}
 use Rattle.runs.specs.Test.{every}
+use Rattle.runs.proofs.Arms.{NoneOf}
 use Rattle.runs.proofs.Laws.{every-at}
 use Rattle.guards.specs.Guards.{tenGuard}
-use Rattle.guards.proofs.Laws.{with-v}
+use Rattle.guards.proofs.Laws.{with-v, ten-guard-lt}
 use Rattle.tables.specs.Marks.{markBit, MarksOf}
+use Rattle.tables.proofs.Classes.{armAt, keysBack, nines, of-nine, of-nine-last}
 
 -- a number has the marks of any nine bits with these protection bits
 unfoldable fits : ℕ → ℕ → Bool
@@ -32,13 +35,23 @@ marks-by guard bits t {nine} h e low less =
 abbrev pub words : List ℕ
 words = 0xF7F7FEFE ∷ 0xFBFBFDFD ∷ 0xFDFDFBFB ∷ 0xFEFEF7F7 ∷ 0x7F7FEFEF ∷ 0xBFBFDFDF ∷ 0xDFDFBFBF ∷ 0xEFEF7F7F ∷ []
 
-pub marks : (guard : ℕ) → guard < 8 → {nine : ℕ} → nine < 512 → tenGuard (nine * 2) ≡ guard
+marks : (guard : ℕ) → guard < 8 → {nine : ℕ} → nine < 512 → tenGuard (nine * 2) ≡ guard
     → MarksOf nine (getD words guard 0) × (getD words guard 0 < 4294967296)
 unfolding every fits
 marks guard few h e = (
   marks-by guard (getD words guard 0) (every-at (λ g. fits (getD words g 0) g) 8 tt guard few) h e,
   ltb→lt _ _ (every-at (λ g. ltb (getD words g 0) 4294967296) 8 tt guard few),
 )
+
+-- those of an arm's keys, and of the last arm's
+pub marks-in : (i nine : ℕ) → OneOf (armAt nines i .keys) (nine % 512)
+    → MarksOf (nine % 512) (getD words (armAt nines i .guard) 0) × (getD words (armAt nines i .guard) 0 < 4294967296)
+marks-in i nine one =
+    marks (armAt nines i .guard) (rw (← of-nine i (nine % 512) one) (ten-guard-lt (nine % 512 * 2))) (mod-lt nine (omega arith)) (of-nine i (nine % 512) one)
+
+pub marks-last : {X : Type 0} (nine : ℕ) → NoneOf X (keysBack nines []) (nine % 512)
+    → MarksOf (nine % 512) (getD words 3 0) × (getD words 3 0 < 4294967296)
+marks-last nine none = marks 3 (omega arith) (mod-lt nine (omega arith)) (of-nine-last (nine % 512) (mod-lt nine (omega arith)) none)
 
 -- numbers below a power of two with the same bits are equal
 pub same-bits : (n : ℕ) {x y : ℕ} → x < 2 ^ n → y < 2 ^ n → ((low : ℕ) → low < n → x / 2 ^ low % 2 ≡ y / 2 ^ low % 2) → x ≡ y

@@ -1,7 +1,7 @@
 -- `formats::is_usual` meets its contract.
 -- Assumes nothing.
 use borrow.Author.Tests.{eq-eqb, ne-eqb, lt-ltb, le-ltb}
-use Rattle.formats.specs.Formats.{isUsual}
+use Rattle.formats.specs.Code.{isUsual}
 use Rattle.formats.proofs.is_usual.Statement.{statement}
 use Rattle.formats.proofs.is_usual.Tie as tie
 

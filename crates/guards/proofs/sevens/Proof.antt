@@ -3,7 +3,8 @@
 use mathlib.Core.Path.{refl}
 use Rattle.runs.specs.Runs.{tab}
 use Rattle.runs.specs.Division.{coefficients, divided, takenDown}
-use Rattle.guards.specs.Guards.{tenGuard, sevenGuards}
+use Rattle.guards.specs.Guards.{tenGuard}
+use Rattle.guards.specs.Code.{sevenGuards}
 use Rattle.guards.proofs.sevens.Statement.{statement}
 use Rattle.guards.proofs.sevens.Tie as tie
 

@@ -4,7 +4,8 @@ use mathlib.Core.Path.{_≡_, sym, ap}
 use Prim.Native.Nat.{ℕ, _%_}
 use native.Mathlib.Nat.{mod-lt}
 use native.Mathlib.Omega.{arith}
-use Rattle.numbers.specs.Numbers.{tableA1, turned, entryOf, sequenceOf}
+use Rattle.numbers.specs.Numbers.{tableA1, turned, entryOf}
+use Rattle.numbers.specs.Code.{sequenceOf}
 use Rattle.numbers.proofs.Laws.{last-eight}
 use Rattle.numbers.proofs.first_eight.Statement.{statement}
 use Rattle.numbers.proofs.first_eight.Tie as tie

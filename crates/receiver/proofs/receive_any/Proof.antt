@@ -12,18 +12,6 @@ use borrow.Author.Needs.{needs}
 use Rattle.receiver.proofs.receive_any.Statement.{statement}
 use Rattle.receiver.proofs.receive_any.Tie as tie
 
-cast-settings : tie.Need-cast-settings
-cast-settings c = search needs
-
-cast-settings-2 : tie.Need-cast-settings-2
-cast-settings-2 c = search needs
-
-cast-settings-3 : tie.Need-cast-settings-3
-cast-settings-3 c = search needs
-
-settings-requires : tie.Need-settings-requires
-settings-requires c κs = search needs
-
 number-now-requires : tie.Need-number-now-requires
 number-now-requires c κs =
     let s = c .before .before .before .before .before .before .before .before .before in λ taken. limits (s .args .state)
@@ -50,18 +38,12 @@ number-is c =
     (set-taken (s .args .state) (now (s .args .cell)) (s .args .indication) (now (s .args .samples)) (now (s .args .ancillary)) (now (s .args .marks)) (c .before .before .before .before .settings .ensures) (none (c)))
     (cell-whole (s .args .state) (now (s .args .cell)) (s .args .indication) (now (s .args .samples)) (now (s .args .ancillary)) (now (s .args .marks)) (c .before .before .before .before .settings .ensures) (none (c)))
 
-gap-now-requires : tie.Need-gap-now-requires
-gap-now-requires c κs = search needs
-
 sub-missing : tie.Need-sub-missing
 sub-missing c =
     let s = c .before .before .before .before .before .before .before .before .before .before .before .before .before in gap-some
     (s .args .state) (now (s .args .cell)) (s .args .indication) (now (s .args .samples)) (now (s .args .ancillary))
     (now (s .args .marks)) (c .before .before .before .before .before .settings .ensures) (none (c .before))
     (number-is (c .before)) (c .gap-now .ensures)
-
-cast-place : tie.Need-cast-place
-cast-place c = search needs
 
 mul-place : tie.Need-mul-place
 mul-place c =
@@ -93,15 +75,6 @@ second-now-requires c κs =
     in
     (set-limits (s .args .state) (now (s .args .cell)) (s .args .indication) (now (s .args .samples)) (now (s .args .ancillary)) (now (s .args .marks)) (c .before .before .before .before .before .before .before .before .before .before .before .before .before .before .before .before .settings .ensures) (none (c .before .before .before .before .before .before .before .before .before .before .before .before)) .sound, cell-whole (s .args .state) (now (s .args .cell)) (s .args .indication) (now (s .args .samples)) (now (s .args .ancillary)) (now (s .args .marks)) (c .before .before .before .before .before .before .before .before .before .before .before .before .before .before .before .before .settings .ensures) (none (c .before .before .before .before .before .before .before .before .before .before .before .before)))
 
-same-length : tie.Need-same-length
-same-length c = search needs
-
-same-length-2 : tie.Need-same-length-2
-same-length-2 c = search needs
-
-same-length-3 : tie.Need-same-length-3
-same-length-3 c = search needs
-
 returns-2 : tie.Need-returns-2
 returns-2 c =
     let s =
@@ -117,22 +90,6 @@ returns-2 c =
 pub receive-any-spec : {M : Type 1} → statement M
 receive-any-spec =
     tie.close
-    (tie.spec
-    cast-settings
-    cast-settings-2
-    cast-settings-3
-    settings-requires
-    number-now-requires
-    receive-refusal-requires
-    returns
-    gap-now-requires
-    sub-missing
-    cast-place
-    mul-place
-    mul-place-2
-    write-requires
-    second-now-requires
-    same-length
-    same-length-2
-    same-length-3
-    returns-2)
+    (tie.spec (search needs) (search needs) (search needs) (search needs) number-now-requires receive-refusal-requires returns
+    (search needs) sub-missing (search needs) mul-place mul-place-2 write-requires second-now-requires (search needs)
+    (search needs) (search needs) returns-2)

@@ -28,11 +28,4 @@ returns-2 c = search needs
 pub write-spec : {M : Type 1} → statement M
 write-spec =
     tie.close
-    (tie.spec
-    is-usual-requires
-    write-usual-requires
-    same-length
-    returns
-    write-any-requires
-    same-length-2
-    returns-2)
+    (tie.spec is-usual-requires write-usual-requires same-length returns write-any-requires same-length-2 returns-2)

@@ -9,18 +9,6 @@ use borrow.Author.Needs.{needs}
 use Rattle.sender.proofs.write_any.Statement.{statement}
 use Rattle.sender.proofs.write_any.Tie as tie
 
-cast-settings : tie.Need-cast-settings
-cast-settings c = search needs
-
-cast-settings-2 : tie.Need-cast-settings-2
-cast-settings-2 c = search needs
-
-cast-settings-3 : tie.Need-cast-settings-3
-cast-settings-3 c = search needs
-
-settings-requires : tie.Need-settings-requires
-settings-requires c κs = search needs
-
 send-refusal-requires : tie.Need-send-refusal-requires
 send-refusal-requires c κs = search needs
 
@@ -29,9 +17,6 @@ returns c =
     let a = c .before .before .before .before .before .before .before .before .before .args in
     writes-refused (a .state) (a .indication) (now (a .samples)) (now (a .ancillary)) (now (a .cell)) (c .if1 .taken)
     (c .before .send-refusal .ensures)
-
-second-now-requires : tie.Need-second-now-requires
-second-now-requires c κs = search needs
 
 none : (c : tie.Else1)
     → 0
@@ -44,9 +29,6 @@ pack-requires c κs =
     can-pack (a .state) (a .indication) (now (a .samples)) (now (a .ancillary)) (now (a .cell)) (c .before .before .before .before .settings .ensures)
     (none (c .before .before)) (c .before .second-now .ensures)
 
-same-length : tie.Need-same-length
-same-length c = search needs
-
 returns-2 : tie.Need-returns-2
 returns-2 c =
     let a = c .before .before .before .before .before .before .before .before .before .before .before .before .before .before .args in
@@ -56,14 +38,5 @@ returns-2 c =
 pub write-any-spec : {M : Type 1} → statement M
 write-any-spec =
     tie.close
-    (tie.spec
-    cast-settings
-    cast-settings-2
-    cast-settings-3
-    settings-requires
-    send-refusal-requires
-    returns
-    second-now-requires
-    pack-requires
-    same-length
-    returns-2)
+    (tie.spec (search needs) (search needs) (search needs) (search needs) send-refusal-requires returns (search needs)
+    pack-requires (search needs) returns-2)

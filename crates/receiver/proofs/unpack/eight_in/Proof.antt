@@ -3,6 +3,7 @@
 use mathlib.Core.Path.{_≡_, _∙_, ap}
 use Prim.Native.Nat.{_-_}
 use native.Mathlib.Omega.{arith}
+use borrow.Author.Needs.{needs}
 use denote.Ref.{now}
 use Rattle.numbers.specs.Numbers.{gathered}
 use Rattle.cells.specs.Cells.{bitIn, eightIn}
@@ -19,22 +20,10 @@ abbrev μ-loop : tie.MeasureT-loop
 loop-holds : tie.Need-loop-holds Inv-loop μ-loop
 loop-holds c = gathers-begun (bitIn (c .before .args .format) (now (c .before .args .cell)))
 
-mul-eight : tie.Need-mul-eight Inv-loop μ-loop
-mul-eight c = omega arith
-
 bit-in-requires : tie.Need-bit-in-requires Inv-loop μ-loop
 bit-in-requires c κs =
     let given = c .before .before .before .pre in
     (given .0, given .1, omega (arith, given .0 .slots-from))
-
-add-eight : tie.Need-add-eight Inv-loop μ-loop
-add-eight c = omega (arith, c .bit-in .ensures .1)
-
-add-slot : tie.Need-add-slot Inv-loop μ-loop
-add-slot c = omega arith
-
-loop-less : tie.Need-loop-less Inv-loop μ-loop
-loop-less c = omega arith
 
 loop-again : tie.Need-loop-again Inv-loop μ-loop
 loop-again c =
@@ -50,14 +39,5 @@ returns c =
 pub eight-in-spec : {M : Type 1} → statement M
 eight-in-spec =
     tie.close
-    (tie.spec
-    Inv-loop
-    μ-loop
-    loop-holds
-    mul-eight
-    bit-in-requires
-    add-eight
-    add-slot
-    loop-less
-    loop-again
-    returns)
+    (tie.spec Inv-loop μ-loop loop-holds (search needs) bit-in-requires (search needs) (search needs) (search needs)
+    loop-again returns)

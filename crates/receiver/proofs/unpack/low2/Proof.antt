@@ -2,8 +2,7 @@
 -- Assumes nothing.
 use native.Mathlib.Omega.{arith}
 use denote.Ref.{now}
-use mathlib.Core.Path.{_≡_, _∙_}
-use Prim.Native.Nat.{_+_, _*_}
+use Prim.Native.Nat.{_+_}
 use lib.ListN.{getD}
 use Rattle.receiver.proofs.Reading.{two-turned}
 use borrow.Author.Needs.{needs}

@@ -2,7 +2,7 @@
 -- Assumes nothing.
 use mathlib.Core.Path.{sym}
 use Prim.Native.Nat.{_-_}
-use native.Mathlib.Omega.{arith}
+use borrow.Author.Needs.{needs}
 use denote.Ref.{now}
 use lib.ListN.{replicate, length-replicate, getD-replicate}
 use Rattle.runs.proofs.Filling.{Filled, begun}
@@ -19,26 +19,11 @@ abbrev μ-loop : tie.MeasureT-loop
 loop-holds : tie.Need-loop-holds Inv-loop μ-loop
 loop-holds c = begun (now (c .args .run)) (c .args .at) (replicate (c .args .count) (c .args .value))
 
-add-run : tie.Need-add-run Inv-loop μ-loop
-add-run c = omega (arith, c .before .before .pre)
-
-slice-write-run : tie.Need-slice-write-run Inv-loop μ-loop
-slice-write-run c = omega (arith, c .before .before .pre, c .before .loop .inv .same)
-
-add-i : tie.Need-add-i Inv-loop μ-loop
-add-i c = omega (arith, c .before .before .pre)
-
-loop-less : tie.Need-loop-less Inv-loop μ-loop
-loop-less c = omega (arith, c .loop-test .taken)
-
 loop-again : tie.Need-loop-again Inv-loop μ-loop
 loop-again c =
     let s = c .before .before in fill-on (now (s .args .run)) (s .args .at) (replicate (s .args .count) (s .args .value))
     (length-replicate (s .args .count) (s .args .value)) (s .pre) (c .before .loop .inv) (c .loop-test .taken)
     (sym (getD-replicate (s .args .count) (c .before .loop .i) (s .args .value) 0 (c .loop-test .taken)))
-
-same-length : tie.Need-same-length Inv-loop μ-loop
-same-length c = c .before .loop .inv .same
 
 returns : tie.Need-returns Inv-loop μ-loop
 returns c =
@@ -48,14 +33,5 @@ returns c =
 pub octets-spec : {M : Type 1} → statement M
 octets-spec =
     tie.close
-    (tie.spec
-    Inv-loop
-    μ-loop
-    loop-holds
-    add-run
-    slice-write-run
-    add-i
-    loop-less
-    loop-again
-    same-length
+    (tie.spec Inv-loop μ-loop loop-holds (search needs) (search needs) (search needs) (search needs) loop-again (search needs)
     returns)

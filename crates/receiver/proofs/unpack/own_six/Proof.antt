@@ -25,26 +25,11 @@ loop-holds c =
     entered-begun sixes refl refl (s .args .used) (now (s .args .cell)) (s .args .at) (now (s .args .samples)) (now (s .args .ancillary)) (now (s .args .marks))
     (s .pre .2)
 
-mul-in6 : tie.Need-mul-in6 Inv-loop μ-loop
-mul-in6 c = omega (arith, c .before .before .before .before .before .before .pre .0, c .loop-test .taken)
-
-in6-requires : tie.Need-in6-requires Inv-loop μ-loop
-in6-requires c κs = omega (arith, c .before .before .before .before .before .before .pre .0, c .before .before .before .before .before .before .pre .1, c .loop-test .taken)
-
-add-enter : tie.Need-add-enter Inv-loop μ-loop
-add-enter c = omega (arith, c .before .before .before .before .before .before .before .before .pre .2 .samples-room, c .before .before .loop-test .taken)
-
 enter-requires : tie.Need-enter-requires Inv-loop μ-loop
 enter-requires c κs =
     let s = c .before .before .before .before .before .before .before .before .before .before .before in
     room-here sixes refl refl (s .args .used) (now (s .args .cell)) (s .args .at) (now (s .args .samples)) (now (s .args .ancillary)) (now (s .args .marks))
     (s .pre .2) (c .before .before .before .before .before .before .loop .inv) (c .before .before .before .before .before .loop-test .taken)
-
-add-i : tie.Need-add-i Inv-loop μ-loop
-add-i c = omega (arith, c .before .before .before .before .before .before .before .before .before .before .before .before .loop-test .taken)
-
-loop-less : tie.Need-loop-less Inv-loop μ-loop
-loop-less c = omega (arith, c .before .before .before .before .before .before .before .before .before .before .before .before .loop-test .taken)
 
 loop-again : tie.Need-loop-again Inv-loop μ-loop
 loop-again c =
@@ -60,15 +45,6 @@ loop-again c =
     (let on-top : word / 549755813888 % 512 ≡ word / 256 * 2 / 4294967296 % 512 = omega arith in on-top) (c .before .before .before .before .before .before .before .before .before .before .marks-in-six .result) (c .before .before .before .before .before .before .before .before .before .before .marks-in-six .ensures .0))
     (c .before .before .before .before .before .before .enter .ensures)
 
-same-length : tie.Need-same-length Inv-loop μ-loop
-same-length c = c .before .loop .inv .samples-so-far .same
-
-same-length-2 : tie.Need-same-length-2 Inv-loop μ-loop
-same-length-2 c = c .before .loop .inv .ancillary-so-far .same
-
-same-length-3 : tie.Need-same-length-3 Inv-loop μ-loop
-same-length-3 c = c .before .loop .inv .marks-so-far .same
-
 returns : tie.Need-returns Inv-loop μ-loop
 returns c =
     let s = c .before .before .before .before .before .before in
@@ -78,5 +54,5 @@ returns c =
 pub own-six-spec : {M : Type 1} → statement M
 own-six-spec =
     tie.close
-    (tie.spec Inv-loop μ-loop loop-holds mul-in6 in6-requires (search needs) add-enter enter-requires add-i loop-less loop-again
-    same-length same-length-2 same-length-3 returns)
+    (tie.spec Inv-loop μ-loop loop-holds (search needs) (search needs) (search needs) (search needs) enter-requires (search needs)
+    (search needs) loop-again (search needs) (search needs) (search needs) returns)

@@ -28,71 +28,8 @@ loop-holds c =
     let s = c .before .before .before in
     (begun (now (s .args .samples)) (s .args .at) (held (sampleIn (s .args .format)) (now (s .args .samples)) (s .args .at) (s .args .used)), begun (now (s .args .ancillary)) (s .args .at) (held (ancillaryIn (s .args .format)) (now (s .args .samples)) (s .args .at) (s .args .used)), begun (now (s .args .marks)) (s .args .at) (held (markIn (s .args .format)) (now (s .args .samples)) (s .args .at) (s .args .used)))
 
-add-subframe : tie.Need-add-subframe Inv-loop μ-loop
-add-subframe c = omega (arith, c .before .before .before .before .before .pre .3 .samples-room, c .loop-test .taken)
-
-mul-subframe : tie.Need-mul-subframe Inv-loop μ-loop
-mul-subframe c =
-    omega
-    (arith, c .before .before .before .before .before .pre .3 .samples-room, c .loop-test .taken, c .before .before .before .before .before .good)
-
-slice-read-subframe : tie.Need-slice-read-subframe Inv-loop μ-loop
-slice-read-subframe c =
-    omega
-    (arith, c .before .before .before .before .before .before .pre .3 .samples-room, c .before .loop-test .taken, c .before .before .loop .inv .0 .same)
-
-add-samples : tie.Need-add-samples Inv-loop μ-loop
-add-samples c =
-    omega (arith, c .before .before .before .before .before .before .pre .3 .samples-room, c .before .loop-test .taken)
-
-mul-samples : tie.Need-mul-samples Inv-loop μ-loop
-mul-samples c =
-    omega
-    (arith, c .before .before .before .before .before .before .pre .3 .samples-room, c .before .loop-test .taken, c .before .before .before .before .before .before .good)
-
-slice-write-samples : tie.Need-slice-write-samples Inv-loop μ-loop
-slice-write-samples c =
-    omega
-    (arith, c .before .before .before .before .before .before .pre .3 .samples-room, c .before .loop-test .taken, c .before .before .loop .inv .0 .same)
-
-cast-ancillary : tie.Need-cast-ancillary Inv-loop μ-loop
-cast-ancillary c = omega arith
-
-add-ancillary : tie.Need-add-ancillary Inv-loop μ-loop
-add-ancillary c =
-    omega (arith, c .before .before .before .before .before .before .pre .3 .ancillary-room, c .before .loop-test .taken)
-
-slice-write-ancillary : tie.Need-slice-write-ancillary Inv-loop μ-loop
-slice-write-ancillary c =
-    omega
-    (arith, c .before .before .before .before .before .before .pre .3 .ancillary-room, c .before .loop-test .taken, c .before .before .loop .inv .1 .same)
-
 mul-nine : tie.Need-mul-nine Inv-loop μ-loop
 mul-nine c = omega (arith, c .slice-known4 .given (c .before .before .before .before .before .before .args .at + c .before .before .loop .i))
-
-shr-marks : tie.Need-shr-marks Inv-loop μ-loop
-shr-marks c = omega arith
-
-cast-marks : tie.Need-cast-marks Inv-loop μ-loop
-cast-marks c = omega arith
-
-add-marks : tie.Need-add-marks Inv-loop μ-loop
-add-marks c =
-    omega
-    (arith, c .before .before .before .before .before .before .before .before .pre .3 .marks-room, c .before .before .before .loop-test .taken)
-
-slice-write-marks : tie.Need-slice-write-marks Inv-loop μ-loop
-slice-write-marks c =
-    omega
-    (arith, c .before .before .before .before .before .before .before .before .pre .3 .marks-room, c .before .before .before .loop-test .taken, c .before .before .before .before .loop .inv .2 .same)
-
-add-i : tie.Need-add-i Inv-loop μ-loop
-add-i c =
-    omega
-    (arith, c .before .before .before .before .before .before .before .before .pre .3 .marks-room, c .before .before .before .loop-test .taken)
-
-loop-less : tie.Need-loop-less Inv-loop μ-loop
-loop-less c = omega (arith, c .before .before .before .loop-test .taken)
 
 loop-again : tie.Need-loop-again Inv-loop μ-loop
 loop-again c =
@@ -105,15 +42,6 @@ loop-again c =
     (inv .0) in
     (fill-on (now (s .args .samples)) (s .args .at) (held (sampleIn (s .args .format)) (now (s .args .samples)) (s .args .at) (s .args .used)) (held-length (sampleIn (s .args .format)) (now (s .args .samples)) (s .args .at) (s .args .used)) (s .pre .3 .samples-room) (inv .0) less (sample-over (s .args .format) (s .pre .1) (s .pre .2) word ∙ ap (sampleIn (s .args .format)) was ∙ held-at (sampleIn (s .args .format)) (now (s .args .samples)) (s .args .at) (s .args .used) less), fill-on (now (s .args .ancillary)) (s .args .at) (held (ancillaryIn (s .args .format)) (now (s .args .samples)) (s .args .at) (s .args .used)) (held-length (ancillaryIn (s .args .format)) (now (s .args .samples)) (s .args .at) (s .args .used)) (s .pre .3 .ancillary-room) (inv .1) less (ancillary-over (s .args .format) (s .pre .1) (s .pre .2) word ∙ ap (ancillaryIn (s .args .format)) was ∙ held-at (ancillaryIn (s .args .format)) (now (s .args .samples)) (s .args .at) (s .args .used) less), fill-on (now (s .args .marks)) (s .args .at) (held (markIn (s .args .format)) (now (s .args .samples)) (s .args .at) (s .args .used)) (held-length (markIn (s .args .format)) (now (s .args .samples)) (s .args .at) (s .args .used)) (s .pre .3 .marks-room) (inv .2) less (mark-on-top (s .args .format) (s .pre .1) (s .pre .2) word (s .args .format .sample) _ refl (s .pre .0 .sample-from) refl (c .marks-of .result) (c .marks-of .ensures .0) ∙ ap (markIn (s .args .format)) was ∙ held-at (markIn (s .args .format)) (now (s .args .samples)) (s .args .at) (s .args .used) less))
 
-same-length : tie.Need-same-length Inv-loop μ-loop
-same-length c = c .before .loop .inv .0 .same
-
-same-length-2 : tie.Need-same-length-2 Inv-loop μ-loop
-same-length-2 c = c .before .loop .inv .1 .same
-
-same-length-3 : tie.Need-same-length-3 Inv-loop μ-loop
-same-length-3 c = c .before .loop .inv .2 .same
-
 returns : tie.Need-returns Inv-loop μ-loop
 returns c =
     let s = c .before .before .before .before .before in record
@@ -122,6 +50,6 @@ returns c =
 pub split-spec : {M : Type 1} → statement M
 split-spec =
     tie.close
-    (tie.spec Inv-loop μ-loop loop-holds add-subframe mul-subframe slice-read-subframe add-samples mul-samples slice-write-samples
-    cast-ancillary add-ancillary slice-write-ancillary mul-nine (search needs) (search needs) (search needs) shr-marks cast-marks add-marks
-    slice-write-marks add-i loop-less loop-again same-length same-length-2 same-length-3 returns)
+    (tie.spec Inv-loop μ-loop loop-holds (search needs) (search needs) (search needs) (search needs) (search needs) (search needs)
+    (search needs) (search needs) (search needs) mul-nine (search needs) (search needs) (search needs) (search needs) (search needs) (search needs)
+    (search needs) (search needs) (search needs) loop-again (search needs) (search needs) (search needs) returns)

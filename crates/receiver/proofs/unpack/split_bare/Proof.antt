@@ -1,6 +1,6 @@
 -- `receiver::unpack::split_bare` meets its contract: two runs are filled side by side, the first where it was read.
 -- Assumes nothing.
-use native.Mathlib.Omega.{arith}
+use borrow.Author.Needs.{needs}
 use denote.Ref.{now}
 use mathlib.Core.Path.{_∙_, ap}
 use Prim.Native.Nat.{ℕ, _-_, _/_, _%_}
@@ -23,42 +23,6 @@ loop-holds c =
     let s = c in
     (begun (now (s .args .samples)) (s .args .at) (held (λ x. x / 16) (now (s .args .samples)) (s .args .at) (s .args .used)), begun (now (s .args .ancillary)) (s .args .at) (held (λ x. x % 16) (now (s .args .samples)) (s .args .at) (s .args .used)))
 
-add-subframe : tie.Need-add-subframe Inv-loop μ-loop
-add-subframe c = omega (arith, c .before .before .pre .0, c .loop-test .taken)
-
-mul-subframe : tie.Need-mul-subframe Inv-loop μ-loop
-mul-subframe c = omega (arith, c .before .before .pre .0, c .loop-test .taken, c .before .before .good)
-
-slice-read-subframe : tie.Need-slice-read-subframe Inv-loop μ-loop
-slice-read-subframe c =
-    omega (arith, c .before .before .before .pre .0, c .before .loop-test .taken, c .before .before .loop .inv .0 .same)
-
-add-samples : tie.Need-add-samples Inv-loop μ-loop
-add-samples c = omega (arith, c .before .before .before .pre .0, c .before .loop-test .taken)
-
-mul-samples : tie.Need-mul-samples Inv-loop μ-loop
-mul-samples c = omega (arith, c .before .before .before .pre .0, c .before .loop-test .taken, c .before .before .before .good)
-
-slice-write-samples : tie.Need-slice-write-samples Inv-loop μ-loop
-slice-write-samples c =
-    omega (arith, c .before .before .before .pre .0, c .before .loop-test .taken, c .before .before .loop .inv .0 .same)
-
-cast-ancillary : tie.Need-cast-ancillary Inv-loop μ-loop
-cast-ancillary c = omega arith
-
-add-ancillary : tie.Need-add-ancillary Inv-loop μ-loop
-add-ancillary c = omega (arith, c .before .before .before .pre .1, c .before .loop-test .taken)
-
-slice-write-ancillary : tie.Need-slice-write-ancillary Inv-loop μ-loop
-slice-write-ancillary c =
-    omega (arith, c .before .before .before .pre .1, c .before .loop-test .taken, c .before .before .loop .inv .1 .same)
-
-add-i : tie.Need-add-i Inv-loop μ-loop
-add-i c = omega (arith, c .before .before .before .pre .1, c .before .loop-test .taken)
-
-loop-less : tie.Need-loop-less Inv-loop μ-loop
-loop-less c = omega (arith, c .before .loop-test .taken)
-
 loop-again : tie.Need-loop-again Inv-loop μ-loop
 loop-again c =
     let s = c .before .before .before in let less = c .before .loop-test .taken in let inv = c .before .before .loop .inv in let
@@ -66,12 +30,6 @@ loop-again c =
     (held (λ x. x / 16) (now (s .args .samples)) (s .args .at) (s .args .used))
     (held-length (λ x. x / 16) (now (s .args .samples)) (s .args .at) (s .args .used)) (s .pre .0) (inv .0) in
     (fill-on (now (s .args .samples)) (s .args .at) (held (λ x. x / 16) (now (s .args .samples)) (s .args .at) (s .args .used)) (held-length (λ x. x / 16) (now (s .args .samples)) (s .args .at) (s .args .used)) (s .pre .0) (inv .0) less (ap (λ (x : ℕ). x / 16) was ∙ held-at (λ x. x / 16) (now (s .args .samples)) (s .args .at) (s .args .used) less), fill-on (now (s .args .ancillary)) (s .args .at) (held (λ x. x % 16) (now (s .args .samples)) (s .args .at) (s .args .used)) (held-length (λ x. x % 16) (now (s .args .samples)) (s .args .at) (s .args .used)) (s .pre .1) (inv .1) less (ap (λ (x : ℕ). x % 16) was ∙ held-at (λ x. x % 16) (now (s .args .samples)) (s .args .at) (s .args .used) less))
-
-same-length : tie.Need-same-length Inv-loop μ-loop
-same-length c = c .before .loop .inv .0 .same
-
-same-length-2 : tie.Need-same-length-2 Inv-loop μ-loop
-same-length-2 c = c .before .loop .inv .1 .same
 
 returns : tie.Need-returns Inv-loop μ-loop
 returns c =
@@ -81,22 +39,6 @@ returns c =
 pub split-bare-spec : {M : Type 1} → statement M
 split-bare-spec =
     tie.close
-    (tie.spec
-    Inv-loop
-    μ-loop
-    loop-holds
-    add-subframe
-    mul-subframe
-    slice-read-subframe
-    add-samples
-    mul-samples
-    slice-write-samples
-    cast-ancillary
-    add-ancillary
-    slice-write-ancillary
-    add-i
-    loop-less
-    loop-again
-    same-length
-    same-length-2
-    returns)
+    (tie.spec Inv-loop μ-loop loop-holds (search needs) (search needs) (search needs) (search needs) (search needs)
+    (search needs) (search needs) (search needs) (search needs) (search needs) (search needs) loop-again (search needs)
+    (search needs) returns)

@@ -97,19 +97,5 @@ returns-5 c =
 pub subframe-in-spec : {M : Type 1} → statement M
 subframe-in-spec =
     tie.close
-    (tie.spec
-    mul-in4
-    in4-requires
-    returns
-    mul-in3
-    in3-requires
-    returns-2
-    mul-in2
-    in2-requires
-    returns-3
-    mul-in6
-    in6-requires
-    returns-4
-    shared-slice-read-result
-    cast-result
-    returns-5)
+    (tie.spec mul-in4 in4-requires returns mul-in3 in3-requires returns-2 mul-in2 in2-requires returns-3 mul-in6 in6-requires
+    returns-4 shared-slice-read-result cast-result returns-5)

@@ -1,6 +1,7 @@
 -- `receiver::unpack::subframes_by_channel` meets its contract: the slot goes along with the entry.
 -- Assumes nothing.
 use native.Mathlib.Omega.{arith}
+use borrow.Author.Needs.{needs}
 use denote.Ref.{now}
 use mathlib.Core.Path.{_≡_, _∙_, ap}
 use Prim.Native.Nat.{ℕ, _-_}
@@ -10,8 +11,9 @@ use Rattle.receiver.proofs.Unpacking.{fill-on, fill-done, own-length, o
 use Rattle.receiver.specs.Unpacking.{usedIn, ownEntries}
 use mathlib.Core.Bool.{true}
 use Rattle.cells.specs.Placement.{slotOfEntry}
-use Rattle.receiver.proofs.Reading.{walk-begun, walk-on}
-use Rattle.cells.proofs.Placement.{slot-lt}
+use Rattle.cells.specs.Code.{stepOn}
+use Rattle.receiver.proofs.Reading.{walk-begun}
+use Rattle.cells.proofs.Placement.{slot-lt, slot-next}
 use Prim.Native.Nat.{_≤_, _*_}
 use native.Mathlib.Nat.{mul-le-mul-right, one-mul}
 use Rattle.receiver.proofs.unpack.subframes_by_channel.Statement.{statement}
@@ -22,9 +24,6 @@ Inv-loop set cell at run₀ used slot₀ i₀ run slot i = Filled run run₀ at 
 
 abbrev μ-loop : tie.MeasureT-loop
 μ-loop set cell at run₀ used slot₀ i₀ run slot i = usedIn set - i
-
-mul-used : tie.Need-mul-used Inv-loop μ-loop
-mul-used c = omega (arith, c .before .before .before .pre .0 .used-to)
 
 loop-holds : tie.Need-loop-holds Inv-loop μ-loop
 loop-holds c =
@@ -39,19 +38,6 @@ subframe-in-requires c κs =
     let s = c .before .before .before .before .before in
     (s .pre .0 .sound, s .pre .1, slot-in (s .args .set) (now (s .args .cell)) (s .pre .0) (c .loop-test .taken) (in-order c))
 
-add-run : tie.Need-add-run Inv-loop μ-loop
-add-run c = omega (arith, c .before .before .before .before .before .before .pre .2, c .before .loop-test .taken)
-
-mul-run : tie.Need-mul-run Inv-loop μ-loop
-mul-run c =
-    omega
-    (arith, c .before .before .before .before .before .before .pre .2, c .before .loop-test .taken, c .before .before .before .before .before .before .good)
-
-slice-write-run : tie.Need-slice-write-run Inv-loop μ-loop
-slice-write-run c =
-    omega
-    (arith, c .before .before .before .before .before .before .pre .2, c .before .loop-test .taken, c .before .before .loop .inv .0 .same)
-
 times-few : (channels times : ℕ) → 1 ≤ channels → channels * times ≤ 48 → times ≤ 48
 times-few channels times some few = omega (arith, mul-le-mul-right {m = 1} {n = channels} times some, one-mul times)
 
@@ -60,20 +46,10 @@ next-slot-requires c κs =
     let s = c .before .before .before .before .before .before in
     (rw (c .before .before .loop .inv .1) (slot-lt (s .args .set .channels) (s .args .set .times) (s .pre .0 .channels-from) true (c .before .loop-test .taken)), s .pre .0 .used-to, times-few (s .args .set .channels) (s .args .set .times) (s .pre .0 .channels-from) (s .pre .0 .used-to))
 
-add-i : tie.Need-add-i Inv-loop μ-loop
-add-i c =
-    omega (arith, c .before .before .before .before .before .before .before .pre .0 .used-to, c .before .before .loop-test .taken)
-
-loop-less : tie.Need-loop-less Inv-loop μ-loop
-loop-less c = omega (arith, c .before .before .loop-test .taken)
-
 loop-again : tie.Need-loop-again Inv-loop μ-loop
 loop-again c =
     let s = c .before .before .before .before .before .before .before in
-    (fill-on (now (s .args .run)) (s .args .at) (ownEntries (λ x. x) (s .args .set) (now (s .args .cell))) (own-length (s .args .set) (now (s .args .cell)) (λ x. x)) (s .pre .2) (c .before .before .before .loop .inv .0) (c .before .before .loop-test .taken) (c .before .subframe-in .ensures ∙ ap (subframeAt (s .args .set .format) (now (s .args .cell))) (in-order (c .before .before)) ∙ own-at (s .args .set) (now (s .args .cell)) (λ x. x) (c .before .before .loop-test .taken)), c .next-slot .ensures ∙ walk-on (s .args .set .channels) (s .args .set .times) (s .pre .0 .channels-from) (c .before .before .before .loop .inv .1) (c .before .before .loop-test .taken))
-
-same-length : tie.Need-same-length Inv-loop μ-loop
-same-length c = c .before .loop .inv .0 .same
+    (fill-on (now (s .args .run)) (s .args .at) (ownEntries (λ x. x) (s .args .set) (now (s .args .cell))) (own-length (s .args .set) (now (s .args .cell)) (λ x. x)) (s .pre .2) (c .before .before .before .loop .inv .0) (c .before .before .loop-test .taken) (c .before .subframe-in .ensures ∙ ap (subframeAt (s .args .set .format) (now (s .args .cell))) (in-order (c .before .before)) ∙ own-at (s .args .set) (now (s .args .cell)) (λ x. x) (c .before .before .loop-test .taken)), c .next-slot .ensures ∙ ap (stepOn (s .args .set .times) (usedIn (s .args .set))) (c .before .before .before .loop .inv .1) ∙ slot-next (s .args .set .channels) (s .args .set .times) (s .pre .0 .channels-from) (c .before .before .loop-test .taken))
 
 returns : tie.Need-returns Inv-loop μ-loop
 returns c =
@@ -84,18 +60,5 @@ returns c =
 pub subframes-by-channel-spec : {M : Type 1} → statement M
 subframes-by-channel-spec =
     tie.close
-    (tie.spec
-    Inv-loop
-    μ-loop
-    mul-used
-    loop-holds
-    subframe-in-requires
-    add-run
-    mul-run
-    slice-write-run
-    next-slot-requires
-    add-i
-    loop-less
-    loop-again
-    same-length
-    returns)
+    (tie.spec Inv-loop μ-loop (search needs) loop-holds subframe-in-requires (search needs) (search needs) (search needs)
+    next-slot-requires (search needs) (search needs) loop-again (search needs) returns)

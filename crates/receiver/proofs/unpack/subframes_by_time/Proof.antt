@@ -1,6 +1,6 @@
 -- `receiver::unpack::subframes_by_time` meets its contract.
 -- Assumes nothing.
-use native.Mathlib.Omega.{arith}
+use borrow.Author.Needs.{needs}
 use denote.Ref.{now}
 use mathlib.Core.Path.{_∙_, ap}
 use Prim.Native.Nat.{_-_}
@@ -17,9 +17,6 @@ Inv-loop set cell at run₀ used i₀ run i = Filled run run₀ at (ownEntries (
 abbrev μ-loop : tie.MeasureT-loop
 μ-loop set cell at run₀ used i₀ run i = usedIn set - i
 
-mul-used : tie.Need-mul-used Inv-loop μ-loop
-mul-used c = omega (arith, c .before .before .before .pre .0 .used-to)
-
 loop-holds : tie.Need-loop-holds Inv-loop μ-loop
 loop-holds c =
     let s = c .before .before .before in begun (now (s .args .run)) (s .args .at)
@@ -30,34 +27,12 @@ subframe-in-requires c κs =
     let s = c .before .before .before .before .before in
     (s .pre .0 .sound, s .pre .1, slot-in (s .args .set) (now (s .args .cell)) (s .pre .0) (c .loop-test .taken) (straight (s .args .set) (now (s .args .cell)) (s .pre .3) (c .before .loop .i)))
 
-add-run : tie.Need-add-run Inv-loop μ-loop
-add-run c = omega (arith, c .before .before .before .before .before .before .pre .2, c .before .loop-test .taken)
-
-mul-run : tie.Need-mul-run Inv-loop μ-loop
-mul-run c =
-    omega
-    (arith, c .before .before .before .before .before .before .pre .2, c .before .loop-test .taken, c .before .before .before .before .before .before .good)
-
-slice-write-run : tie.Need-slice-write-run Inv-loop μ-loop
-slice-write-run c =
-    omega
-    (arith, c .before .before .before .before .before .before .pre .2, c .before .loop-test .taken, c .before .before .loop .inv .same)
-
-add-i : tie.Need-add-i Inv-loop μ-loop
-add-i c = omega (arith, c .before .before .before .before .before .before .pre .0 .used-to, c .before .loop-test .taken)
-
-loop-less : tie.Need-loop-less Inv-loop μ-loop
-loop-less c = omega (arith, c .before .loop-test .taken)
-
 loop-again : tie.Need-loop-again Inv-loop μ-loop
 loop-again c =
     let s = c .before .before .before .before .before .before in fill-on (now (s .args .run)) (s .args .at)
     (ownEntries (λ x. x) (s .args .set) (now (s .args .cell))) (own-length (s .args .set) (now (s .args .cell)) (λ x. x))
     (s .pre .2) (c .before .before .loop .inv) (c .before .loop-test .taken)
     (c .subframe-in .ensures ∙ ap (subframeAt (s .args .set .format) (now (s .args .cell))) (straight (s .args .set) (now (s .args .cell)) (s .pre .3) (c .before .before .loop .i)) ∙ own-at (s .args .set) (now (s .args .cell)) (λ x. x) (c .before .loop-test .taken))
-
-same-length : tie.Need-same-length Inv-loop μ-loop
-same-length c = c .before .loop .inv .same
 
 returns : tie.Need-returns Inv-loop μ-loop
 returns c =
@@ -68,17 +43,5 @@ returns c =
 pub subframes-by-time-spec : {M : Type 1} → statement M
 subframes-by-time-spec =
     tie.close
-    (tie.spec
-    Inv-loop
-    μ-loop
-    mul-used
-    loop-holds
-    subframe-in-requires
-    add-run
-    mul-run
-    slice-write-run
-    add-i
-    loop-less
-    loop-again
-    same-length
-    returns)
+    (tie.spec Inv-loop μ-loop (search needs) loop-holds subframe-in-requires (search needs) (search needs) (search needs)
+    (search needs) (search needs) loop-again (search needs) returns)

@@ -3,6 +3,7 @@
 use mathlib.Core.Path.{sym}
 use Prim.Native.Nat.{ℕ, _-_}
 use native.Mathlib.Omega.{arith}
+use borrow.Author.Needs.{needs}
 use denote.Ref.{now}
 use lib.ListN.{replicate, length-replicate, getD-replicate}
 use Rattle.runs.proofs.Filling.{Filled, begun, turned-front, done-front}
@@ -18,27 +19,12 @@ abbrev μ-loop : tie.MeasureT-loop
 loop-holds : tie.Need-loop-holds Inv-loop μ-loop
 loop-holds c = begun (now (c .args .run)) 0 (replicate (c .args .count) 0)
 
-mul-run : tie.Need-mul-run Inv-loop μ-loop
-mul-run c = omega (arith, c .before .loop .inv .same)
-
-slice-write-run : tie.Need-slice-write-run Inv-loop μ-loop
-slice-write-run c = omega (arith, c .before .loop .inv .same)
-
-add-i : tie.Need-add-i Inv-loop μ-loop
-add-i c = omega (arith, c .before .before .pre)
-
-loop-less : tie.Need-loop-less Inv-loop μ-loop
-loop-less c = omega arith
-
 loop-again : tie.Need-loop-again Inv-loop μ-loop
 loop-again c =
     turned-front (now (c .before .before .args .run)) (replicate (c .before .before .args .count) 0) (c .before .loop .inv)
     (omega (arith, length-replicate {A = ℕ} (c .before .before .args .count) 0, c .before .before .pre))
     (omega (arith, length-replicate {A = ℕ} (c .before .before .args .count) 0))
     (sym (getD-replicate (c .before .before .args .count) (c .before .loop .i) 0 0 (c .loop-test .taken)))
-
-same-length : tie.Need-same-length Inv-loop μ-loop
-same-length c = c .before .loop .inv .same
 
 returns : tie.Need-returns Inv-loop μ-loop
 returns c =
@@ -49,14 +35,5 @@ returns c =
 pub zeros-spec : {M : Type 1} → statement M
 zeros-spec =
     tie.close
-    (tie.spec
-    Inv-loop
-    μ-loop
-    loop-holds
-    mul-run
-    slice-write-run
-    add-i
-    loop-less
-    loop-again
-    same-length
+    (tie.spec Inv-loop μ-loop loop-holds (search needs) (search needs) (search needs) (search needs) loop-again (search needs)
     returns)

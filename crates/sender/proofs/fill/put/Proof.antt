@@ -23,39 +23,12 @@ abbrev μ-loop : tie.MeasureT-loop
 loop-holds : tie.Need-loop-holds Inv-loop μ-loop
 loop-holds c = begun (now (c .args .cell)) (c .args .at) (octetsOf (c .args .width) (c .args .number))
 
-sub-cell : tie.Need-sub-cell Inv-loop μ-loop
-sub-cell c = omega arith
-
-sub-cell-2 : tie.Need-sub-cell-2 Inv-loop μ-loop
-sub-cell-2 c = omega arith
-
-mul-cell : tie.Need-mul-cell Inv-loop μ-loop
-mul-cell c = omega arith
-
-shr-cell : tie.Need-shr-cell Inv-loop μ-loop
-shr-cell c = omega arith
-
-add-cell : tie.Need-add-cell Inv-loop μ-loop
-add-cell c = omega arith
-
-slice-write-cell : tie.Need-slice-write-cell Inv-loop μ-loop
-slice-write-cell c = omega arith
-
-add-i : tie.Need-add-i Inv-loop μ-loop
-add-i c = omega arith
-
-loop-less : tie.Need-loop-less Inv-loop μ-loop
-loop-less c = omega arith
-
 loop-again : tie.Need-loop-again Inv-loop μ-loop
 loop-again c =
     let a = c .before .before .args in
     turned (now (a .cell)) (a .at) (octetsOf (a .width) (a .number)) (c .before .loop .inv)
     (omega (arith, length-octets (a .width) (a .number))) (omega (arith, length-octets (a .width) (a .number)))
     (octet-at (a .width) (a .number) (c .before .loop .i) (c .loop-test .taken))
-
-same-length : tie.Need-same-length Inv-loop μ-loop
-same-length c = c .before .loop .inv .same
 
 returns : tie.Need-returns Inv-loop μ-loop
 returns c =
@@ -68,5 +41,5 @@ returns c =
 pub put-spec : {M : Type 1} → statement M
 put-spec =
     tie.close
-    (tie.spec Inv-loop μ-loop loop-holds sub-cell sub-cell-2 mul-cell shr-cell (search needs) add-cell slice-write-cell add-i
-    loop-less loop-again same-length returns)
+    (tie.spec Inv-loop μ-loop loop-holds (search needs) (search needs) (search needs) (search needs) (search needs) (search needs) (search needs) (search needs)
+    (search needs) loop-again (search needs) returns)

@@ -22,33 +22,12 @@ abbrev μ-loop : tie.MeasureT-loop
 loop-holds : tie.Need-loop-holds Inv-loop μ-loop
 loop-holds c = begun (now (c .args .cell)) (c .args .at) (lowOctets (c .args .count) (c .args .number))
 
-mul-cell : tie.Need-mul-cell Inv-loop μ-loop
-mul-cell c = omega arith
-
-shr-cell : tie.Need-shr-cell Inv-loop μ-loop
-shr-cell c = omega arith
-
-add-cell : tie.Need-add-cell Inv-loop μ-loop
-add-cell c = omega arith
-
-slice-write-cell : tie.Need-slice-write-cell Inv-loop μ-loop
-slice-write-cell c = omega arith
-
-add-i : tie.Need-add-i Inv-loop μ-loop
-add-i c = omega arith
-
-loop-less : tie.Need-loop-less Inv-loop μ-loop
-loop-less c = omega arith
-
 loop-again : tie.Need-loop-again Inv-loop μ-loop
 loop-again c =
     let a = c .before .before .args in
     turned (now (a .cell)) (a .at) (lowOctets (a .count) (a .number)) (c .before .loop .inv)
     (omega (arith, low-length (a .count) (a .number))) (omega (arith, low-length (a .count) (a .number)))
     (low-at (a .count) (a .number) (c .loop-test .taken))
-
-same-length : tie.Need-same-length Inv-loop μ-loop
-same-length c = c .before .loop .inv .same
 
 returns : tie.Need-returns Inv-loop μ-loop
 returns c =
@@ -61,5 +40,5 @@ returns c =
 pub put-low-spec : {M : Type 1} → statement M
 put-low-spec =
     tie.close
-    (tie.spec Inv-loop μ-loop loop-holds mul-cell shr-cell (search needs) add-cell slice-write-cell add-i
-    loop-less loop-again same-length returns)
+    (tie.spec Inv-loop μ-loop loop-holds (search needs) (search needs) (search needs) (search needs) (search needs) (search needs)
+    (search needs) loop-again (search needs) returns)

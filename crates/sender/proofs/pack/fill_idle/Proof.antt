@@ -3,6 +3,7 @@
 use mathlib.Core.Path.{_≡_, subst}
 use Prim.Native.Nat.{_-_, _≤_}
 use native.Mathlib.Omega.{arith}
+use borrow.Author.Needs.{needs}
 use denote.Ref.{now}
 use Rattle.cells.proofs.Subframes.{slot-room}
 use Rattle.sender.specs.Packing.{Continues}
@@ -22,12 +23,6 @@ loop-holds c =
     let a = c .before .args in
     (omega arith, c .before .pre .1, continues-begun (a .set .format .width) (a .set .format .overhead) (a .sequence) (now (a .cell)) (a .used))
 
-shr-bit : tie.Need-shr-bit Inv-loop μ-loop
-shr-bit c = omega arith
-
-idle-subframe-requires : tie.Need-idle-subframe-requires Inv-loop μ-loop
-idle-subframe-requires c κs = omega arith
-
 mul-put-idle : tie.Need-mul-put-idle Inv-loop μ-loop
 mul-put-idle c =
     omega (arith, slot-room (c .before .before .before .before .before .pre .0 .sound) (c .before .before .loop-test .taken))
@@ -37,19 +32,10 @@ put-idle-requires c κs =
     let given = c .before .before .before .before .before .pre in
     (omega (arith, slot-room (given .0 .sound) (c .before .before .loop-test .taken), c .before .before .before .loop .inv .2 .same, given .2), given .0 .sound .width-to)
 
-add-slot : tie.Need-add-slot Inv-loop μ-loop
-add-slot c = omega arith
-
-loop-less : tie.Need-loop-less Inv-loop μ-loop
-loop-less c = omega arith
-
 loop-again : tie.Need-loop-again Inv-loop μ-loop
 loop-again c =
     let a = c .before .before .before .before .before .before .before .before .args in
     (omega (arith, c .before .before .before .before .before .before .loop .inv .0), omega (arith, c .before .before .before .before .before .loop-test .taken), continues-on (a .set .format .width) (a .set .format .overhead) (a .sequence) (now (a .cell)) (a .used) (c .before .before .before .before .before .before .loop .inv .2) (c .before .before .before .before .before .before .loop .inv .0) (c .before .before .before .before .idle-subframe .ensures) (c .before .before .put-idle .ensures) (c .before .before .put-idle .kept .0))
-
-same-length : tie.Need-same-length Inv-loop μ-loop
-same-length c = c .before .loop .inv .2 .same
 
 returns : tie.Need-returns Inv-loop μ-loop
 returns c =
@@ -62,16 +48,5 @@ returns c =
 pub fill-idle-spec : {M : Type 1} → statement M
 fill-idle-spec =
     tie.close
-    (tie.spec
-    Inv-loop
-    μ-loop
-    loop-holds
-    shr-bit
-    idle-subframe-requires
-    mul-put-idle
-    put-idle-requires
-    add-slot
-    loop-less
-    loop-again
-    same-length
-    returns)
+    (tie.spec Inv-loop μ-loop loop-holds (search needs) (search needs) mul-put-idle put-idle-requires (search needs)
+    (search needs) loop-again (search needs) returns)

@@ -11,17 +11,8 @@ use borrow.Author.Needs.{needs}
 use Rattle.sender.proofs.pack.pack.Statement.{statement}
 use Rattle.sender.proofs.pack.pack.Tie as tie
 
-sequence-of-requires : tie.Need-sequence-of-requires
-sequence-of-requires c κs = search needs
-
 pack-used-requires : tie.Need-pack-used-requires
 pack-used-requires c κs = search needs
-
-fill-idle-requires : tie.Need-fill-idle-requires
-fill-idle-requires c κs = search needs
-
-same-length : tie.Need-same-length
-same-length c = search needs
 
 returns : tie.Need-returns
 returns c =
@@ -36,4 +27,4 @@ returns c =
 pub pack-spec : {M : Type 1} → statement M
 pack-spec =
     tie.close
-    (tie.spec sequence-of-requires pack-used-requires fill-idle-requires same-length returns)
+    (tie.spec (search needs) pack-used-requires (search needs) (search needs) returns)

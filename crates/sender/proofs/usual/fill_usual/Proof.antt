@@ -22,18 +22,6 @@ loop-holds c =
     let a = c .before .before .before .args in
     filling-begun (shape 24 4 4) inOrder (a .sequence) (c .before .before .before .pre)
 
-shr-bit : tie.Need-shr-bit Inv-loop μ-loop
-shr-bit c = omega arith
-
-mul-subframe : tie.Need-mul-subframe Inv-loop μ-loop
-mul-subframe c = omega arith
-
-shared-slice-read-subframe : tie.Need-shared-slice-read-subframe Inv-loop μ-loop
-shared-slice-read-subframe c = omega arith
-
-shared-slice-read-wide : tie.Need-shared-slice-read-wide Inv-loop μ-loop
-shared-slice-read-wide c = omega arith
-
 subframe-requires : tie.Need-subframe-requires Inv-loop μ-loop
 subframe-requires c κs =
     let given = c .before .before .before .before .before .before .before .before .pre in (
@@ -53,12 +41,6 @@ put-requires c κs =
     c .before .before .before .before .before .before .before .before .before .before .pre in
     (omega (arith, used-room (shape 24 4 4) inOrder (a .sequence) (given) (c .before .before .before .before .before .loop-test .taken), c .before .before .before .before .before .before .loop .inv .same, given .whole), omega (arith, given .width-is, given .sound .width-to))
 
-add-slot : tie.Need-add-slot Inv-loop μ-loop
-add-slot c = omega arith
-
-loop-less : tie.Need-loop-less Inv-loop μ-loop
-loop-less c = omega arith
-
 loop-again : tie.Need-loop-again Inv-loop μ-loop
 loop-again c =
     let a = c .before .before .before .before .before .before .before .before .before .before .before .before .before .args in
@@ -66,11 +48,8 @@ loop-again c =
     (c .before .before .before .before .before .before .before .before .before .before .before .before .before .pre)
     (c .before .before .before .before .before .before .before .before .before .loop .inv)
     (c .before .before .before .before .before .before .before .before .loop-test .taken) refl
-    (c .before .before .before .before .before .wide .ensures) (c .before .before .before .before .subframe .ensures)
+    (c .before .before .before .before .before .wide .ensures) refl (c .before .before .before .before .subframe .ensures)
     (c .before .before .put .ensures) (c .before .before .put .kept .0)
-
-same-length : tie.Need-same-length Inv-loop μ-loop
-same-length c = c .before .loop .inv .same
 
 returns : tie.Need-returns Inv-loop μ-loop
 returns c =
@@ -81,5 +60,5 @@ returns c =
 pub fill-usual-spec : {M : Type 1} → statement M
 fill-usual-spec =
     tie.close
-    (tie.spec Inv-loop μ-loop loop-holds shr-bit mul-subframe shared-slice-read-subframe shared-slice-read-wide (search needs)
-    subframe-requires mul-put put-requires add-slot loop-less loop-again same-length returns)
+    (tie.spec Inv-loop μ-loop loop-holds (search needs) (search needs) (search needs) (search needs) (search needs)
+    subframe-requires mul-put put-requires (search needs) (search needs) loop-again (search needs) returns)

@@ -32,9 +32,6 @@ coefficient-requires c κs = tt
 taken-down-requires : tie.Need-taken-down-requires Inv-loop μ-loop
 taken-down-requires c κs = (c .before .before .loop .inv .1, c .coefficient .ensures .1)
 
-loop-less : tie.Need-loop-less Inv-loop μ-loop
-loop-less c = omega arith
-
 loop-again : tie.Need-loop-again Inv-loop μ-loop
 loop-again c =
     let l = c .before .before .before in
@@ -56,5 +53,5 @@ returns c =
 pub check-character-spec : {M : Type 1} → statement M
 check-character-spec =
     tie.close
-    (tie.spec Inv-loop μ-loop loop-holds coefficient-requires taken-down-requires (search needs) loop-less loop-again
+    (tie.spec Inv-loop μ-loop loop-holds coefficient-requires taken-down-requires (search needs) (search needs) loop-again
     turned-requires returns)
