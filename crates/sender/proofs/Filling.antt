@@ -121,18 +121,16 @@ module _ {f : Format} (s : Sound f) {sample ancillary bit : ℕ}
         ap (λ (n : ℕ). n + (low + bit * 8)) above-is
         ∙ rw (ne-eqb (f .overhead) 0 some, four s some) (omega (arith, e))
 
-module _ {sample four : ℕ} (hs : sample < 2 ^ 24) (hf : four < 16) where
-  pub usual-low : {guard low : ℕ} → guard ≡ tenGuard (sample / 32768 % 512 * 2) → low ≡ four % 16 * 16 + four % 16 % 2 * 3
-      → bitXor guard low ≡ four * 16 + guardOf 24 sample four
-  usual-low guard-is =
-      low-octet 24 sample hf
-      (guard-is
-      ∙ ap (λ (n : ℕ). tenGuard (n * 2)) ((let whole : sample / 32768 % 512 ≡ sample * 2 / 2 ^ 16 = omega arith in whole) ∙ nine-top 24 (omega arith) hs))
+-- where ancillary and overhead have four bits each: the protection bits that a table has for the bits on top, and the subframe by them
+pub guard-on-top : (n top : ℕ) {sample guard : ℕ} → 8 ≤ n → sample < 2 ^ n → top % 512 ≡ sample * 2 / 2 ^ (n - 8)
+    → guard ≡ tenGuard (top % 512 * 2) → guard ≡ tenGuard (nineOf n sample * 2)
+guard-on-top n top from small top-is guard-is =
+    guard-is ∙ ap (λ (m : ℕ). tenGuard (m * 2)) (top-is ∙ nine-top n from small)
 
-pub usual-subframe : (sample four bit : ℕ) {low : ℕ} → low ≡ four * 16 + guardOf 24 sample four
-    → sample * 256 + (low + bit * 8) ≡ subframeOf (shape 24 4 4) sample four bit
+pub subframe-by : (n sample four bit : ℕ) {low : ℕ} → low ≡ four * 16 + guardOf n sample four
+    → sample * 256 + (low + bit * 8) ≡ subframeOf (shape n 4 4) sample four bit
 unfolding subframeOf overheadOf
-usual-subframe sample four bit e = omega (arith, e)
+subframe-by n sample four bit e = omega (arith, e)
 
 -- octet i of a number, as the code shifts it out
 pub octet-at : (w n i : ℕ) → i < w → n / 2 ^ (8 * (w - 1 - i)) % 256 ≡ getD (octetsOf w n) i 0

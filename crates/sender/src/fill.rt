@@ -111,7 +111,7 @@ fn turned_two(x: u64) -> u64
 
 // Writes six octets of a number, the highest first. Four and two are turned round and written lowest first: so they are two stores,
 // where six that are shifted down stay six.
-fn put_six(cell: &mut [u8], at: usize, number: u64)
+pub(crate) fn put_six(cell: &mut [u8], at: usize, number: u64)
     requires { ⌜ at + 6 ≤ length (now cell) ⌝ }
     ensures { λ r. ⌜ now (cell .exit) ≡ take at (now (cell .entry)) ++ octetsOf 6 number ++ drop (at + 6) (now (cell .entry)) ⌝ }
 {

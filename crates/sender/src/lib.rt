@@ -3,6 +3,7 @@ ghost use mathlib.Core.Path.{_≡_};
 ghost use Rattle.sender.specs.Sender.{openedOf, Writes, Sends};
 
 mod fill;
+mod guarded;
 mod judge;
 mod pack;
 mod usual;

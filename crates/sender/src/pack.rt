@@ -22,6 +22,8 @@ ghost use Rattle.sender.specs.Packing.{
 use crate::fill::fill_by_channel;
 use crate::fill::fill_in_order;
 use crate::fill::put;
+use crate::guarded::fill_six;
+use crate::guarded::fill_three;
 use formats::Settled;
 
 // The used slots in order 0, the format's numbers named again: where they are constants the compiler makes a loop of its own of
@@ -191,6 +193,21 @@ fn pack_plain(set: Settled, sequence: u64, samples: &[u64], ancillary: &[u8], ce
     }
 }
 
+// The used slots of a format with overhead in order 0, where it is that of a loop of its own.
+fn three_as(set: Settled, sequence: u64, samples: &[u64], ancillary: &[u8], cell: &mut [u8])
+    requires { ⌜ Packable set (now samples) (now ancillary) × Named (set .format) 16 4 4 3 × (L.length (now cell) ≡ 48) ⌝ }
+    ensures { λ r. ⌜ now (cell .exit) ≡ written (set .format) inOrder sequence (now (samples .entry)) (now (ancillary .entry)) (now (cell .entry)) ⌝ }
+{
+    fill_three(sequence, samples, ancillary, cell);
+}
+
+fn six_as(set: Settled, sequence: u64, samples: &[u64], ancillary: &[u8], cell: &mut [u8])
+    requires { ⌜ Packable set (now samples) (now ancillary) × Named (set .format) 40 4 4 6 × (L.length (now cell) ≡ 48) ⌝ }
+    ensures { λ r. ⌜ now (cell .exit) ≡ written (set .format) inOrder sequence (now (samples .entry)) (now (ancillary .entry)) (now (cell .entry)) ⌝ }
+{
+    fill_six(sequence, samples, ancillary, cell);
+}
+
 // The used slots with overhead in order 0, a loop for each sample length. (`used_as` is too large to be made a loop of here.)
 fn guarded_in_order(set: Settled, sequence: u64, samples: &[u64], ancillary: &[u8], cell: &mut [u8])
     requires { ⌜ Packable set (now samples) (now ancillary) × (set .format .overhead ≡ 0 → ⊥) × (L.length (now cell) ≡ 48) ⌝ }
@@ -203,9 +220,9 @@ fn guarded_in_order(set: Settled, sequence: u64, samples: &[u64], ancillary: &[u
     let table = guards::sevens();
     match length {
         8 => in_order_as(set, &table, 8, 4, 4, 2, sequence, samples, ancillary, cell),
-        16 => in_order_as(set, &table, 16, 4, 4, 3, sequence, samples, ancillary, cell),
+        16 => three_as(set, sequence, samples, ancillary, cell),
         24 => in_order_as(set, &table, 24, 4, 4, 4, sequence, samples, ancillary, cell),
-        40 => in_order_as(set, &table, 40, 4, 4, 6, sequence, samples, ancillary, cell),
+        40 => six_as(set, sequence, samples, ancillary, cell),
         _ => in_order_as(
             set,
             &table,

@@ -2,39 +2,12 @@
 // cost: the settings are constants, and what protects a sample is one load.
 ghost use mathlib.Core.Bool.{true};
 ghost use mathlib.Core.Path.{_≡_};
-ghost use Prim.Native.Nat.{_+_, _*_, _%_, _^_, _<_};
 ghost use lib.ListN.{length};
-ghost use Rattle.guards.specs.Code.{sevenGuards};
-ghost use Rattle.cells.specs.Cells.{subframeOf};
 ghost use Rattle.sender.specs.Sender.{Writes};
-ghost use Rattle.sender.specs.Packing.{shape, Fillable, inOrder, written, Usual};
+ghost use Rattle.sender.specs.Packing.{Usual};
 use crate::Sender;
-use crate::fill::low_of;
-use crate::fill::put;
+use crate::guarded::fill_four;
 use crate::judge;
-
-// One subframe as a number.
-fn subframe(sample: u64, four: u64, bit: u64) -> u64
-    requires { ⌜ (sample < 2 ^ 24) × (four < 16) × (bit < 2) ⌝ }
-    ensures { λ r. ⌜ r ≡ subframeOf (shape 24 4 4) sample four bit ⌝ }
-{
-    let low = tables::guard_of(sample / 32768) ^ low_of(four);
-    sample * 256 + (low + bit * 8)
-}
-
-// The used slots, which are all.
-fn fill_usual(sequence: u64, samples: &[u64], ancillary: &[u8], cell: &mut [u8])
-    requires { ⌜ Fillable (shape 24 4 4) 4 sevenGuards (now samples) (now ancillary) (now cell) ⌝ }
-    ensures { λ r. ⌜ now (cell .exit) ≡ written (shape 24 4 4) inOrder sequence (now (samples .entry)) (now (ancillary .entry)) (now (cell .entry)) ⌝ }
-{
-    let mut slot = 0;
-    while slot < samples.len() {
-        let bit = (sequence >> slot) % 2;
-        let number = subframe(samples[slot], judge::wide(ancillary[slot]), bit);
-        put(cell, slot * 4, 4, number);
-        slot += 1;
-    }
-}
 
 // Whether a call is usual.
 pub(crate) fn is_usual(state: Sender, samples: usize, ancillary: usize) -> bool
@@ -67,6 +40,6 @@ pub(crate) fn write_usual(
     }
     let second = judge::second_now(state, indication);
     let sequence = numbers::sequence_of(state.number, second);
-    fill_usual(sequence, samples, ancillary, cell);
+    fill_four(sequence, samples, ancillary, cell);
     0
 }

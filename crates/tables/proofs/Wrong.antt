@@ -10,6 +10,10 @@ use Rattle.guards.specs.Guards.{tenGuard}
 use Rattle.tables.specs.Marks.{markBit, MarksOf}
 use Rattle.tables.proofs.guard_of.Kinds as guard-of-kinds
 use Rattle.tables.proofs.guard_of.Reads as guard-of-reads
+use Rattle.tables.proofs.guard_in_three.Kinds as guard-in-three-kinds
+use Rattle.tables.proofs.guard_in_three.Reads as guard-in-three-reads
+use Rattle.tables.proofs.guard_in_six.Kinds as guard-in-six-kinds
+use Rattle.tables.proofs.guard_in_six.Reads as guard-in-six-reads
 use Rattle.tables.proofs.marks_of.Kinds as marks-of-kinds
 use Rattle.tables.proofs.marks_of.Reads as marks-of-reads
 use Rattle.tables.proofs.marks_at.Kinds as marks-at-kinds
@@ -33,6 +37,22 @@ module _ (κs : Lfts 0) where
   pub guard-not-by-another-polynomial : Never guard-of-kinds.ps guard-of-kinds.r guard-of-reads.Post κs (1, tt) (λ x v. x ≡ 2)
   unfolding unfolded
   guard-not-by-another-polynomial x v wrong p = omega arith
+
+  pub guard-in-three-not-the-remainder : Never guard-in-three-kinds.ps guard-in-three-kinds.r guard-in-three-reads.Post κs (0, tt) (λ x v. x ≡ 0)
+  unfolding unfolded
+  guard-in-three-not-the-remainder x v wrong p = omega arith
+
+  pub guard-in-three-not-by-another-polynomial : Never guard-in-three-kinds.ps guard-in-three-kinds.r guard-in-three-reads.Post κs (1, tt) (λ x v. x ≡ 2)
+  unfolding unfolded
+  guard-in-three-not-by-another-polynomial x v wrong p = omega arith
+
+  pub guard-in-six-not-the-remainder : Never guard-in-six-kinds.ps guard-in-six-kinds.r guard-in-six-reads.Post κs (0, tt) (λ x v. x ≡ 0)
+  unfolding unfolded
+  guard-in-six-not-the-remainder x v wrong p = omega arith
+
+  pub guard-in-six-not-by-another-polynomial : Never guard-in-six-kinds.ps guard-in-six-kinds.r guard-in-six-reads.Post κs (1, tt) (λ x v. x ≡ 2)
+  unfolding unfolded
+  guard-in-six-not-by-another-polynomial x v wrong p = omega arith
 
   -- every subframe sound, and none; V left out: with V the bits 100 are what 111 is without it
   always-0 : {x : ℕ} (nine : ℕ) → markBit nine 0 ≡ 1 → MarksOf nine x × (x < 4294967296) → x ≡ 0 → ⊥

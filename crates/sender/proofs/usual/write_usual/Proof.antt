@@ -44,8 +44,8 @@ ready c =
     can-pack (a .state) (a .indication) (now (a .samples)) (now (a .ancillary)) (now (a .cell)) (given (c .before))
     (none (c .before)) (c .second-now .ensures)
 
-fill-usual-requires : tie.Need-fill-usual-requires
-fill-usual-requires c κs =
+fill-four-requires : tie.Need-fill-four-requires
+fill-four-requires c κs =
     let can = ready (c .before .before) in
     usual-fillable (now (c .before .before .before .before .before .before .before .before .before .before .args .samples)) (c .before .before .before .before .before .before .before .before .before .before .pre) (c .before .before .before .before .before .usual .ensures) (can .0) (can .2)
 
@@ -57,10 +57,10 @@ returns-2 c =
     (none (c .before .before .before .before .before .before)) (c .before .before .before .before .before .second-now .ensures) refl
     (usual-packs (now (a .samples)) (c .before .before .before .before .before .before .before .before .before .before .before .before .before .pre) (c .before .before .before .before .before .before .before .before .usual .ensures) (can .0) (entryOf (a .state .number % 16))
     (c .before .before .before .before .before .second-now .result) (c .before .before .before .before .sequence-of .result) (now (a .cell)) (entry-lt (mod-lt (a .state .number) (omega arith)))
-    (can .1) (can .2) (c .before .before .before .before .sequence-of .ensures) (c .before .before .fill-usual .ensures))
+    (can .1) (can .2) (c .before .before .before .before .sequence-of .ensures) (c .before .before .fill-four .ensures))
 
 pub write-usual-spec : {M : Type 1} → statement M
 write-usual-spec =
     tie.close
-    (tie.spec (search needs) send-refusal-requires returns (search needs) (search needs) fill-usual-requires
+    (tie.spec (search needs) send-refusal-requires returns (search needs) (search needs) fill-four-requires
     (search needs) returns-2)

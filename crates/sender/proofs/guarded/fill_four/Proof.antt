@@ -1,0 +1,60 @@
+-- `sender::guarded::fill_four` meets its contract.
+-- Assumes nothing.
+use mathlib.Core.Path.{_≡_, refl}
+use Prim.Native.Nat.{_*_, _/_, _%_, _-_}
+use native.Mathlib.Omega.{arith}
+use denote.Ref.{now}
+use lib.ListN as L
+use borrow.Author.Needs.{needs}
+use Rattle.sender.specs.Packing.{shape, inOrder}
+use Rattle.sender.proofs.Filling.{guard-on-top, Filling, filling-begun, used-room, filling-on, filling-done}
+use Rattle.sender.proofs.guarded.fill_four.Statement.{statement}
+use Rattle.sender.proofs.guarded.fill_four.Tie as tie
+
+abbrev Inv-loop : tie.InvT-loop
+Inv-loop sequence samples ancillary cell₀ slot₀ cell slot = Filling (shape 24 4 4) inOrder sequence samples ancillary cell₀ cell slot
+
+abbrev μ-loop : tie.MeasureT-loop
+μ-loop sequence samples ancillary cell₀ slot₀ cell slot = L.length samples - slot
+
+loop-holds : tie.Need-loop-holds Inv-loop μ-loop
+loop-holds c = let s = c .before .before .before in filling-begun (shape 24 4 4) inOrder (s .args .sequence) (s .pre)
+
+subframe-requires : tie.Need-subframe-requires Inv-loop μ-loop
+subframe-requires c κs =
+    let given = c .before .before .before .before .before .before .before .before .before .pre in
+    let slot = c .before .before .before .before .before .loop .slot in
+    let sample = L.getD (now (c .before .before .before .before .before .before .before .before .before .args .samples)) slot 0 in
+    let small = given .small slot in (
+      given .sound,
+      small,
+      guard-on-top 24 (sample / 32768) (omega arith) small (let on-top : sample / 32768 % 512 ≡ sample * 2 / 65536 = omega (arith, small) in on-top) (c .before .before .guard-of .ensures),
+      rw (c .wide .ensures) (given .few slot),
+      omega arith,
+    )
+
+mul-put : tie.Need-mul-put Inv-loop μ-loop
+mul-put c =
+    let s = c .before .before .before .before .before .before .before .before .before .before .before in omega (arith, used-room (shape 24 4 4) inOrder (s .args .sequence) (s .pre) (c .before .before .before .before .before .before .loop-test .taken))
+
+put-requires : tie.Need-put-requires Inv-loop μ-loop
+put-requires c κs =
+    let s = c .before .before .before .before .before .before .before .before .before .before .before in
+    (omega (arith, used-room (shape 24 4 4) inOrder (s .args .sequence) (s .pre) (c .before .before .before .before .before .before .loop-test .taken), c .before .before .before .before .before .before .before .loop .inv .same, s .pre .whole), omega arith)
+
+loop-again : tie.Need-loop-again Inv-loop μ-loop
+loop-again c =
+    let s = c .before .before .before .before .before .before .before .before .before .before .before .before .before .before in
+    filling-on (shape 24 4 4) inOrder (s .args .sequence) (s .pre) (c .before .before .before .before .before .before .before .before .before .before .loop .inv) (c .before .before .before .before .before .before .before .before .before .loop-test .taken) refl (c .before .before .before .before .before .wide .ensures) refl
+    (c .before .before .before .before .subframe .ensures) (c .before .before .put .ensures) (c .before .before .put .kept .0)
+
+returns : tie.Need-returns Inv-loop μ-loop
+returns c =
+    let s = c .before .before .before .before .before in
+    filling-done (shape 24 4 4) inOrder (s .args .sequence) (s .pre) (c .before .loop .inv) (c .loop-test .left)
+
+pub fill-four-spec : {M : Type 1} → statement M
+fill-four-spec =
+    tie.close
+    (tie.spec Inv-loop μ-loop loop-holds (search needs) (search needs) (search needs) (search needs) (search needs) (search needs)
+    subframe-requires mul-put put-requires (search needs) (search needs) loop-again (search needs) returns)
