@@ -122,10 +122,27 @@ module _ {f : Format} (s : Sound f) {sample ancillary bit : ℕ}
         ∙ rw (ne-eqb (f .overhead) 0 some, four s some) (omega (arith, e))
 
 -- where ancillary and overhead have four bits each: the protection bits that a table has for the bits on top, and the subframe by them
-pub guard-on-top : (n top : ℕ) {sample guard : ℕ} → 8 ≤ n → sample < 2 ^ n → top % 512 ≡ sample * 2 / 2 ^ (n - 8)
+guard-on-top : (n top : ℕ) {sample guard : ℕ} → 8 ≤ n → sample < 2 ^ n → top % 512 ≡ sample * 2 / 2 ^ (n - 8)
     → guard ≡ tenGuard (top % 512 * 2) → guard ≡ tenGuard (nineOf n sample * 2)
 guard-on-top n top from small top-is guard-is =
     guard-is ∙ ap (λ (m : ℕ). tenGuard (m * 2)) (top-is ∙ nine-top n from small)
+
+-- all that such a subframe asks, in a run that fills its slots
+pub subframe-ready : (n top : ℕ) {width : ℕ} {samples ancillary cell : List ℕ}
+    → Fillable (shape n 4 4) width sevenGuards samples ancillary cell
+    → (slot : ℕ) {guard four bit : ℕ}
+    → (getD samples slot 0 < 2 ^ n → top % 512 ≡ getD samples slot 0 * 2 / 2 ^ (n - 8))
+    → guard ≡ tenGuard (top % 512 * 2)
+    → four ≡ getD ancillary slot 0
+    → bit < 2
+    → Sound (shape n 4 4)
+    × (getD samples slot 0 < 2 ^ n)
+    × (guard ≡ tenGuard (nineOf n (getD samples slot 0) * 2))
+    × (four < 16)
+    × (bit < 2)
+subframe-ready n top ok slot top-is guard-is four-is few =
+    let small = ok .small slot in
+    (ok .sound, small, guard-on-top n top (ok .sound .sample-from) small (top-is small) guard-is, rw four-is (ok .few slot), few)
 
 pub subframe-by : (n sample four bit : ℕ) {low : ℕ} → low ≡ four * 16 + guardOf n sample four
     → sample * 256 + (low + bit * 8) ≡ subframeOf (shape n 4 4) sample four bit

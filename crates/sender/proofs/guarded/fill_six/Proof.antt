@@ -1,13 +1,13 @@
 -- `sender::guarded::fill_six` meets its contract.
 -- Assumes nothing.
-use mathlib.Core.Path.{_≡_, refl}
-use Prim.Native.Nat.{_*_, _/_, _%_, _-_}
+use mathlib.Core.Path.{refl}
+use Prim.Native.Nat.{_/_, _-_}
 use native.Mathlib.Omega.{arith}
 use denote.Ref.{now}
 use lib.ListN as L
 use borrow.Author.Needs.{needs}
 use Rattle.sender.specs.Packing.{shape, inOrder}
-use Rattle.sender.proofs.Filling.{guard-on-top, Filling, filling-begun, used-room, filling-on, filling-done}
+use Rattle.sender.proofs.Filling.{subframe-ready, Filling, filling-begun, used-room, filling-on, filling-done}
 use Rattle.sender.proofs.guarded.fill_six.Statement.{statement}
 use Rattle.sender.proofs.guarded.fill_six.Tie as tie
 
@@ -22,16 +22,9 @@ loop-holds c = let s = c .before .before .before in filling-begun (shape 40 4 4)
 
 subframe-requires : tie.Need-subframe-requires Inv-loop μ-loop
 subframe-requires c κs =
-    let given = c .before .before .before .before .before .before .before .before .before .pre in
+    let s = c .before .before .before .before .before .before .before .before .before in
     let slot = c .before .before .before .before .before .loop .slot in
-    let sample = L.getD (now (c .before .before .before .before .before .before .before .before .before .args .samples)) slot 0 in
-    let small = given .small slot in (
-      given .sound,
-      small,
-      guard-on-top 40 (sample / 2147483648) (omega arith) small (let on-top : sample / 2147483648 % 512 ≡ sample * 2 / 4294967296 = omega (arith, small) in on-top) (c .before .before .guard-in-six .ensures),
-      rw (c .wide .ensures) (given .few slot),
-      omega arith,
-    )
+    subframe-ready 40 (L.getD (now (s .args .samples)) slot 0 / 2147483648) (s .pre) slot (λ small. omega (arith, small)) (c .before .before .guard-in-six .ensures) (c .wide .ensures) (omega arith)
 
 mul-put-six : tie.Need-mul-put-six Inv-loop μ-loop
 mul-put-six c =

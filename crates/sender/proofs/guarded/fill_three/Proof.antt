@@ -1,13 +1,13 @@
 -- `sender::guarded::fill_three` meets its contract.
 -- Assumes nothing.
-use mathlib.Core.Path.{_≡_, refl}
-use Prim.Native.Nat.{_*_, _/_, _%_, _-_}
+use mathlib.Core.Path.{refl}
+use Prim.Native.Nat.{_/_, _-_}
 use native.Mathlib.Omega.{arith}
 use denote.Ref.{now}
 use lib.ListN as L
 use borrow.Author.Needs.{needs}
 use Rattle.sender.specs.Packing.{shape, inOrder}
-use Rattle.sender.proofs.Filling.{guard-on-top, Filling, filling-begun, used-room, filling-on, filling-done}
+use Rattle.sender.proofs.Filling.{subframe-ready, Filling, filling-begun, used-room, filling-on, filling-done}
 use Rattle.sender.proofs.guarded.fill_three.Statement.{statement}
 use Rattle.sender.proofs.guarded.fill_three.Tie as tie
 
@@ -22,16 +22,9 @@ loop-holds c = let s = c .before .before .before in filling-begun (shape 16 4 4)
 
 subframe-requires : tie.Need-subframe-requires Inv-loop μ-loop
 subframe-requires c κs =
-    let given = c .before .before .before .before .before .before .before .before .before .pre in
+    let s = c .before .before .before .before .before .before .before .before .before in
     let slot = c .before .before .before .before .before .loop .slot in
-    let sample = L.getD (now (c .before .before .before .before .before .before .before .before .before .args .samples)) slot 0 in
-    let small = given .small slot in (
-      given .sound,
-      small,
-      guard-on-top 16 (sample / 128) (omega arith) small (let on-top : sample / 128 % 512 ≡ sample * 2 / 256 = omega (arith, small) in on-top) (c .before .before .guard-in-three .ensures),
-      rw (c .wide .ensures) (given .few slot),
-      omega arith,
-    )
+    subframe-ready 16 (L.getD (now (s .args .samples)) slot 0 / 128) (s .pre) slot (λ small. omega (arith, small)) (c .before .before .guard-in-three .ensures) (c .wide .ensures) (omega arith)
 
 mul-put : tie.Need-mul-put Inv-loop μ-loop
 mul-put c =

@@ -1,0 +1,96 @@
+#!/usr/bin/env bash
+# A trial build: the two boxes as they stand in crates/, compiled without any proof, in the place of the proved library in the
+# benchmark. For counting a change's instructions before it is proved; nothing that it prints is about the proved library.
+#
+#   bash bench/trial.sh [ROWS]      ROWS picks rows by name, as for run.sh
+#
+# The toolchain compiles only a program without proof, and a program exports nothing. So the face's functions become a program
+# that calls them, its LLVM module is taken from the compiler's hands, and functions for C are added to it.
+set -eu -o pipefail
+export LC_ALL=C
+here=$(cd "$(dirname "$0")/.." && pwd)
+kit=$(dirname "$(dirname "$(readlink -f "$(command -v rt)")")")/on/x86_64
+out=$here/target/trial
+rm -rf "$out"
+mkdir -p "$out/tools/bin" "$out/src"
+
+# clang as before, but each module is kept
+cat > "$out/tools/bin/clang" <<SH
+#!/usr/bin/env bash
+for word in "\$@"; do
+    case \$word in *.bc) case " \$* " in *' -O3 '*) cp "\$word" "$out/module.bc" ;; esac ;; esac
+done
+exec "$kit/toolchain/bin/clang" "\$@"
+SH
+chmod +x "$out/tools/bin/clang"
+ln -s "$kit/toolchain/bin/clang" "$out/tools/bin/ld.lld"
+ln -s "$kit/toolchain/bin/clang" "$out/tools/bin/llvm-ar"
+ln -s "$(readlink -f "$kit/toolchain/lib")" "$out/tools/lib"
+
+cp "$here/crates/rimesatchel/src/boxes.rt" "$out/src/"
+cat > "$out/src/main.rt" <<'RT'
+mod boxes;
+
+fn main() {
+    let mut sender = [0u8; 7];
+    let mut receiver = [0u8; 5];
+    let mut cell = [0u8; 48];
+    let mut samples = [0u64; 180];
+    let mut ancillary = [0u8; 180];
+    let mut marks = [0u8; 180];
+    let mut report = [0u8; 4];
+    boxes::rime_sender_open(0x56, 2, 0, 0, false, 0, &mut sender);
+    boxes::rime_receiver_open(0x56, 2, 0, &mut receiver);
+    boxes::rime_send(&mut sender, false, &samples, &ancillary, &mut cell);
+    boxes::rime_receive(&mut receiver, &cell, false, &mut samples, &mut ancillary, &mut marks, &mut report);
+}
+RT
+libraries=(--lib "std=$kit/../../libs/std/src/lib.rt")
+for crate in runs formats numbers guards tables cells sender receiver; do
+    libraries+=(--lib "$crate=$here/crates/$crate/src/lib.rt")
+done
+"$kit/bin/rattle-cases" --toolchain "$out/tools" "$out/src/main.rt" --crate-name face "${libraries[@]}" > "$out/cases.log"
+
+target=(--target=x86_64-unknown-linux-gnu --no-default-config -Wno-override-module -x ir)
+"$kit/toolchain/bin/clang" "${target[@]}" "$out/module.bc" -S -emit-llvm -Xclang -disable-llvm-passes -o "$out/module.ll"
+python3 - "$out/module.ll" "$out/face.ll" <<'PY'
+import re
+import sys
+
+text = open(sys.argv[1]).read()
+for main in ('main', '"face::main"'):
+    text = re.sub(r'(?ms)^define [^\n]*@' + main + r'\(.*?^}\n', '', text)
+
+
+def run(n):
+    """A lent run as the face's own code takes it: its address and its length, in memory."""
+    return (f'  %s{n} = alloca [16 x i8], align 8\n  store ptr %p{n}, ptr %s{n}, align 8\n'
+            f'  %e{n} = getelementptr i8, ptr %s{n}, i64 8\n  store i64 %n{n}, ptr %e{n}, align 8\n')
+
+
+def function(name, parameters, arguments, runs):
+    made = ''.join(run(n) for n in range(1, runs + 1))
+    return (f'define zeroext i8 @{name}({parameters}) {{\n{made}  %r = call i8 @"face::boxes::{name}"({arguments})\n'
+            '  ret i8 %r\n}\n')
+
+
+def lent(n):
+    return f'ptr %p{n}, i64 %n{n}'
+
+
+text += function('rime_receive', f'ptr %a, {lent(1)}, i1 zeroext %b, {lent(2)}, {lent(3)}, {lent(4)}, ptr %c',
+                 'ptr %a, ptr %s1, i1 zeroext %b, ptr %s2, ptr %s3, ptr %s4, ptr %c', 4)
+text += function('rime_send', f'ptr %a, i1 zeroext %b, {lent(1)}, {lent(2)}, {lent(3)}',
+                 'ptr %a, i1 zeroext %b, ptr %s1, ptr %s2, ptr %s3', 3)
+opening = 'i32 %a, i32 %b, i32 %c, i32 %d, i1 zeroext %e, i32 %f, ptr %g'
+text += function('rime_sender_open', opening, opening, 0)
+opening = 'i32 %a, i32 %b, i32 %c, ptr %d'
+text += function('rime_receiver_open', opening, opening, 0)
+open(sys.argv[2], 'w').write(text)
+PY
+"$kit/toolchain/bin/clang" "${target[@]}" -march=x86-64 -ffunction-sections -fdata-sections -c "$out/face.ll" -o "$out/face.o" -fPIC -O3 \
+    -Xclang -fmerge-functions -mllvm -mergefunc-use-aliases
+gcc -O3 -std=gnu11 -Wall -Wextra -falign-functions=64 -falign-loops=32 -I"$here/include" -I"$here/bench" "$here/bench/bench.c" \
+    "$here/bench/plain.c" "$out/face.o" -o "$out/bench"
+echo 'a trial: not proved'
+bash "$here/bench/run.sh" "$out/bench" "${1:-.}"
