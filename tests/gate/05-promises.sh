@@ -1,0 +1,55 @@
+#!/usr/bin/env bash
+# What docs/PROMISES.md names is there: definitions and theorems in the file that it names, functions, must-fail edits; and it
+# names every edit.
+set -eu
+export LC_ALL=C
+python3 - <<'PY'
+import pathlib
+import re
+import sys
+
+crates = pathlib.Path('crates')
+text = pathlib.Path('docs/PROMISES.md').read_text(encoding='utf-8')
+wrong = []
+named = 0
+
+
+def has(word, where):
+    return re.search(r'(?<![\w\-])' + re.escape(word) + r'(?![\w\-])', where) is not None
+
+
+def read(files):
+    return '\n'.join(file.read_text(encoding='utf-8') for file in files)
+
+
+# crate/File: `name`, `name`, up to a semicolon
+for crate, file, names in re.findall(r'(\w+)/(\w+)(?:`?: ([^;|\n]*))?', text):
+    if not (crates / crate).is_dir() or (crates / crate / 'must-fail' / f'{file}.edit').exists():
+        continue
+    files = [path for part in ('specs', 'proofs') if (path := crates / crate / part / f'{file}.antt').exists()]
+    if not files:
+        wrong.append(f'{crate}/{file}: no such file or edit')
+    for name in re.findall(r"`([\w\-']+)`", names):
+        named += 1
+        if not has(name, read(files)):
+            wrong.append(f'{crate}/{file}: no `{name}`')
+
+# `crate::function`
+for crate, function in set(re.findall(r'`(\w+)::((?:\w+::)*\w+)`', text)):
+    if (crates / crate).is_dir():
+        named += 1
+        word = function.split('::')[-1]
+        if not re.search(rf'\b(?:fn|struct) {word}\b', read((crates / crate / 'src').glob('**/*.rt'))):
+            wrong.append(f'{crate}: no function or struct {word}')
+
+for edit in crates.glob('*/must-fail/*.edit'):
+    named += 1
+    if not has(edit.stem, text):
+        wrong.append(f'{edit}: not named')
+
+for line in wrong:
+    print(f'docs/PROMISES.md: {line}', file=sys.stderr)
+if wrong or not named:
+    sys.exit(1)
+print(f'docs/PROMISES.md: {named} names are there')
+PY
