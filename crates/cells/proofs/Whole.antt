@@ -54,17 +54,17 @@ module _ {f : Format} (s : Sound f) (byChannel : Bool) (channels times word seco
       ∙ s .cell
 
   module _
-      (small : (i : ℕ) → getD samples i 0 < 2 ^ f .sample)
-      (few : (i : ℕ) → getD ancillary i 0 < 2 ^ f .ancillary)
+      (small : (i : ℕ) → getD samples i 0 < 2 ^ f .«sample_bits»)
+      (few : (i : ℕ) → getD ancillary i 0 < 2 ^ f .«ancillary_bits»)
     where
       abbrev cell : List ℕ
       cell = cellOf f byChannel channels times word second samples ancillary
 
-      sample-lt : (k : ℕ) → carried byChannel channels times samples k < 2 ^ f .sample
-      sample-lt = carried-lt byChannel channels times samples (2 ^ f .sample) small (pow-pos (f .sample))
+      sample-lt : (k : ℕ) → carried byChannel channels times samples k < 2 ^ f .«sample_bits»
+      sample-lt = carried-lt byChannel channels times samples (2 ^ f .«sample_bits») small (pow-pos (f .«sample_bits»))
 
-      ancillary-lt : (k : ℕ) → carried byChannel channels times ancillary k < 2 ^ f .ancillary
-      ancillary-lt = carried-lt byChannel channels times ancillary (2 ^ f .ancillary) few (pow-pos (f .ancillary))
+      ancillary-lt : (k : ℕ) → carried byChannel channels times ancillary k < 2 ^ f .«ancillary_bits»
+      ancillary-lt = carried-lt byChannel channels times ancillary (2 ^ f .«ancillary_bits») few (pow-pos (f .«ancillary_bits»))
 
       abbrev sent : ℕ → ℕ
       sent k =
@@ -124,7 +124,7 @@ module _ {f : Format} (s : Sound f) (byChannel : Bool) (channels times word seco
             read-back (markIn f) (replicate (channels * times) 0) (length-replicate (channels * times) 0)
             (λ i h. mark-back s (sample-lt (slot i)) (ancillary-lt (slot i)) (bit-lt word second (slot i)) ∙ sym (getD-replicate (channels * times) i 0 0 h))
 
-      module _ (over : f .overhead ≡ 0 → ⊥) where
+      module _ (over : f .«overhead_bits» ≡ 0 → ⊥) where
         bit-there : {k : ℕ} → k < f .slots → bitIn f cell k ≡ wordBit word second k
         unfolding bitIn
         bit-there {k} h =

@@ -123,9 +123,9 @@ of-base test t octet h =
 abbrev pub fieldsOf : ℕ → Format
 fieldsOf octet =
     record {
-      sample = sampleBits octet;
-      ancillary = ancillaryBits octet;
-      overhead = overheadBits octet;
+      «sample_bits» = sampleBits octet;
+      «ancillary_bits» = ancillaryBits octet;
+      «overhead_bits» = overheadBits octet;
       width = widthOf octet;
       slots = slotsOf octet;
     }
@@ -185,9 +185,9 @@ slots-by-bits octet {bits} h e =
 abbrev pub made : ℕ → ℕ → ℕ → Format
 made sample slots octet =
     record {
-      sample = sample;
-      ancillary = octet / 64 * 4;
-      overhead = octet / 16 % 4 * 4;
+      «sample_bits» = sample;
+      «ancillary_bits» = octet / 64 * 4;
+      «overhead_bits» = octet / 16 % 4 * 4;
       width = (sample + octet / 64 * 4 + octet / 16 % 4 * 4) / 8;
       slots = slots;
     }

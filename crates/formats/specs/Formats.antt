@@ -46,15 +46,15 @@ slotsOf octet = 48 / widthOf octet
 
 -- the format of an octet of the eleven, and all zeros for any other
 abbrev pub noFormat : Format
-noFormat = record { sample = 0; ancillary = 0; overhead = 0; width = 0; slots = 0 }
+noFormat = record { «sample_bits» = 0; «ancillary_bits» = 0; «overhead_bits» = 0; width = 0; slots = 0 }
 
 unfoldable pub formatOf : ℕ → Format
 formatOf octet =
     cond (isBase octet)
     (record {
-      sample = sampleBits octet;
-      ancillary = ancillaryBits octet;
-      overhead = overheadBits octet;
+      «sample_bits» = sampleBits octet;
+      «ancillary_bits» = ancillaryBits octet;
+      «overhead_bits» = overheadBits octet;
       width = widthOf octet;
       slots = slotsOf octet;
     })

@@ -7,14 +7,14 @@ use Rattle.formats.specs.declared.Settled.{Settled}
 
 -- what all formats share: everything that is proved of cells is proved from it, once for all formats
 pub record Sound (f : Format) : Type 0 where
-  pub bits : f .sample + f .ancillary + f .overhead ≡ 8 * f .width
+  pub bits : f .«sample_bits» + f .«ancillary_bits» + f .«overhead_bits» ≡ 8 * f .width
   pub cell : f .slots * f .width ≡ 48
-  pub sample-from : 8 ≤ f .sample
-  pub sample-to : f .sample ≤ 40
-  pub ancillary-fours : f .ancillary % 4 ≡ 0
-  pub ancillary-to : f .ancillary ≤ 4
-  pub overhead-fours : f .overhead % 4 ≡ 0
-  pub overhead-to : f .overhead ≤ 4
+  pub sample-from : 8 ≤ f .«sample_bits»
+  pub sample-to : f .«sample_bits» ≤ 40
+  pub ancillary-fours : f .«ancillary_bits» % 4 ≡ 0
+  pub ancillary-to : f .«ancillary_bits» ≤ 4
+  pub overhead-fours : f .«overhead_bits» % 4 ≡ 0
+  pub overhead-to : f .«overhead_bits» ≤ 4
   pub width-from : 1 ≤ f .width
   pub width-to : f .width ≤ 6
   pub slots-from : 8 ≤ f .slots
@@ -27,5 +27,5 @@ pub record Limits (set : Settled) : Type 0 where
   pub times-from : 1 ≤ set .times
   pub used-in : set .channels * set .times ≤ set .format .slots
   pub used-to : set .channels * set .times ≤ 48
-  pub sample-to : set .format .sample ≤ 40
-  pub ancillary-to : set .format .ancillary ≤ 4
+  pub sample-to : set .format .«sample_bits» ≤ 40
+  pub ancillary-to : set .format .«ancillary_bits» ≤ 4

@@ -101,7 +101,7 @@ gives-back s r sends sent same unaltered receives received =
     }
 
 pub tells : (s : SendCall) (r : ReceiveCall) → Sends s → s .answer .refusal ≡ 0 → InSettings (s .state) (r .state)
-    → (formatOf (s .state .format) .overhead ≡ 0 → ⊥) → r .cell ≡ s .written → Receives r → r .answer .refusal ≡ 0 → Tells s r
+    → (formatOf (s .state .format) .«overhead_bits» ≡ 0 → ⊥) → r .cell ≡ s .written → Receives r → r .answer .refusal ≡ 0 → Tells s r
 unfolding R.receivedOf S.cellAfter
 tells s r sends sent same over unaltered receives received =
     let none = sym (sent-refusal s sends) ∙ sent in

@@ -57,7 +57,7 @@ module _ (st : Sender) (indication : Bool) (samples ancillary : List ℕ) (room 
     unfolding S.cellNow
     cell-48 = cell-length (fits .limits .sound) _ (st .channels) (S.timesNow st) _ _ samples ancillary
 
-    pub cell-number : (formatOf (st .format) .overhead ≡ 0 → ⊥) → R.numberNow (formatOf (st .format)) (S.cellNow st indication samples ancillary) ≡ st .number
+    pub cell-number : (formatOf (st .format) .«overhead_bits» ≡ 0 → ⊥) → R.numberNow (formatOf (st .format)) (S.cellNow st indication samples ancillary) ≡ st .number
     unfolding S.cellNow R.numberNow
     cell-number over =
         let less : st .number < 16 = omega (arith, passes st indication samples ancillary room none .number-to) in
@@ -76,7 +76,7 @@ module _ (st : Sender) (indication : Bool) (samples ancillary : List ℕ) (room 
         either true hx hy = hx
         either false hx hy = hy
 
-    pub cell-second : (formatOf (st .format) .overhead ≡ 0 → ⊥) → 12 ≤ formatOf (st .format) .slots
+    pub cell-second : (formatOf (st .format) .«overhead_bits» ≡ 0 → ⊥) → 12 ≤ formatOf (st .format) .slots
         → R.secondNow (formatOf (st .format)) (S.cellNow st indication samples ancillary) ≡ S.secondNow st indication
     unfolding S.cellNow R.secondNow
     cell-second over enough =
@@ -84,7 +84,7 @@ module _ (st : Sender) (indication : Bool) (samples ancillary : List ℕ) (room 
         (second-in-back (fits .limits .sound) _ (st .channels) (S.timesNow st) _ _ samples ancillary (fits .small) (fits .few) over enough
         second-small)
 
-    pub cell-no-second : (formatOf (st .format) .overhead ≡ 0 → ⊥) → formatOf (st .format) .slots < 12
+    pub cell-no-second : (formatOf (st .format) .«overhead_bits» ≡ 0 → ⊥) → formatOf (st .format) .slots < 12
         → R.secondNow (formatOf (st .format)) (S.cellNow st indication samples ancillary) ≡ 0
     unfolding S.cellNow R.secondNow
     cell-no-second over less =

@@ -62,12 +62,12 @@ demand-2 = gives-back
 
 -- Beside it, with overhead: the numbers that the cell carries are reported.
 pub demand-2-numbers : (s : SendCall) (r : ReceiveCall) → Sends s → s .answer .refusal ≡ 0 → InSettings (s .state) (r .state)
-    → (formatOf (s .state .format) .overhead ≡ 0 → ⊥) → r .cell ≡ s .written → Receives r → r .answer .refusal ≡ 0 → Tells s r
+    → (formatOf (s .state .format) .«overhead_bits» ≡ 0 → ⊥) → r .cell ≡ s .written → Receives r → r .answer .refusal ≡ 0 → Tells s r
 demand-2-numbers = tells
 
 -- What demand 3 says and a little more: cells lost before the first unaltered one and after the last may be more than fourteen.
 pub demand-3-inside : (st : Sender) (trips : List Trip) (calls : List ReceiveCall) (column : Column)
-    → (formatOf (st .format) .overhead ≡ 0 → ⊥)
+    → (formatOf (st .format) .«overhead_bits» ≡ 0 → ⊥)
     → InARow st trips
     → Fair 3 st trips
     → longest 0 (toLast (fromFirst trips)) ≤ 14

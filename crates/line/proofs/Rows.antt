@@ -56,19 +56,19 @@ and-false : (b : Bool) → b && false ≡ false
 and-false true = refl
 and-false false = refl
 
-last-passes : (f : Format) (st : Sender) (rc : Receiver) (since : Since) → Stands st rc since → (f .overhead ≡ 0 → ⊥)
+last-passes : (f : Format) (st : Sender) (rc : Receiver) (since : Since) → Stands st rc since → (f .«overhead_bits» ≡ 0 → ⊥)
     → R.lastRefused f (rc .started) (rc .last) ≡ false
 unfolding R.lastRefused
 last-passes f st rc never stands with-overhead = rw (stands .1)
 last-passes f st rc (after k) stands with-overhead =
-    rw (le-ltb _ _ (stands .1), stands .0, ne-eqb (f .overhead) 0 with-overhead) (and-false (not (eqb (rc .last) 0)))
+    rw (le-ltb _ _ (stands .1), stands .0, ne-eqb (f .«overhead_bits») 0 with-overhead) (and-false (not (eqb (rc .last) 0)))
 
-gap-is : (f : Format) (st : Sender) (rc : Receiver) (since : Since) → Stands st rc since → (f .overhead ≡ 0 → ⊥) → lostSince since ≤ 14
+gap-is : (f : Format) (st : Sender) (rc : Receiver) (since : Since) → Stands st rc since → (f .«overhead_bits» ≡ 0 → ⊥) → lostSince since ≤ 14
     → R.gapNow f (rc .started) (rc .last) (st .number) ≡ suc (lostSince since)
 unfolding R.gapNow
 gap-is f st rc never stands with-overhead few = rw (stands .0)
 gap-is f st rc (after k) stands with-overhead few =
-    rw (stands .0, ne-eqb (f .overhead) 0 with-overhead, stands .2)
+    rw (stands .0, ne-eqb (f .«overhead_bits») 0 with-overhead, stands .2)
     (difference-after (rc .last) k (stands .1) few ∙ add-one k)
 
 stands-on : (st : Sender) (rc : Receiver) (indication : Bool) (since : Since) → Stands st rc since
@@ -83,7 +83,7 @@ unfolding S.after
 settings-on indication same = record { format = same .format; channels = same .channels; order = same .order }
 
 -- one trip more, what follows being known
-module _ (column : Column) (t : Trip) (ts : List Trip) (st : Sender) (with-overhead : formatOf (st .format) .overhead ≡ 0 → ⊥)
+module _ (column : Column) (t : Trip) (ts : List Trip) (st : Sender) (with-overhead : formatOf (st .format) .«overhead_bits» ≡ 0 → ⊥)
     (sent : S.sendRefusal st (t .indication) (t .samples) (t .ancillary) 48 ≡ 0)
     (fair : FairFate 3 (formatOf (st .format)) (cellOn st t) (t .fate))
     (follows : (rc : Receiver) (since : Since) (calls : List ReceiveCall)
@@ -166,7 +166,7 @@ module _ (column : Column) (t : Trip) (ts : List Trip) (st : Sender) (with-overh
 
 -- what the receiver hands out over the calls is what is due
 pub hands-out : (column : Column) (ts : List Trip) (st : Sender) (rc : Receiver) (since : Since) (calls : List ReceiveCall)
-    → (formatOf (st .format) .overhead ≡ 0 → ⊥) → InSettings st rc → Stands st rc since
+    → (formatOf (st .format) .«overhead_bits» ≡ 0 → ⊥) → InSettings st rc → Stands st rc since
     → InARow st ts → Fair 3 st ts → Between 14 since ts
     → Row Receives rc calls → map got calls ≡ arrivals st ts → WithRoom calls
     → handed column (S.usedNow st) calls ≡ due column (S.usedNow st) since ts

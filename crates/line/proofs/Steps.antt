@@ -61,7 +61,7 @@ number-after last k =
     mod-add-mod (last + 1 + k) 16 1 ∙ ap (λ (n : ℕ). n % 16) (let whole : last + 1 + k + 1 ≡ last + 1 + suc k = omega arith in whole)
 
 -- a cell that a sender wrote, with overhead
-module _ (st : Sender) (t : Trip) (with-overhead : formatOf (st .format) .overhead ≡ 0 → ⊥)
+module _ (st : Sender) (t : Trip) (with-overhead : formatOf (st .format) .«overhead_bits» ≡ 0 → ⊥)
     (sent : S.sendRefusal st (t .indication) (t .samples) (t .ancillary) 48 ≡ 0)
   where
     abbrev f : Format
@@ -124,7 +124,7 @@ module _ (st : Sender) (t : Trip) (with-overhead : formatOf (st .format) .overhe
           let passed = RL.passes (c .state) (c .cell) _ _ _ (sym (received-refusal c meets) ∙ taken) in
           let number : R.numberNow f came ≤ 15
           = subst (λ (n : ℕ). n ≤ 15) (λ i. R.numberNow (formatOf (same .format i)) (arrived i)) (passed .number-to) in
-          let found : numberIn (eightIn f came) ≤ 15 = rw (ne-eqb (f .overhead) 0 with-overhead) at number in
+          let found : numberIn (eightIn f came) ≤ 15 = rw (ne-eqb (f .«overhead_bits») 0 with-overhead) at number in
           off-table came some few (omega (arith, found))
 
       -- one of 48 octets is refused 8
@@ -134,7 +134,7 @@ module _ (st : Sender) (t : Trip) (with-overhead : formatOf (st .format) .overhe
       unfolding R.receiveRefusal R.lengthsRefused R.numberNow
       spoiled-gets-8 {came} arrived whole some few roomy last-passes =
           let number : R.numberNow (formatOf (c .state .format)) (c .cell) ≡ numberIn (eightIn f came)
-          = (λ i. R.numberNow (formatOf (same .format i)) (arrived i)) ∙ rw (ne-eqb (f .overhead) 0 with-overhead) in
+          = (λ i. R.numberNow (formatOf (same .format i)) (arrived i)) ∙ rw (ne-eqb (f .«overhead_bits») 0 with-overhead) in
           let off : 15 < R.numberNow (formatOf (c .state .format)) (c .cell)
           = rw number (lt-of-not-le (λ h. off-table came some few (omega (arith, h)))) in
           received-refusal c meets

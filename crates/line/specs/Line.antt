@@ -145,7 +145,7 @@ toLast (t ∷ ts) = cond (isLost (t .fate) && allLost ts) [] (t ∷ toLast ts)
 unfoldable pub Demand3 : ℕ → ℕ → (ReceiveCall → Type 0) → Type 0
 Demand3 most row Box =
     (st : Sender) (trips : List Trip) (calls : List ReceiveCall) (column : Column)
-    → (formatOf (st .format) .overhead ≡ 0 → ⊥)
+    → (formatOf (st .format) .«overhead_bits» ≡ 0 → ⊥)
     → InARow st trips
     → Fair most st trips
     → longest 0 trips ≤ row

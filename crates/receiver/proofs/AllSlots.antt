@@ -51,7 +51,7 @@ pub record Entered (f : Format) (used : ℕ) (cell : List ℕ) (at : ℕ) (sampl
   pub marks-so-far : Filled marks marks₀ at (ownEntries (markIn f) (straightWith f used) cell) i
 
 -- subframes with overhead in order 0: the three runs while a loop fills them, and its laws
-module _ (f : Format) (four-a : f .ancillary ≡ 4) (four-o : f .overhead ≡ 4) (used : ℕ) (cell : List ℕ) (at : ℕ)
+module _ (f : Format) (four-a : f .«ancillary_bits» ≡ 4) (four-o : f .«overhead_bits» ≡ 4) (used : ℕ) (cell : List ℕ) (at : ℕ)
     (samples₀ ancillary₀ marks₀ : List ℕ) (room : Room at used samples₀ ancillary₀ marks₀)
   where
     abbrev set : Settled
@@ -117,13 +117,13 @@ module _ (f : Format) (four-a : f .ancillary ≡ 4) (four-o : f .overhead ≡ 4)
 
 -- settings whose subframes are so wide: their format, and the same entries by its numbers alone
 module _ {set : Settled} {width : ℕ} (limits : Limits set) (together : Together (set .format)) (turn : OneTurn set width) where
-  pub turn-format : {f : Format} → f .ancillary ≡ 4 → f .overhead ≡ 4 → f .width ≡ width → f .sample + 8 ≡ 8 * width → f .slots * width ≡ 48
+  pub turn-format : {f : Format} → f .«ancillary_bits» ≡ 4 → f .«overhead_bits» ≡ 4 → f .width ≡ width → f .«sample_bits» + 8 ≡ 8 * width → f .slots * width ≡ 48
       → f ≡ set .format
   turn-format {f} a o w n k =
       let sound = limits .sound in
-      let overhead : set .format .overhead ≡ 4 = four sound (turn .guarded) in
-      let ancillary : set .format .ancillary ≡ 4 = together (turn .guarded) in
-      let sample : f .sample ≡ set .format .sample = omega (arith, sound .bits, overhead, ancillary, turn .width-is) in
+      let overhead : set .format .«overhead_bits» ≡ 4 = four sound (turn .guarded) in
+      let ancillary : set .format .«ancillary_bits» ≡ 4 = together (turn .guarded) in
+      let sample : f .«sample_bits» ≡ set .format .«sample_bits» = omega (arith, sound .bits, overhead, ancillary, turn .width-is) in
       let from : 1 ≤ width = omega (arith, sound .width-from, turn .width-is) in
       let slots : f .slots ≡ set .format .slots
       = sym (mul-div-cancel (f .slots) from)
@@ -131,9 +131,9 @@ module _ {set : Settled} {width : ℕ} (limits : Limits set) (together : Togethe
       ∙ mul-div-cancel (set .format .slots) from in
       λ i.
       record {
-        sample = sample i;
-        ancillary = (a ∙ sym ancillary) i;
-        overhead = (o ∙ sym overhead) i;
+        «sample_bits» = sample i;
+        «ancillary_bits» = (a ∙ sym ancillary) i;
+        «overhead_bits» = (o ∙ sym overhead) i;
         width = (w ∙ sym (turn .width-is)) i;
         slots = slots i;
       }

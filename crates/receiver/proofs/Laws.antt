@@ -70,7 +70,7 @@ module _ {set : Settled} (octet channels order : ℕ) (settles : set ≡ setting
 -- a gap is at most fifteen
 pub gap-to : (f : Format) (started : Bool) (last number : ℕ) → gapNow f started last number ≤ 15
 unfolding gapNow differenceOf
-gap-to f started last number = either (not started || eqb (f .overhead) 0)
+gap-to f started last number = either (not started || eqb (f .«overhead_bits») 0)
   where
     either : (b : Bool) → cond b 1 ((number + (16 - last % 16)) % 16) ≤ 15
     either true = omega arith
@@ -191,10 +191,10 @@ passes st cell samples ancillary marks e =
 base-together : (octet : ℕ) → isBase octet ≡ true → Together (formatOf octet)
 unfolding every isBase isAmong eleven sampleBits lengthOf ancillaryBits overheadBits widthOf slotsOf
 base-together octet h some =
-    ap (λ (f : Format). f .ancillary) (base-format octet h)
+    ap (λ (f : Format). f .«ancillary_bits») (base-format octet h)
     ∙ eqb→eq _ _
     (third (isBase octet) (eqb (overheadBits octet) 0) (eqb (ancillaryBits octet) 4) h
-    (ne-eqb _ _ (λ e. some (ap (λ (f : Format). f .overhead) (base-format octet h) ∙ e)))
+    (ne-eqb _ _ (λ e. some (ap (λ (f : Format). f .«overhead_bits») (base-format octet h) ∙ e)))
     (every-at (λ k. not (isBase k) || (eqb (overheadBits k) 0 || eqb (ancillaryBits k) 4)) 256 tt octet (base-octet octet h)))
   where
     third : (a b c : Bool) → a ≡ true → b ≡ false → T (not a || (b || c)) → T c

@@ -97,12 +97,12 @@ written-again read run at used each room =
     (ap (λ (n : ℕ). drop (at + n) run) (sym (held-length read run at used)))
 
 -- formats without overhead: the parts of a subframe
-module _ (f : Format) (none : f .overhead ≡ 0) where
+module _ (f : Format) (none : f .«overhead_bits» ≡ 0) where
   mark-none : (x : ℕ) → markIn f x ≡ 0
   unfolding markIn
   mark-none x = rw (eq-eqb _ _ none)
 
-  module _ (bare : f .ancillary ≡ 0) where
+  module _ (bare : f .«ancillary_bits» ≡ 0) where
     sample-bare : (x : ℕ) → sampleIn f x ≡ x
     unfolding sampleIn
     sample-bare x = rw (none, bare) (omega arith)
@@ -111,7 +111,7 @@ module _ (f : Format) (none : f .overhead ≡ 0) where
     unfolding ancillaryIn
     ancillary-bare x = rw (none, bare) (omega arith)
 
-  module _ (bits : f .ancillary ≡ 4) where
+  module _ (bits : f .«ancillary_bits» ≡ 4) where
     sample-four : (x : ℕ) → sampleIn f x ≡ x / 16
     unfolding sampleIn
     sample-four x = rw (none, bits)
@@ -126,7 +126,7 @@ module _ (f : Format) (none : f .overhead ≡ 0) where
       marks-none : marks₁ ≡ written marks at (held (markIn f) samples at used)
       marks-none = marks-zero ∙ ap (written marks at) (sym (held-all (markIn f) samples at used mark-none))
 
-      pub splits-plain : f .ancillary ≡ 0 → {ancillary₁ : List ℕ} → ancillary₁ ≡ written ancillary at (replicate used 0)
+      pub splits-plain : f .«ancillary_bits» ≡ 0 → {ancillary₁ : List ℕ} → ancillary₁ ≡ written ancillary at (replicate used 0)
           → Splits f at used samples ancillary marks samples ancillary₁ marks₁
       splits-plain bare e =
           record {
@@ -135,7 +135,7 @@ module _ (f : Format) (none : f .overhead ≡ 0) where
             marks-are = marks-none;
           }
 
-      pub splits-bare : f .ancillary ≡ 4 → {samples₁ ancillary₁ : List ℕ}
+      pub splits-bare : f .«ancillary_bits» ≡ 4 → {samples₁ ancillary₁ : List ℕ}
           → samples₁ ≡ written samples at (held (λ x. x / 16) samples at used)
           → ancillary₁ ≡ written ancillary at (held (λ x. x % 16) samples at used)
           → Splits f at used samples ancillary marks samples₁ ancillary₁ marks₁

@@ -31,7 +31,7 @@ openedOf octet channels order =
 
 -- 4: "a state .. number above 15; .. a receiver not started, or without overhead, whose last number isn't 0"
 unfoldable pub lastRefused : Format → Bool → ℕ → Bool
-lastRefused f started last = ltb 15 last || (not (eqb last 0) && (not started || eqb (f .overhead) 0))
+lastRefused f started last = ltb 15 last || (not (eqb last 0) && (not started || eqb (f .«overhead_bits») 0))
 
 -- checks 1 to 4 of a state
 unfoldable pub stateRefusal : Receiver → ℕ
@@ -53,12 +53,12 @@ lengthsRefused cell samples ancillary marks =
 
 -- the cell's number, 16 where the eight bits are none; "Without overhead .. the reported and stored numbers stay 0"
 unfoldable pub numberNow : Format → List ℕ → ℕ
-numberNow f cell = cond (eqb (f .overhead) 0) 0 (numberIn (eightIn f cell))
+numberNow f cell = cond (eqb (f .«overhead_bits») 0) 0 (numberIn (eightIn f cell))
 
 -- d: "The first accepted cell starts it, with none missing. Afterwards d is the difference of numbers modulo 16"; "Without overhead
 -- d is always 1"
 unfoldable pub gapNow : Format → Bool → ℕ → ℕ → ℕ
-gapNow f started last number = cond (not started || eqb (f .overhead) 0) 1 (differenceOf number last)
+gapNow f started last number = cond (not started || eqb (f .«overhead_bits») 0) 1 (differenceOf number last)
 
 -- the gap that a cell leaves in this state
 abbrev pub gapOf : Receiver → List ℕ → ℕ
@@ -90,7 +90,7 @@ marksNow st cell = entriesNow (markIn (formatOf (st .format))) 2 st cell
 
 -- "second number (0 where there is none)"
 unfoldable pub secondNow : Format → List ℕ → ℕ
-secondNow f cell = cond (eqb (f .overhead) 0) 0 (secondIn f cell)
+secondNow f cell = cond (eqb (f .«overhead_bits») 0) 0 (secondIn f cell)
 
 unfoldable pub after : Receiver → List ℕ → Receiver
 after st cell =

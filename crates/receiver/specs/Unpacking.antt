@@ -56,12 +56,12 @@ Roomy set at samples ancillary marks = Room at (usedIn set) samples ancillary ma
 
 -- overhead alone is "not yet in the base"
 abbrev pub Together : Format → Type 0
-Together f = (f .overhead ≡ 0 → ⊥) → f .ancillary ≡ 4
+Together f = (f .«overhead_bits» ≡ 0 → ⊥) → f .«ancillary_bits» ≡ 4
 
 -- settings whose subframes, so many octets wide, have overhead and stand in order 0
 pub record OneTurn (set : Settled) (width : ℕ) : Type 0 where
   pub in-order : set .«by_channel» ≡ false
-  pub guarded : set .format .overhead ≡ 0 → ⊥
+  pub guarded : set .format .«overhead_bits» ≡ 0 → ⊥
   pub width-is : set .format .width ≡ width
 
 -- settings of so many entries in order 0; subframes of three octets, four and six, with overhead
@@ -69,13 +69,13 @@ abbrev pub straightWith : Format → ℕ → Settled
 straightWith f used = record { refusal = 0; format = f; channels = used; times = 1; «by_channel» = false }
 
 abbrev pub threes : Format
-threes = record { sample = 16; ancillary = 4; overhead = 4; width = 3; slots = 16 }
+threes = record { «sample_bits» = 16; «ancillary_bits» = 4; «overhead_bits» = 4; width = 3; slots = 16 }
 
 abbrev pub fours : Format
-fours = record { sample = 24; ancillary = 4; overhead = 4; width = 4; slots = 12 }
+fours = record { «sample_bits» = 24; «ancillary_bits» = 4; «overhead_bits» = 4; width = 4; slots = 12 }
 
 abbrev pub sixes : Format
-sixes = record { sample = 40; ancillary = 4; overhead = 4; width = 6; slots = 8 }
+sixes = record { «sample_bits» = 40; «ancillary_bits» = 4; «overhead_bits» = 4; width = 6; slots = 8 }
 
 -- the number of two octets
 abbrev pub twoAt : List ℕ → ℕ → ℕ

@@ -20,7 +20,7 @@ fn last_refused(format: Format, started: bool, last: u8) -> bool
     if !started {
         return true;
     }
-    format.overhead == 0
+    format.overhead_bits == 0
 }
 
 // Check 5.
@@ -43,7 +43,7 @@ pub(crate) fn gap_now(format: Format, started: bool, last: u8, number: u8) -> u8
     if !started {
         return 1;
     }
-    if format.overhead == 0 {
+    if format.overhead_bits == 0 {
         return 1;
     }
     numbers::difference(number, last)

@@ -150,7 +150,7 @@ pub(crate) fn number_now(set: Settled, cell: &[u8]) -> u8
         return 0;
     }
     let format = set.format;
-    if format.overhead == 0 {
+    if format.overhead_bits == 0 {
         return 0;
     }
     let found = numbers::number_of(eight_in(format, cell));
@@ -165,7 +165,7 @@ pub(crate) fn second_now(format: Format, cell: &[u8]) -> u8
     requires { ⌜ Sound format × (length (now cell) ≡ 48) ⌝ }
     ensures { λ r. ⌜ r ≡ secondNow format (now (cell .entry)) ⌝ }
 {
-    if format.overhead == 0 {
+    if format.overhead_bits == 0 {
         return 0;
     }
     if format.slots < 12 {
@@ -277,7 +277,7 @@ fn split(
     ancillary: &mut [u8],
     marks: &mut [u8],
 )
-    requires { ⌜ Sound format × (format .ancillary ≡ 4) × (format .overhead ≡ 4) × Room at used (now samples) (now ancillary) (now marks) ⌝ }
+    requires { ⌜ Sound format × (format .«ancillary_bits» ≡ 4) × (format .«overhead_bits» ≡ 4) × Room at used (now samples) (now ancillary) (now marks) ⌝ }
     ensures { λ r. ⌜ Splits format at used (now (samples .entry)) (now (ancillary .entry)) (now (marks .entry)) (now (samples .exit)) (now (ancillary .exit)) (now (marks .exit)) ⌝ }
 {
     let mut i = 0;
@@ -286,7 +286,7 @@ fn split(
         let sample = subframe / 256;
         samples[at + i] = sample;
         ancillary[at + i] = (subframe / 16 % 16) as u8;
-        let nine = (sample * 2) >> (format.sample - 8);
+        let nine = (sample * 2) >> (format.sample_bits - 8);
         marks[at + i] = ((tables::marks_of(nine) >> (subframe % 32)) % 2) as u8;
         i += 1;
     }
@@ -318,12 +318,12 @@ fn parts(
     requires { ⌜ Sound format × Together format × Room at used (now samples) (now ancillary) (now marks) ⌝ }
     ensures { λ r. ⌜ Splits format at used (now (samples .entry)) (now (ancillary .entry)) (now (marks .entry)) (now (samples .exit)) (now (ancillary .exit)) (now (marks .exit)) ⌝ }
 {
-    if format.overhead != 0 {
+    if format.overhead_bits != 0 {
         split(format, at, used, samples, ancillary, marks);
         return;
     }
     octets(marks, at, used, 0);
-    if format.ancillary == 0 {
+    if format.ancillary_bits == 0 {
         octets(ancillary, at, used, 0);
         return;
     }
@@ -338,7 +338,7 @@ fn one_turn(set: Settled) -> usize
     if set.by_channel {
         return 0;
     }
-    if set.format.overhead == 0 {
+    if set.format.overhead_bits == 0 {
         return 0;
     }
     set.format.width

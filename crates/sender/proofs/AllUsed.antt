@@ -33,9 +33,9 @@ module _ {st : Sender} (samples : List ℕ) (u : Usual st (length samples)) {set
     named : Named (set .format) 24 4 4 4
     named =
         record {
-          sample-is = ap (λ (f : Format). f .sample) (sym format-is);
-          ancillary-is = ap (λ (f : Format). f .ancillary) (sym format-is);
-          overhead-is = ap (λ (f : Format). f .overhead) (sym format-is);
+          sample-is = ap (λ (f : Format). f .«sample_bits») (sym format-is);
+          ancillary-is = ap (λ (f : Format). f .«ancillary_bits») (sym format-is);
+          overhead-is = ap (λ (f : Format). f .«overhead_bits») (sym format-is);
           width-is = ap (λ (f : Format). f .width) (sym format-is);
         }
 
@@ -55,5 +55,5 @@ module _ {st : Sender} (samples : List ℕ) (u : Usual st (length samples)) {set
           (placed-in-order set sequence samples ancillary cell₀ in-order
           (written-as (p .limits .sound) named inOrder sequence samples ancillary cell₀ filled))
           (subst
-          (λ (k : ℕ). Continues (set .format .width) (set .format .overhead) sequence cell (length samples) cell k)
-          all-used (continues-begun (set .format .width) (set .format .overhead) sequence cell (length samples)))
+          (λ (k : ℕ). Continues (set .format .width) (set .format .«overhead_bits») sequence cell (length samples) cell k)
+          all-used (continues-begun (set .format .width) (set .format .«overhead_bits») sequence cell (length samples)))

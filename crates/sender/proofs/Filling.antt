@@ -62,17 +62,17 @@ low-octet n sample {four} hf guard-is low-is =
     ∙ ap (λ (g : ℕ). four * 16 + g) (with-v {nine = nineOf n sample} (nine-lt n sample) (mod-lt four (omega arith)))
 
 module _ {f : Format} (s : Sound f) {sample ancillary bit : ℕ}
-    (hs : sample < 2 ^ f .sample) (ha : ancillary < 2 ^ f .ancillary) (hb : bit < 2)
+    (hs : sample < 2 ^ f .«sample_bits») (ha : ancillary < 2 ^ f .«ancillary_bits») (hb : bit < 2)
   where
     -- the sample in its place, as the code moves it up
     abbrev above : ℕ
-    above = (sample * 2 ^ (f .ancillary + f .overhead)) % 2 ^ 64
+    above = (sample * 2 ^ (f .«ancillary_bits» + f .«overhead_bits»)) % 2 ^ 64
 
-    above-is : above ≡ sample * 2 ^ f .ancillary * 2 ^ f .overhead
+    above-is : above ≡ sample * 2 ^ f .«ancillary_bits» * 2 ^ f .«overhead_bits»
     above-is =
-        shl-exact (f .sample) (f .ancillary + f .overhead) 64 hs (omega (arith, s .sample-to, s .ancillary-to, s .overhead-to))
-        ∙ ap (λ (n : ℕ). sample * n) (pow-add 2 (f .ancillary) (f .overhead))
-        ∙ sym (mul-assoc sample (2 ^ f .ancillary) (2 ^ f .overhead))
+        shl-exact (f .«sample_bits») (f .«ancillary_bits» + f .«overhead_bits») 64 hs (omega (arith, s .sample-to, s .ancillary-to, s .overhead-to))
+        ∙ ap (λ (n : ℕ). sample * n) (pow-add 2 (f .«ancillary_bits») (f .«overhead_bits»))
+        ∙ sym (mul-assoc sample (2 ^ f .«ancillary_bits») (2 ^ f .«overhead_bits»))
 
     pub subframe-fits : {number : ℕ} → number ≡ subframeOf f sample ancillary bit → number < 2 ^ 64
     subframe-fits e =
@@ -81,45 +81,45 @@ module _ {f : Format} (s : Sound f) {sample ancillary bit : ℕ}
 
     pub few-ancillary : ancillary < 16
     few-ancillary =
-        let far : 2 ^ f .ancillary ≤ 2 ^ 4 = pow-mono {i = f .ancillary} {j = 4} (s .ancillary-to) in
+        let far : 2 ^ f .«ancillary_bits» ≤ 2 ^ 4 = pow-mono {i = f .«ancillary_bits»} {j = 4} (s .ancillary-to) in
         omega arith
 
-    pub subframe-plain : f .overhead ≡ 0 → above + ancillary ≡ subframeOf f sample ancillary bit
+    pub subframe-plain : f .«overhead_bits» ≡ 0 → above + ancillary ≡ subframeOf f sample ancillary bit
     unfolding subframeOf overheadOf
     subframe-plain none = ap (λ (n : ℕ). n + ancillary) above-is ∙ rw (none, mul-one) (omega arith)
 
     -- the nine top bits as the code shifts them down, and the ten with V 0
     abbrev ten : ℕ
-    ten = sample * 2 / 2 ^ (f .sample - 8) * 2
+    ten = sample * 2 / 2 ^ (f .«sample_bits» - 8) * 2
 
     pub twice-fits : sample * 2 < 2 ^ 64
     twice-fits =
-        let far : 2 ^ f .sample ≤ 2 ^ 40 = pow-mono {i = f .sample} {j = 40} (s .sample-to) in
+        let far : 2 ^ f .«sample_bits» ≤ 2 ^ 40 = pow-mono {i = f .«sample_bits»} {j = 40} (s .sample-to) in
         omega arith
 
-    ten-is : ten ≡ nineOf (f .sample) sample * 2
-    ten-is = ap (λ (n : ℕ). n * 2) (nine-top (f .sample) (s .sample-from) hs)
+    ten-is : ten ≡ nineOf (f .«sample_bits») sample * 2
+    ten-is = ap (λ (n : ℕ). n * 2) (nine-top (f .«sample_bits») (s .sample-from) hs)
 
     pub ten-lt : ten < 1024
-    ten-lt = rw ten-is (omega (arith, nine-lt (f .sample) sample))
+    ten-lt = rw ten-is (omega (arith, nine-lt (f .«sample_bits») sample))
 
     pub low-looked : {table : List ℕ} {guard low : ℕ} → table ≡ sevenGuards → guard ≡ getD table (bitXor ten (ten / 128) % 128) 0
         → low ≡ ancillary % 16 * 16 + ancillary % 16 % 2 * 3
-        → bitXor guard low ≡ ancillary * 16 + guardOf (f .sample) sample ancillary
+        → bitXor guard low ≡ ancillary * 16 + guardOf (f .«sample_bits») sample ancillary
     low-looked same e low-is =
-        low-octet (f .sample) sample few-ancillary
+        low-octet (f .«sample_bits») sample few-ancillary
         (e
         ∙ ap (λ (l : List ℕ). getD l (bitXor ten (ten / 128) % 128) 0) same
         ∙ seven-guard ten-lt
         ∙ ap tenGuard ten-is)
         low-is
 
-    pub subframe-guarded : (f .overhead ≡ 0 → ⊥) → {low : ℕ} → low ≡ ancillary * 16 + guardOf (f .sample) sample ancillary
+    pub subframe-guarded : (f .«overhead_bits» ≡ 0 → ⊥) → {low : ℕ} → low ≡ ancillary * 16 + guardOf (f .«sample_bits») sample ancillary
         → above + (low + bit * 8) ≡ subframeOf f sample ancillary bit
     unfolding subframeOf overheadOf
     subframe-guarded some {low} e =
         ap (λ (n : ℕ). n + (low + bit * 8)) above-is
-        ∙ rw (ne-eqb (f .overhead) 0 some, four s some) (omega (arith, e))
+        ∙ rw (ne-eqb (f .«overhead_bits») 0 some, four s some) (omega (arith, e))
 
 -- where ancillary and overhead have four bits each: the protection bits that a table has for the bits on top, and the subframe by them
 guard-on-top : (n top : ℕ) {sample guard : ℕ} → 8 ≤ n → sample < 2 ^ n → top % 512 ≡ sample * 2 / 2 ^ (n - 8)

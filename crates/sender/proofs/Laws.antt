@@ -161,20 +161,20 @@ united-done {run} {all} {i} so-far end =
     and-true false = refl
 
 -- check 6 by those bits
-module _ (f : Format) (samples ancillary : List ℕ) {all : ℕ} (united : Unites samples all) (to : f .sample ≤ 40) where
-  shifted : (1 * 2 ^ f .sample) % 2 ^ 64 ≡ 2 ^ f .sample
+module _ (f : Format) (samples ancillary : List ℕ) {all : ℕ} (united : Unites samples all) (to : f .«sample_bits» ≤ 40) where
+  shifted : (1 * 2 ^ f .«sample_bits») % 2 ^ 64 ≡ 2 ^ f .«sample_bits»
   shifted = one-shifted (omega arith)
 
-  pub samples-refused : (1 * 2 ^ f .sample) % 2 ^ 64 ≤ all → true ≡ valuesRefused f samples ancillary
+  pub samples-refused : (1 * 2 ^ f .«sample_bits») % 2 ^ 64 ≤ all → true ≡ valuesRefused f samples ancillary
   unfolding valuesRefused
-  samples-refused far = rw (united .below (f .sample), le-ltb all (2 ^ f .sample) (rw shifted at far))
+  samples-refused far = rw (united .below (f .«sample_bits»), le-ltb all (2 ^ f .«sample_bits») (rw shifted at far))
 
-  pub ancillary-refused : {few four : ℕ} → all < (1 * 2 ^ f .sample) % 2 ^ 64 → f .ancillary ≤ 4 → Unites ancillary few → four ≡ few
-      → leb ((1 * 2 ^ f .ancillary) % 2 ^ 64) four ≡ valuesRefused f samples ancillary
+  pub ancillary-refused : {few four : ℕ} → all < (1 * 2 ^ f .«sample_bits») % 2 ^ 64 → f .«ancillary_bits» ≤ 4 → Unites ancillary few → four ≡ few
+      → leb ((1 * 2 ^ f .«ancillary_bits») % 2 ^ 64) four ≡ valuesRefused f samples ancillary
   unfolding valuesRefused
   ancillary-refused {few} {four} near to-4 united-4 e =
-      rw (united .below (f .sample), lt-ltb all (2 ^ f .sample) (rw shifted at near), united-4 .below (f .ancillary))
-      (ap₂ leb (one-shifted (let h : f .ancillary < 64 = omega arith in h)) e ∙ not-below (2 ^ f .ancillary) few)
+      rw (united .below (f .«sample_bits»), lt-ltb all (2 ^ f .«sample_bits») (rw shifted at near), united-4 .below (f .«ancillary_bits»))
+      (ap₂ leb (one-shifted (let h : f .«ancillary_bits» < 64 = omega arith in h)) e ∙ not-below (2 ^ f .«ancillary_bits») few)
     where
       not-below : (bound n : ℕ) → leb bound n ≡ not (ltb n bound)
       not-below bound n =
@@ -291,13 +291,13 @@ module _ (st : Sender) (indication : Bool) (samples ancillary : List ℕ) (room 
     unfolding valuesRefused
     packable =
         let bounds = settled-limits (st .format) (st .channels) (st .order) refl settings-none in
-        let values = neither (not (allBelow (2 ^ f .sample) samples)) _ (sixth .0) in
+        let values = neither (not (allBelow (2 ^ f .«sample_bits») samples)) _ (sixth .0) in
         record {
           limits = bounds;
           samples-length = lengths .1;
           ancillary-length = lengths .2;
-          small = below-each (2 ^ f .sample) samples (pow-pos (f .sample)) (not-false _ (values .0));
-          few = below-each (2 ^ f .ancillary) ancillary (pow-pos (f .ancillary)) (not-false _ (values .1));
+          small = below-each (2 ^ f .«sample_bits») samples (pow-pos (f .«sample_bits»)) (not-false _ (values .0));
+          few = below-each (2 ^ f .«ancillary_bits») ancillary (pow-pos (f .«ancillary_bits»)) (not-false _ (values .1));
         }
 
 second-lt : (st : Sender) (indication : Bool) → st .second ≤ 15 → secondNow st indication < 16

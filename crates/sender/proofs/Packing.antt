@@ -37,9 +37,9 @@ module _ {f : Format} (s : Sound f) where
         = ap₂ (λ (n d : ℕ). n / d) (sym (s .cell)) octets ∙ mul-div-cancel (f .slots) (s .width-from) in
         λ i.
         record {
-          sample = named .sample-is i;
-          ancillary = named .ancillary-is i;
-          overhead = named .overhead-is i;
+          «sample_bits» = named .sample-is i;
+          «ancillary_bits» = named .ancillary-is i;
+          «overhead_bits» = named .overhead-is i;
           width = octets i;
           slots = slots i;
         }
@@ -109,13 +109,13 @@ idle-guard : (bits : ℕ) → guardOf bits 0 0 ≡ 7
 unfolding guardOf
 idle-guard bits = ap (λ (n : ℕ). tenGuard (n * 2 + 0 % 2)) (idle-nine bits) ∙ idle-ten
 
-idle-is : (f : Format) (bit : ℕ) → subframeOf f 0 0 bit ≡ idleNumber (f .overhead) bit
+idle-is : (f : Format) (bit : ℕ) → subframeOf f 0 0 bit ≡ idleNumber (f .«overhead_bits») bit
 unfolding subframeOf overheadOf idleNumber
 idle-is f bit =
-    let none : (0 * 2 ^ f .ancillary + 0) * 2 ^ f .overhead ≡ 0
-    = ap (λ (n : ℕ). (n + 0) * 2 ^ f .overhead) (zero-mul (2 ^ f .ancillary)) ∙ zero-mul (2 ^ f .overhead) in
-    ap₂ (λ (high guard : ℕ). high + cond (eqb (f .overhead) 0) 0 (bit * 8 + guard)) none (idle-guard (f .sample))
-    ∙ zero-add (idleNumber (f .overhead) bit)
+    let none : (0 * 2 ^ f .«ancillary_bits» + 0) * 2 ^ f .«overhead_bits» ≡ 0
+    = ap (λ (n : ℕ). (n + 0) * 2 ^ f .«overhead_bits») (zero-mul (2 ^ f .«ancillary_bits»)) ∙ zero-mul (2 ^ f .«overhead_bits») in
+    ap₂ (λ (high guard : ℕ). high + cond (eqb (f .«overhead_bits») 0) 0 (bit * 8 + guard)) none (idle-guard (f .«sample_bits»))
+    ∙ zero-add (idleNumber (f .«overhead_bits») bit)
 
 -- the used slots and then the unused ones make the cell
 module _ {set : Settled} (word second sequence : ℕ) {samples ancillary : List ℕ} (cell₀ : List ℕ)
@@ -143,15 +143,15 @@ module _ {set : Settled} (word second sequence : ℕ) {samples ancillary : List 
         (times-are p) (bit-is k)
         ∙ rw (lt-ltb k (set .channels * set .times) used)
 
-    idle-slot : (k : ℕ) → length samples ≤ k → octets k ≡ octetsOf (f .width) (idleNumber (f .overhead) (sequence / 2 ^ k % 2))
+    idle-slot : (k : ℕ) → length samples ≤ k → octets k ≡ octetsOf (f .width) (idleNumber (f .«overhead_bits») (sequence / 2 ^ k % 2))
     unfolding slotOctets carried
     idle-slot k past =
         let after : set .channels * set .times ≤ k = omega (arith, p .samples-length) in
         rw (le-ltb k (set .channels * set .times) after)
-        (ap (octetsOf (f .width)) (idle-is f (wordBit word second k) ∙ ap (idleNumber (f .overhead)) (sym (bit-is k))))
+        (ap (octetsOf (f .width)) (idle-is f (wordBit word second k) ∙ ap (idleNumber (f .«overhead_bits»)) (sym (bit-is k))))
 
     pub packs : {cell₁ cell : List ℕ} → cell₁ ≡ written f (placed set samples) sequence samples ancillary cell₀
-        → Continues (f .width) (f .overhead) sequence cell₁ (length samples) cell (f .slots)
+        → Continues (f .width) (f .«overhead_bits») sequence cell₁ (length samples) cell (f .slots)
         → cell ≡ packed set word second samples ancillary
     unfolding cellOf slotOctets
     packs used-is rest =

@@ -21,8 +21,8 @@ pub record Packable (set : Settled) (samples ancillary : List ℕ) : Type 0 wher
   pub limits : Limits set
   pub samples-length : length samples ≡ set .channels * set .times
   pub ancillary-length : length ancillary ≡ set .channels * set .times
-  pub small : (i : ℕ) → getD samples i 0 < 2 ^ set .format .sample
-  pub few : (i : ℕ) → getD ancillary i 0 < 2 ^ set .format .ancillary
+  pub small : (i : ℕ) → getD samples i 0 < 2 ^ set .format .«sample_bits»
+  pub few : (i : ℕ) → getD ancillary i 0 < 2 ^ set .format .«ancillary_bits»
 
 -- the cell of these settings
 abbrev pub packed : Settled → ℕ → ℕ → List ℕ → List ℕ → List ℕ
@@ -33,18 +33,18 @@ packed set word second samples ancillary =
 abbrev pub shape : ℕ → ℕ → ℕ → Format
 shape sample ancillary overhead =
     record {
-      sample = sample;
-      ancillary = ancillary;
-      overhead = overhead;
+      «sample_bits» = sample;
+      «ancillary_bits» = ancillary;
+      «overhead_bits» = overhead;
       width = (sample + ancillary + overhead) / 8;
       slots = 48 / ((sample + ancillary + overhead) / 8);
     }
 
 -- a format told by the numbers that a call names
 pub record Named (f : Format) (sample ancillary overhead width : ℕ) : Type 0 where
-  pub sample-is : sample ≡ f .sample
-  pub ancillary-is : ancillary ≡ f .ancillary
-  pub overhead-is : overhead ≡ f .overhead
+  pub sample-is : sample ≡ f .«sample_bits»
+  pub ancillary-is : ancillary ≡ f .«ancillary_bits»
+  pub overhead-is : overhead ≡ f .«overhead_bits»
   pub width-is : width ≡ f .width
 
 -- what filling a cell's used slots asks
@@ -54,8 +54,8 @@ pub record Fillable (f : Format) (width : ℕ) (table samples ancillary cell : L
   pub guards : table ≡ sevenGuards
   pub as-many : length ancillary ≡ length samples
   pub fit : length samples ≤ f .slots
-  pub small : (i : ℕ) → getD samples i 0 < 2 ^ f .sample
-  pub few : (i : ℕ) → getD ancillary i 0 < 2 ^ f .ancillary
+  pub small : (i : ℕ) → getD samples i 0 < 2 ^ f .«sample_bits»
+  pub few : (i : ℕ) → getD ancillary i 0 < 2 ^ f .«ancillary_bits»
   pub whole : length cell ≡ 48
 
 -- and by channel: a run of C×T entries

@@ -17,7 +17,7 @@ use Rattle.sender.specs.declared.Sent.{Sent}
 -- 4: "a state or start number above 15; second number wanted without overhead or with S = 8, or non-zero and not wanted"
 unfoldable pub numbersRefused : Format → ℕ → Bool → ℕ → Bool
 numbersRefused f number wanted second =
-    ltb 15 number || (ltb 15 second || cond wanted (eqb (f .overhead) 0 || eqb (f .slots) 8) (not (eqb second 0)))
+    ltb 15 number || (ltb 15 second || cond wanted (eqb (f .«overhead_bits») 0 || eqb (f .slots) 8) (not (eqb second 0)))
 
 -- checks 1 to 4 of an opening or a state
 unfoldable pub stateRefusal : ℕ → ℕ → ℕ → ℕ → Bool → ℕ → ℕ
@@ -66,7 +66,7 @@ lengthsRefused used samples ancillary room =
 
 -- 6: "a sample too large for its bits; ancillary above 15, or non-zero where there is none"
 unfoldable pub valuesRefused : Format → List ℕ → List ℕ → Bool
-valuesRefused f samples ancillary = not (allBelow (2 ^ f .sample) samples) || not (allBelow (2 ^ f .ancillary) ancillary)
+valuesRefused f samples ancillary = not (allBelow (2 ^ f .«sample_bits») samples) || not (allBelow (2 ^ f .«ancillary_bits») ancillary)
 
 -- 7: "sending indication 1 where the number isn't a multiple of 8"
 unfoldable pub indicationRefused : ℕ → Bool → Bool

@@ -28,7 +28,7 @@ pub(crate) fn numbers(format: Format, number: u32, wanted: bool, second: u32) ->
         return true;
     }
     if wanted {
-        if format.overhead == 0 {
+        if format.overhead_bits == 0 {
             return true;
         }
         return format.slots == 8;
@@ -105,14 +105,14 @@ fn lengths_refused(used: usize, samples: &[u64], ancillary: &[u8], room: usize) 
 
 // Check 6.
 fn values_refused(format: Format, samples: &[u64], ancillary: &[u8]) -> bool
-    requires { ⌜ (format .sample ≤ 40) × (format .ancillary ≤ 4) × (length (now ancillary) ≡ length (now samples)) ⌝ }
+    requires { ⌜ (format .«sample_bits» ≤ 40) × (format .«ancillary_bits» ≤ 4) × (length (now ancillary) ≡ length (now samples)) ⌝ }
     ensures { λ r. ⌜ r ≡ valuesRefused format (now (samples .entry)) (now (ancillary .entry)) ⌝ }
 {
     let bits = united(samples, ancillary);
-    if 1 << format.sample <= bits.samples {
+    if 1 << format.sample_bits <= bits.samples {
         return true;
     }
-    1 << format.ancillary <= wide(bits.ancillary)
+    1 << format.ancillary_bits <= wide(bits.ancillary)
 }
 
 // Check 7.

@@ -133,12 +133,12 @@ fn used_as(
 
 // The used slots without overhead, a loop for each width and order.
 fn pack_plain(set: Settled, sequence: u64, samples: &[u64], ancillary: &[u8], cell: &mut [u8])
-    requires { ⌜ Packable set (now samples) (now ancillary) × (set .format .overhead ≡ 0) × (L.length (now cell) ≡ 48) ⌝ }
+    requires { ⌜ Packable set (now samples) (now ancillary) × (set .format .«overhead_bits» ≡ 0) × (L.length (now cell) ≡ 48) ⌝ }
     ensures { λ r. ⌜ now (cell .exit) ≡ written (set .format) (placed set (now (samples .entry))) sequence (now (samples .entry)) (now (ancillary .entry)) (now (cell .entry)) ⌝ }
 {
     let width = set.format.width;
-    let length = set.format.sample;
-    let four = set.format.ancillary;
+    let length = set.format.sample_bits;
+    let four = set.format.ancillary_bits;
     let table = guards::sevens();
     match width {
         1 => used_as(set, &table, 8, 0, 0, 1, sequence, samples, ancillary, cell),
@@ -210,13 +210,13 @@ fn six_as(set: Settled, sequence: u64, samples: &[u64], ancillary: &[u8], cell: 
 
 // The used slots with overhead in order 0, a loop for each sample length. (`used_as` is too large to be made a loop of here.)
 fn guarded_in_order(set: Settled, sequence: u64, samples: &[u64], ancillary: &[u8], cell: &mut [u8])
-    requires { ⌜ Packable set (now samples) (now ancillary) × (set .format .overhead ≡ 0 → ⊥) × (L.length (now cell) ≡ 48) ⌝ }
+    requires { ⌜ Packable set (now samples) (now ancillary) × (set .format .«overhead_bits» ≡ 0 → ⊥) × (L.length (now cell) ≡ 48) ⌝ }
     ensures { λ r. ⌜ now (cell .exit) ≡ written (set .format) inOrder sequence (now (samples .entry)) (now (ancillary .entry)) (now (cell .entry)) ⌝ }
 {
     let width = set.format.width;
-    let length = set.format.sample;
-    let four = set.format.ancillary;
-    let overhead = set.format.overhead;
+    let length = set.format.sample_bits;
+    let four = set.format.ancillary_bits;
+    let overhead = set.format.overhead_bits;
     let table = guards::sevens();
     match length {
         8 => in_order_as(set, &table, 8, 4, 4, 2, sequence, samples, ancillary, cell),
@@ -246,13 +246,13 @@ fn guarded_by_channel(
     ancillary: &[u8],
     cell: &mut [u8],
 )
-    requires { ⌜ Packable set (now samples) (now ancillary) × (set .format .overhead ≡ 0 → ⊥) × (L.length (now cell) ≡ 48) ⌝ }
+    requires { ⌜ Packable set (now samples) (now ancillary) × (set .format .«overhead_bits» ≡ 0 → ⊥) × (L.length (now cell) ≡ 48) ⌝ }
     ensures { λ r. ⌜ now (cell .exit) ≡ written (set .format) (byChannel (set .channels) (now (samples .entry))) sequence (now (samples .entry)) (now (ancillary .entry)) (now (cell .entry)) ⌝ }
 {
     let width = set.format.width;
-    let length = set.format.sample;
-    let four = set.format.ancillary;
-    let overhead = set.format.overhead;
+    let length = set.format.sample_bits;
+    let four = set.format.ancillary_bits;
+    let overhead = set.format.overhead_bits;
     let table = guards::sevens();
     match length {
         8 => by_channel_as(set, &table, 8, 4, 4, 2, sequence, samples, ancillary, cell),
@@ -279,7 +279,7 @@ fn pack_used(set: Settled, sequence: u64, samples: &[u64], ancillary: &[u8], cel
     requires { ⌜ Packable set (now samples) (now ancillary) × (L.length (now cell) ≡ 48) ⌝ }
     ensures { λ r. ⌜ now (cell .exit) ≡ written (set .format) (placed set (now (samples .entry))) sequence (now (samples .entry)) (now (ancillary .entry)) (now (cell .entry)) ⌝ }
 {
-    let overhead = set.format.overhead;
+    let overhead = set.format.overhead_bits;
     if overhead == 0 {
         pack_plain(set, sequence, samples, ancillary, cell);
         return;
@@ -328,11 +328,11 @@ fn put_idle(cell: &mut [u8], at: usize, width: usize, number: u64)
 // The unused slots.
 fn fill_idle(set: Settled, used: usize, sequence: u64, cell: &mut [u8])
     requires { ⌜ Limits set × (used ≤ set .format .slots) × (L.length (now cell) ≡ 48) ⌝ }
-    ensures { λ r. ⌜ Continues (set .format .width) (set .format .overhead) sequence (now (cell .entry)) used (now (cell .exit)) (set .format .slots) ⌝ }
+    ensures { λ r. ⌜ Continues (set .format .width) (set .format .«overhead_bits») sequence (now (cell .entry)) used (now (cell .exit)) (set .format .slots) ⌝ }
 {
     let width = set.format.width;
     let slots = set.format.slots;
-    let overhead = set.format.overhead;
+    let overhead = set.format.overhead_bits;
     let mut slot = used;
     while slot < slots {
         let bit = (sequence >> slot) % 2;

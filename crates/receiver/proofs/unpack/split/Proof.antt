@@ -40,7 +40,7 @@ loop-again c =
     (held (sampleIn (s .args .format)) (now (s .args .samples)) (s .args .at) (s .args .used))
     (held-length (sampleIn (s .args .format)) (now (s .args .samples)) (s .args .at) (s .args .used)) (s .pre .3 .samples-room)
     (inv .0) in
-    (fill-on (now (s .args .samples)) (s .args .at) (held (sampleIn (s .args .format)) (now (s .args .samples)) (s .args .at) (s .args .used)) (held-length (sampleIn (s .args .format)) (now (s .args .samples)) (s .args .at) (s .args .used)) (s .pre .3 .samples-room) (inv .0) less (sample-over (s .args .format) (s .pre .1) (s .pre .2) word ∙ ap (sampleIn (s .args .format)) was ∙ held-at (sampleIn (s .args .format)) (now (s .args .samples)) (s .args .at) (s .args .used) less), fill-on (now (s .args .ancillary)) (s .args .at) (held (ancillaryIn (s .args .format)) (now (s .args .samples)) (s .args .at) (s .args .used)) (held-length (ancillaryIn (s .args .format)) (now (s .args .samples)) (s .args .at) (s .args .used)) (s .pre .3 .ancillary-room) (inv .1) less (ancillary-over (s .args .format) (s .pre .1) (s .pre .2) word ∙ ap (ancillaryIn (s .args .format)) was ∙ held-at (ancillaryIn (s .args .format)) (now (s .args .samples)) (s .args .at) (s .args .used) less), fill-on (now (s .args .marks)) (s .args .at) (held (markIn (s .args .format)) (now (s .args .samples)) (s .args .at) (s .args .used)) (held-length (markIn (s .args .format)) (now (s .args .samples)) (s .args .at) (s .args .used)) (s .pre .3 .marks-room) (inv .2) less (mark-on-top (s .args .format) (s .pre .1) (s .pre .2) word (s .args .format .sample) _ refl (s .pre .0 .sample-from) refl (c .marks-of .result) (c .marks-of .ensures .0) ∙ ap (markIn (s .args .format)) was ∙ held-at (markIn (s .args .format)) (now (s .args .samples)) (s .args .at) (s .args .used) less))
+    (fill-on (now (s .args .samples)) (s .args .at) (held (sampleIn (s .args .format)) (now (s .args .samples)) (s .args .at) (s .args .used)) (held-length (sampleIn (s .args .format)) (now (s .args .samples)) (s .args .at) (s .args .used)) (s .pre .3 .samples-room) (inv .0) less (sample-over (s .args .format) (s .pre .1) (s .pre .2) word ∙ ap (sampleIn (s .args .format)) was ∙ held-at (sampleIn (s .args .format)) (now (s .args .samples)) (s .args .at) (s .args .used) less), fill-on (now (s .args .ancillary)) (s .args .at) (held (ancillaryIn (s .args .format)) (now (s .args .samples)) (s .args .at) (s .args .used)) (held-length (ancillaryIn (s .args .format)) (now (s .args .samples)) (s .args .at) (s .args .used)) (s .pre .3 .ancillary-room) (inv .1) less (ancillary-over (s .args .format) (s .pre .1) (s .pre .2) word ∙ ap (ancillaryIn (s .args .format)) was ∙ held-at (ancillaryIn (s .args .format)) (now (s .args .samples)) (s .args .at) (s .args .used) less), fill-on (now (s .args .marks)) (s .args .at) (held (markIn (s .args .format)) (now (s .args .samples)) (s .args .at) (s .args .used)) (held-length (markIn (s .args .format)) (now (s .args .samples)) (s .args .at) (s .args .used)) (s .pre .3 .marks-room) (inv .2) less (mark-on-top (s .args .format) (s .pre .1) (s .pre .2) word (s .args .format .«sample_bits») _ refl (s .pre .0 .sample-from) refl (c .marks-of .result) (c .marks-of .ensures .0) ∙ ap (markIn (s .args .format)) was ∙ held-at (markIn (s .args .format)) (now (s .args .samples)) (s .args .at) (s .args .used) less))
 
 returns : tie.Need-returns Inv-loop μ-loop
 returns c =

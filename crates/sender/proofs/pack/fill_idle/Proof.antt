@@ -21,7 +21,7 @@ abbrev μ-loop : tie.MeasureT-loop
 loop-holds : tie.Need-loop-holds Inv-loop μ-loop
 loop-holds c =
     let a = c .before .args in
-    (omega arith, c .before .pre .1, continues-begun (a .set .format .width) (a .set .format .overhead) (a .sequence) (now (a .cell)) (a .used))
+    (omega arith, c .before .pre .1, continues-begun (a .set .format .width) (a .set .format .«overhead_bits») (a .sequence) (now (a .cell)) (a .used))
 
 mul-put-idle : tie.Need-mul-put-idle Inv-loop μ-loop
 mul-put-idle c =
@@ -35,13 +35,13 @@ put-idle-requires c κs =
 loop-again : tie.Need-loop-again Inv-loop μ-loop
 loop-again c =
     let a = c .before .before .before .before .before .before .before .before .args in
-    (omega (arith, c .before .before .before .before .before .before .loop .inv .0), omega (arith, c .before .before .before .before .before .loop-test .taken), continues-on (a .set .format .width) (a .set .format .overhead) (a .sequence) (now (a .cell)) (a .used) (c .before .before .before .before .before .before .loop .inv .2) (c .before .before .before .before .before .before .loop .inv .0) (c .before .before .before .before .idle-subframe .ensures) (c .before .before .put-idle .ensures) (c .before .before .put-idle .kept .0))
+    (omega (arith, c .before .before .before .before .before .before .loop .inv .0), omega (arith, c .before .before .before .before .before .loop-test .taken), continues-on (a .set .format .width) (a .set .format .«overhead_bits») (a .sequence) (now (a .cell)) (a .used) (c .before .before .before .before .before .before .loop .inv .2) (c .before .before .before .before .before .before .loop .inv .0) (c .before .before .before .before .idle-subframe .ensures) (c .before .before .put-idle .ensures) (c .before .before .put-idle .kept .0))
 
 returns : tie.Need-returns Inv-loop μ-loop
 returns c =
     let a = c .before .before .before .args in
     subst
-    (Continues (a .set .format .width) (a .set .format .overhead) (a .sequence) (now (a .cell)) (a .used) (c .before .loop .cell))
+    (Continues (a .set .format .width) (a .set .format .«overhead_bits») (a .sequence) (now (a .cell)) (a .used) (c .before .loop .cell))
     (let end : c .before .loop .slot ≡ a .set .format .slots = omega (arith, c .before .loop .inv .1, c .loop-test .left) in end)
     (c .before .loop .inv .2)
 
