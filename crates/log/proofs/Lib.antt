@@ -3,6 +3,7 @@ pub mod Headers
 pub mod Keeping
 pub mod Laws
 pub mod One
+pub mod Refused
 pub mod Places
 pub mod Walks
 pub mod Wrong
