@@ -1,6 +1,6 @@
 -- What is refused changes nothing and tells nothing else: each call of the log, read off its definition.
 -- Assumes nothing.
-use mathlib.Core.Bool.{false}
+use mathlib.Core.Bool.{false, _||_}
 use mathlib.Core.List.{List, []}
 use mathlib.Core.Path.{_≡_, refl, sym, _∙_, ap}
 use Prim.Native.Nat.{ℕ}
@@ -8,19 +8,19 @@ use borrow.Author.Tests.{ne-eqb, eqb-true}
 use lib.Dec.{eqb}
 use Rattle.runs.proofs.Laws.{split}
 use Rattle.log.specs.declared.keep.Kept.{Kept}
-use Rattle.log.specs.Numbers.{numberAt}
+use Rattle.log.specs.Numbers.{isCut, isLong, isPadded, numberAt}
 use Rattle.log.specs.Records.{headerRefusal, headerOfNumbers, headerOf, secondNumber, thirdNumber, recordAt, placeAfter, cellAt}
 use Rattle.log.specs.Written.{Keeps}
-use Rattle.log.proofs.Laws.{number-cases}
 use Rattle.log.proofs.Places.{record-cases}
 
 module _ (log : List ℕ) (place : ℕ) where
   -- `read_number`
   pub refused-number : (numberAt log place .refusal ≡ 0 → ⊥)
       → (numberAt log place .refusal ≡ 11) × (numberAt log place .value ≡ 0) × (numberAt log place .next ≡ 0)
-  refused-number =
-      number-cases 2 log place (λ n. (n .refusal ≡ 0 → ⊥) → (n .refusal ≡ 11) × (n .value ≡ 0) × (n .next ≡ 0))
-      (λ some. (refl, refl, refl)) (λ h s some. absurd (some refl)) (λ h s z some. absurd (some refl))
+  unfolding numberAt
+  refused-number some =
+      split (isCut log place || (isLong log place || isPadded log place))
+      (λ e. rw e (refl, refl, refl)) (λ e. absurd (some (rw e)))
 
   -- `read_record`, `reader::read` and the reader's own
   pub refused-record : (recordAt log place .refusal ≡ 0 → ⊥)
