@@ -87,8 +87,11 @@ lines-short (suc most) log here k h =
 
 refused-short : (refusal : ℕ) → length (logRefusedLine refusal) ≤ 131072
 refused-short refusal =
-    omega (arith, with-words (item (words "log refused ") refusal) (words "\n") {a = 32} {b = 1}
-    (one-item (words "log refused ") refusal {b = 12} (omega arith)) (omega arith))
+    omega (
+      arith,
+      with-words (item (words "log refused ") refusal) (words "\n") {a = 32} {b = 1}
+          (one-item (words "log refused ") refusal {b = 12} (omega arith)) (omega arith),
+    )
 
 format-short : (octet channels order : ℕ) → length (formatLine octet channels order) ≤ 70
 format-short octet channels order =
@@ -104,8 +107,11 @@ list-fits log =
     let few = ltb-false 65536 (length log) (past (ltb 65536 (length log)) 12 _ (eqb-true (listRefusal log) 0 ok) .0) in
     let head = format-short (headerOf log .format) (headerOf log .channels) (headerOf log .order) in
     let rest = lines-short (suc (length log)) log (startOf (headerOf log)) 1338 (omega arith) in
-    rw ok (omega (arith, with-words (formatLine (headerOf log .format) (headerOf log .channels) (headerOf log .order))
-    (recordLines (suc (length log)) log (startOf (headerOf log))) head rest)))
+    rw ok (omega (
+      arith,
+      with-words (formatLine (headerOf log .format) (headerOf log .channels) (headerOf log .order))
+          (recordLines (suc (length log)) log (startOf (headerOf log))) head rest,
+    )))
     (λ refused. rw refused (refused-short (listRefusal log)))
 
 -- so a run of that many octets holds the whole list
