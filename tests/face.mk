@@ -26,7 +26,7 @@ WARNINGS := -Wall -Wextra
 # Aligned, the baseline doesn't change by where the linker happens to place its loops.
 BENCH_FLAGS := -O3 -std=gnu11 $(WARNINGS) -falign-functions=64 -falign-loops=32
 
-.PHONY: face-test face-compare face-examples face-archive fuzz
+.PHONY: face-build face-test face-compare face-examples face-archive fuzz
 .PHONY: bench-build bench bench-count bench-table bench-keep bench-guard
 
 # Proves again only what changed, so that nothing is measured or compared that isn't in the crates.
@@ -64,6 +64,9 @@ face-examples: $(EXAMPLES)/handover-c $(EXAMPLES)/handover-rust $(EXAMPLES)/libr
 	$(call prints-expected,$(EXAMPLES)/handover-rust)
 	$(call prints-expected,python3 examples/python/handover.py $(EXAMPLES)/librimesatchel.so)
 	@echo "examples: C, Rust and Python print what is expected"
+
+# Everything that links the archive. The gate builds it while `rt ci` goes on.
+face-build: face-compare $(EXAMPLES)/handover-c $(EXAMPLES)/handover-rust $(EXAMPLES)/librimesatchel.so target/bench/bench
 
 face-test: face-compare face-examples
 	$(COMPARE) vectors tests/vectors $(LINELIST)
