@@ -13,7 +13,7 @@ help:
 	@echo 'make fuzz               compare N=1000000 calls with another implementation, from SEED=2; memory checks'
 	@echo 'make bench              speed beside plain C: instructions and nanoseconds; ROWS=56-C2 for some rows'
 	@echo 'make bench-count        the same, instructions alone'
-	@echo 'make bench-table        the instructions as the table of docs/SPEED.md'
+	@echo 'make bench-table        write the tables of docs/SPEED.md anew: instructions'
 	@echo 'make bench-keep         write the guarded rows of bench/instructions.txt anew'
 	@echo 'bash bench/trial.sh     instructions of the crates as they stand, without proving them'
 	@echo 'make tables             print crates/tables anew'

@@ -56,10 +56,17 @@ struct format {
 
 /* A format is one line here; its rows follow from it. */
 static const struct format formats[] = {
-    {0x02, 48, 8, false, false}, {0x04, 24, 16, false, false}, {0x06, 16, 24, false, false},
-    {0x08, 12, 32, false, false}, {0x43, 24, 12, true, false}, {0x45, 16, 20, true, false},
-    {0x47, 12, 28, true, false},  {0x52, 24, 8, true, true},   {0x54, 16, 16, true, true},
-    {0x56, 12, 24, true, true},   {0x5A, 8, 40, true, true},
+    {0x02, 48, 8, false, false},
+    {0x04, 24, 16, false, false},
+    {0x06, 16, 24, false, false},
+    {0x08, 12, 32, false, false},
+    {0x43, 24, 12, true, false},
+    {0x45, 16, 20, true, false},
+    {0x47, 12, 28, true, false},
+    {0x52, 24, 8, true, true},
+    {0x54, 16, 16, true, true},
+    {0x56, 12, 24, true, true},
+    {0x5A, 8, 40, true, true},
 };
 enum { FORMATS = sizeof formats / sizeof *formats, CHANNELS = 4, ORDERS = 2, GAP_CHANNELS = 2 };
 enum { MOST_ROWS = FORMATS * ORDERS * (2 * CHANNELS + 1) };

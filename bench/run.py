@@ -3,7 +3,7 @@
 
   run.py BENCH [ROWS]               the table, then the rows that are above what is asked
   run.py --count BENCH [ROWS]       instructions alone: a few seconds, and the same at every run
-  run.py --markdown BENCH [ROWS]    the table for docs/SPEED.md
+  run.py --page FILE BENCH          write the tables of instructions into FILE, which is docs/SPEED.md
   run.py --guard FILE BENCH         hold the rows that FILE names to its numbers: fails where one is more than 3 % above
   run.py --keep FILE BENCH          write today's numbers into FILE
 
@@ -22,7 +22,7 @@ CELLS = 16  # calls in a batch, as in bench.c
 
 # What is asked, in instructions: a number for the usual call, and for every other row a part of plain C's.
 USUAL = {'pack': 395, 'unpack': 348}
-PART_OF_PLAIN = {0: 0.60, 1: 0.65}
+PART_OF_PLAIN = {'0': 0.60, '1': 0.65}
 
 # How far a guarded row may be from its number.
 MARGIN = 0.03
@@ -35,10 +35,11 @@ NO_REPEATED_STORE = 'glibc.cpu.x86_rep_stosb_threshold=1048576'
 class Row:
     def __init__(self, name, proved, plain):
         self.name, self.proved, self.plain, self.times = name, proved, plain, None
-        way, octet, channels, order, gap = re.fullmatch(r'(\w+)-(\w\w)-C(\d+)-order(\d)(-gap14)?', name).groups()
-        self.asked = PART_OF_PLAIN[int(order)] * plain
-        if octet == '56' and channels in ('1', '2') and order == '0' and gap is None:
-            self.asked = USUAL[way]
+        parts = re.fullmatch(r'(\w+)-(\w\w)-C(\d+)-order(\d)(-gap14)?', name).groups()
+        self.way, self.octet, self.channels, self.order, self.gap = parts
+        self.asked = PART_OF_PLAIN[self.order] * plain
+        if self.octet == '56' and self.channels in ('1', '2') and self.order == '0' and not self.gap:
+            self.asked = USUAL[self.way]
 
     @property
     def ratio(self):
@@ -90,15 +91,31 @@ def print_table(rows):
         print(line + ('  above' if row.proved > row.asked else ''))
 
 
-def print_markdown(rows):
-    timed = rows[0].times is not None
-    print('| row | proved | plain C | ratio |' + (' ratio of ns |' if timed else ''))
-    print('|---|---|---|---|' + ('---|' if timed else ''))
-    for row in rows:
-        cells = [row.name, f'{row.proved:.0f}', f'{row.plain:.0f}', f'{row.ratio:.2f}']
-        if timed:
-            cells.append(f'{row.times[0] / row.times[1]:.2f}')
-        print('| ' + ' | '.join(cells) + ' |')
+def tables(rows):
+    """A table for packing, one for unpacking, one for gaps: a line for each format and order, a column for each C."""
+    written = []
+    for heading, wanted in (('packed', lambda row: row.way == 'pack'),
+                            ('unpacked', lambda row: row.way == 'unpack' and not row.gap),
+                            ('unpacked, 14 cells missing', lambda row: row.gap)):
+        lines = {}
+        for row in filter(wanted, rows):
+            text = f'{row.proved:.0f} ({row.ratio:.2f})'
+            lines.setdefault((row.octet, row.order), []).append(f'**{text}**' if row.proved > row.asked else text)
+        columns = ('C = 2',) if 'missing' in heading else ('C = 1', 'C = 2', 'C = 5', 'C = S')
+        written += ['', '| ' + ' | '.join((heading, 'order') + columns) + ' |', '|---|---|' + '---|' * len(columns)]
+        for (octet, order), texts in lines.items():
+            written.append(f'| {octet} hex | {order} | ' + ' | '.join(texts) + ' |')
+    return '\n'.join(written) + '\n\n'
+
+
+def write_page(path, bench):
+    with open(path, encoding='utf-8') as file:
+        text = file.read()
+    begin, end = '<!-- bench-table: begin -->\n', '<!-- bench-table: end -->\n'
+    before, rest = text.split(begin)
+    after = rest.split(end)[1]
+    with open(path, 'w', encoding='utf-8') as file:
+        file.write(before + begin + tables(counted(bench, '.')) + end + after)
 
 
 def print_summary(rows):
@@ -155,24 +172,22 @@ def keep(path, bench):
 def main():
     words = argparse.ArgumentParser(description=__doc__, formatter_class=argparse.RawDescriptionHelpFormatter)
     words.add_argument('--count', action='store_true')
-    words.add_argument('--markdown', action='store_true')
     words.add_argument('--guard', metavar='FILE')
     words.add_argument('--keep', metavar='FILE')
+    words.add_argument('--page', metavar='FILE')
     words.add_argument('bench')
     words.add_argument('rows', nargs='?', default='.')
     given = words.parse_args()
     bench = os.path.abspath(given.bench)
-    if given.guard or given.keep:
-        (guard if given.guard else keep)(given.guard or given.keep, bench)
-        return
+    for path, work in ((given.guard, guard), (given.keep, keep), (given.page, write_page)):
+        if path:
+            work(path, bench)
+            return
     rows = counted(bench, given.rows)
     if not given.count:
         add_times(rows, bench, given.rows)
-    if given.markdown:
-        print_markdown(rows)
-    else:
-        print_table(rows)
-        print_summary(rows)
+    print_table(rows)
+    print_summary(rows)
 
 
 if __name__ == '__main__':

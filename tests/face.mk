@@ -94,7 +94,7 @@ bench-count: bench-build
 	python3 bench/run.py --count target/bench/bench '$(ROWS)'
 
 bench-table: bench-build
-	@python3 bench/run.py --markdown --count target/bench/bench '$(ROWS)'
+	python3 bench/run.py --page docs/SPEED.md target/bench/bench
 
 bench-keep: bench-build
 	python3 bench/run.py --keep bench/instructions.txt target/bench/bench
