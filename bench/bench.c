@@ -31,13 +31,12 @@ struct row {
 };
 
 struct who {
-    const char *name;
     send_function *send;
     receive_function *receive;
 };
 
-static const struct who proved = {"proved", rime_send, rime_receive};
-static const struct who plain = {"plain", plain_send, plain_receive};
+static const struct who proved = {rime_send, rime_receive};
+static const struct who plain = {plain_send, plain_receive};
 
 /* All that one row's calls are lent. */
 struct bench {
@@ -237,25 +236,30 @@ static void count(const struct row *row) {
     name_row(row);
 }
 
+typedef void row_function(const struct row *);
+
+static row_function *function_of(const char *word) {
+    if (strcmp(word, "rows") == 0) return name_row;
+    if (strcmp(word, "times") == 0) return measure;
+    if (strcmp(word, "count") == 0) return count;
+    return NULL;
+}
+
 int main(int argc, char **argv) {
     static struct row rows[MOST_ROWS];
-    size_t all = all_rows(rows);
-    void (*wanted)(const struct row *) = argc < 2                        ? NULL
-                                         : !strcmp(argv[1], "rows")  ? name_row
-                                         : !strcmp(argv[1], "times") ? measure
-                                         : !strcmp(argv[1], "count") ? count
-                                                                     : NULL;
+    row_function *function = argc == 2 || argc == 3 ? function_of(argv[1]) : NULL;
     regex_t pattern;
-    if (wanted == NULL || argc > 3 || regcomp(&pattern, argc == 3 ? argv[2] : ".", REG_EXTENDED | REG_NOSUB) != 0) {
+    if (function == NULL || regcomp(&pattern, argc == 3 ? argv[2] : ".", REG_EXTENDED | REG_NOSUB) != 0) {
         fputs("usage: bench rows | times | count [ROWS]\n", stderr);
         return 2;
     }
+    size_t all = all_rows(rows);
     for (size_t at = 0; at < all; at++) {
         char name[64];
         name_of(&rows[at], name, sizeof name);
         if (regexec(&pattern, name, 0, NULL, 0) != 0) continue;
-        if (wanted != name_row) check_agreement(&rows[at]);
-        wanted(&rows[at]);
+        if (function != name_row) check_agreement(&rows[at]);
+        function(&rows[at]);
     }
     return 0;
 }
