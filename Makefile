@@ -16,8 +16,8 @@ help:
 	@echo 'make bench-table        write the tables of docs/SPEED.md anew: instructions'
 	@echo 'make bench-keep         write the guarded rows of bench/instructions.txt anew'
 	@echo 'bash bench/trial.sh     instructions of the crates as they stand, without proving them'
-	@echo 'make tables             print crates/tables anew'
-	@echo 'make reading            check that pages and comments can be read'
+	@echo 'make tables             write the tables of crates/tables and crates/guards anew'
+	@echo 'make reading            count the lines that must be read to trust the demands'
 
 test:
 	.ci/run

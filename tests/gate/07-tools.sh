@@ -1,5 +1,5 @@
 #!/usr/bin/env bash
-# crates/tables is what tools/tables.py prints, and the pages and comments are as tools/reading.py wants them.
+# The tables are what tools/tables.py writes, and no more must be read to trust the demands than tools/reading.py allows.
 set -eu
 export LC_ALL=C
 if [ -e tools/tables.py ]; then python3 tools/tables.py --check; fi
