@@ -58,13 +58,19 @@ line-short : (index : ℕ) (got : Received) → length (lineOf index got) ≤ 76
 unfolding lineOf
 line-short index got =
     split (eqb (got .refusal) 0)
-    (λ e. rw e (three-short (words "") (words " sound ") (words " number ") (words "\n") index (got .missing) (got .number) {i = 0} {j = 7} {k = 8} {l = 1} (omega arith) (omega arith) (omega arith) (omega arith)))
-    (λ e. rw e (omega (arith, two-short (words "") (words " refused ") (words "\n") index (got .refusal) {i = 0} {j = 9} {l = 1} (omega arith) (omega arith) (omega arith))))
+    (λ e. rw e (three-short (words "") (words " sound ") (words " number ") (words "\n") index (got .missing)
+    (got .number) {i = 0} {j = 7} {k = 8} {l = 1} (omega arith) (omega arith) (omega arith) (omega arith)))
+    (λ e. rw e (omega (
+      arith,
+      two-short (words "") (words " refused ") (words "\n") index (got .refusal) {i = 0} {j = 9} {l = 1} (omega arith)
+          (omega arith) (omega arith),
+    )))
 
 end-short : (here : Standing) (refusal : ℕ) → length (endLines here refusal) ≤ 140
 unfolding endLines
 end-short here refusal =
-    let end = three-short (words "end ") (words " sound ") (words " missing ") (words " refused\n") (here .sound) (here .missing) (here .refused) {i = 4} {j = 7} {k = 9} {l = 9} (omega arith) (omega arith) (omega arith) (omega arith) in
+    let end = three-short (words "end ") (words " sound ") (words " missing ") (words " refused\n") (here .sound) (here .missing)
+    (here .refused) {i = 4} {j = 7} {k = 9} {l = 9} (omega arith) (omega arith) (omega arith) (omega arith) in
     let broken = two-short (words "") (words " broken ") (words "\n") (here .index) refusal {i = 0} {j = 8} {l = 1} (omega arith) (omega arith) (omega arith) in
     split (eqb refusal 0)
     (λ e. rw e (omega (arith, end)))
@@ -82,7 +88,12 @@ lines-short (suc most) log here k h =
     let past : Standing = afterOf here (recordAt log (here .place) .next) (gotAt log here) in
     let place = after-place here (recordAt log (here .place) .next) (gotAt log here) in
     let rest = lines-short most log past (k - 1) (omega (arith, facts .0, facts .1, place)) in
-    rw e (omega (arith, facts .0, with-words (lineOf (here .index) (gotAt log here)) (recordLines most log past) (line-short (here .index) (gotAt log here)) rest)))
+    rw e (omega (
+      arith,
+      facts .0,
+      with-words (lineOf (here .index) (gotAt log here)) (recordLines most log past)
+          (line-short (here .index) (gotAt log here)) rest,
+    )))
     (λ e. rw e (omega (arith, end-short here (recordAt log (here .place) .refusal))))
 
 refused-short : (refusal : ℕ) → length (logRefusedLine refusal) ≤ 131072

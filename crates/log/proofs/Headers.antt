@@ -45,7 +45,8 @@ module _ (log : List ℕ) {first : Number} (e₁ : first ≡ numberAt log 0) whe
 
   pub header-first : {answer : Header} → (first .refusal ≡ 0 → ⊥) → answer ≡ noHeader (first .refusal) → answer ≡ headerOf log
   unfolding headerRefusal orElse
-  header-first some is = numbers-not first (numberAt log (first .next)) (numberAt log (numberAt log (first .next) .next)) (rw (ne-eqb (first .refusal) 0 some)) some is ∙ headed refl refl
+  header-first some is = numbers-not first (numberAt log (first .next)) (numberAt log (numberAt log (first .next) .next))
+      (rw (ne-eqb (first .refusal) 0 some)) some is ∙ headed refl refl
 
   module _ {second : Number} (e₂ : second ≡ numberAt log (first .next)) (ok₁ : first .refusal ≡ 0) where
     pub header-second : {answer : Header} → (second .refusal ≡ 0 → ⊥) → answer ≡ noHeader (second .refusal) → answer ≡ headerOf log

@@ -44,9 +44,13 @@ use Rattle.log.proofs.keep.write_header.Reads as write-header-reads
 use Rattle.log.proofs.keep.write_record.Kinds as write-record-kinds
 use Rattle.log.proofs.keep.write_record.Reads as write-record-reads
 
--- every definition on the way down to the numbers
+-- every definition on the way down to the numbers: of numbers, and of all else
+unfoldable numbers-unfolded : Unit {0}
+unfolding groupsAt isCut isLong isPadded valueOf numberAt groupsOf numberRefusal
+numbers-unfolded = tt
+
 unfoldable pub unfolded : Unit {0}
-unfolding orElse formats.unfolded groupsAt isCut isLong isPadded valueOf numberAt groupsOf headerRefusal headerOfNumbers headerOf recordAt placeAfter cellAt numberRefusal headerRefused recordRefusal
+unfolding orElse formats.unfolded numbers-unfolded headerRefusal headerOfNumbers headerOf recordAt placeAfter cellAt headerRefused recordRefusal
 unfolded = tt
 
 -- a log's part with one record, its indication 1 and its cell of nines, and an octet behind it where none can begin

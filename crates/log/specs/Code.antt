@@ -8,8 +8,8 @@ use lib.ListN.{length, getD}
 use Rattle.log.specs.declared.Number.{Number}
 use Rattle.log.specs.Numbers.{number, noNumber}
 
--- A group with more behind it. The number behind it is 0 where that is refused, and where its one group is 0, so that the form is
--- not the shortest.
+-- a group and the number that the groups behind it hold, which is 0 where it was refused itself, and where its last group is 0, so
+-- that the form is not the shortest
 unfoldable pub behind : ℕ → Number → Number
 behind group more = cond (eqb (more .value) 0) noNumber (number (group % 128 + more .value * 128) (more .next))
 

@@ -51,7 +51,8 @@ fn no_number() -> Number
     }
 }
 
-// A group with more behind it. The number there is 0 where it is refused, and where the form is not the shortest.
+// Joins a group and the number that the groups behind it hold. That number is 0 where it was refused itself, and where its last
+// group is 0, so that the form is not the shortest: 11 in both cases.
 fn behind(group: u32, more: Number) -> Number
     requires { ⌜ more .value < 16384 ⌝ }
     ensures { λ r. ⌜ r ≡ behind group more ⌝ }
@@ -67,7 +68,7 @@ fn behind(group: u32, more: Number) -> Number
     }
 }
 
-// The number at a place, in at most so many groups.
+// Reads the number at a place, which may have at most `groups` groups.
 fn number_in(log: &[u8], place: usize, groups: u8) -> Number
     requires { ⌜ groups ≤ 3 ⌝ }
     ensures { λ r. ⌜ r ≡ numberWithin groups (now (log .entry)) place ⌝ }

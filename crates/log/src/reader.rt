@@ -1,5 +1,5 @@
-// The reader over a lent log, document 01: it "holds the octets and a place only". Thin functions over those on a slice and a
-// place, proved by hand. `read` is for all callers that hold the log as a slice themselves.
+// A reader over a lent log. Document 01: it "holds the octets and a place only". Its functions call those of lib.rt with the slice
+// and the place that it holds, and are proved by hand. A caller that has the log as a slice uses `read`.
 use crate::Record;
 ghost use mathlib.Core.Path.{_≡_};
 ghost use Rattle.log.specs.Code.{from};

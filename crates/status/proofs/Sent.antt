@@ -111,7 +111,8 @@ module _ (block : Block) (octets : List ℕ) (a m : ℕ → ℕ) (begun : block 
       (λ e. dropping b (a n) (m n) within (marks n (omega arith)) (bits-at n (omega arith)) (ap m (eqb-true n j e) ∙ two))
       (λ e.
       let later : j < n = omega (arith, eqb-false n j e) in
-      waiting b (a n) (m n) within (marks n (omega arith)) (bits-at n (omega arith)) (sends .alone n (omega arith) (omega arith)) (gone j n two later (omega arith))))
+      waiting b (a n) (m n) within (marks n (omega arith)) (bits-at n (omega arith)) (sends .alone n (omega arith) (omega arith))
+      (gone j n two later (omega arith))))
 
   -- so the last step brings out nothing either
   last-none : (j : ℕ) → m j ≡ 2 → j < 192 → Goes (blockAfter block a m 191) (a 191) (m 191) 0
@@ -122,7 +123,8 @@ module _ (block : Block) (octets : List ℕ) (a m : ℕ → ℕ) (begun : block 
       (λ e. dropping b (a 191) (m 191) within (marks 191 (omega arith)) (bits-at 191 (omega arith)) (ap m (sym (eqb-true j 191 e)) ∙ two))
       (λ e.
       let sooner : j < 191 = omega (arith, eqb-false j 191 e) in
-      waiting b (a 191) (m 191) within (marks 191 (omega arith)) (bits-at 191 (omega arith)) (sends .alone 191 (omega arith) (omega arith)) (gone j 191 two sooner (omega arith)))
+      waiting b (a 191) (m 191) within (marks 191 (omega arith)) (bits-at 191 (omega arith)) (sends .alone 191 (omega arith) (omega arith))
+      (gone j 191 two sooner (omega arith)))
 
   all-none : (j : ℕ) → m j ≡ 2 → j < 192 → broughtOut block a m 192 ≡ []
   unfolding broughtOut
@@ -153,7 +155,8 @@ module _ (block : Block) (octets : List ℕ) (a m : ℕ → ℕ) (begun : block 
     unfolding blockAfter
     step-at zero h =
         step-begun block (a 0) (m 0) (taken-at (block .bits) 0 begun (omega arith)) (λ two. omega (arith, sound 0 (omega arith), two)) (sends .first)
-        ∙ ap (λ (o : List ℕ). unfinished 0 (record { bits = 1; octets = o })) (ap (λ (z : List ℕ). withBit z 0 (cOf (a 0))) (sym (upTo-none octets)) ∙ put-at 0 (omega arith))
+        ∙ ap (λ (o : List ℕ). unfinished 0 (record { bits = 1; octets = o }))
+        (ap (λ (z : List ℕ). withBit z 0 (cOf (a 0))) (sym (upTo-none octets)) ∙ put-at 0 (omega arith))
     step-at (suc n) h =
         ap (λ (s : Stepped). stepOf (s .block) (a (suc n)) (m (suc n))) (step-at n (omega arith))
         ∙ next-at n (omega arith)

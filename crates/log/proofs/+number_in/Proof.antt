@@ -51,7 +51,12 @@ behind-requires : (t : ℕ) → lts.Need-behind-requires (known t) (given t) num
 behind-requires t c κs =
     let at-call = c .before .before .before .before .before .before .before in
     let start : lts.Start (known t) (given t) number-in.Post = at-call in
-    omega (arith, ap (λ (x : Number). x .value) (c .number-in .ensures), value-below (start .args .groups - 1) (start .args .log .now) (start .args .place + 1) (omega (arith, start .pre .1)))
+    omega (
+      arith,
+      ap (λ (x : Number). x .value) (c .number-in .ensures),
+      value-below (start .args .groups - 1) (start .args .log .now)
+          (start .args .place + 1) (omega (arith, start .pre .1)),
+    )
 
 returns-4 : (t : ℕ) → lts.Need-returns-4 (known t) (given t) number-in.Post
 returns-4 t c =

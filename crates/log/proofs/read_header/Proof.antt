@@ -12,7 +12,8 @@ returns-2 : tie.Need-returns-2
 returns-2 c =
     let at-read-number2 = c .before .before .before in
     let at-read-number = at-read-number2 .before .before .before in
-    header-second _ (at-read-number .read-number .ensures) (at-read-number2 .read-number2 .ensures) (at-read-number2 .before .if1 .left) (c .before .if2 .taken) (c .no-header2 .ensures)
+    header-second _ (at-read-number .read-number .ensures) (at-read-number2 .read-number2 .ensures) (at-read-number2 .before .if1 .left)
+    (c .before .if2 .taken) (c .no-header2 .ensures)
 
 returns-3 : tie.Need-returns-3
 returns-3 c =
@@ -29,7 +30,8 @@ returns-4 c =
     let at-read-number2 = at-read-number3 .before .before .before in
     let at-read-number = at-read-number2 .before .before .before in
     header-unsettled _ (at-read-number .read-number .ensures) (at-read-number2 .read-number2 .ensures) (at-read-number2 .before .if1 .left)
-    (at-read-number3 .read-number3 .ensures) (at-read-number3 .before .if2 .left) (at-settings .settings .ensures) (at-settings .before .if3 .left) (c .before .if4 .taken)
+    (at-read-number3 .read-number3 .ensures) (at-read-number3 .before .if2 .left) (at-settings .settings .ensures) (at-settings .before .if3 .left)
+    (c .before .if4 .taken)
     (c .no-header4 .ensures)
 
 returns-5 : tie.Need-returns-5

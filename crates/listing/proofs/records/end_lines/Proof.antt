@@ -9,7 +9,8 @@ use Rattle.listing.proofs.records.end_lines.Tie as tie
 returns : tie.Need-returns
 returns c =
     let at-if1 = c .before .before .before .before in
-    puts-same (end-plain (at-if1 .before .before .args .here) (at-if1 .before .before .args .refusal) (at-if1 .if1 .taken)) (c .before .before .end-line .ensures)
+    puts-same (end-plain (at-if1 .before .before .args .here) (at-if1 .before .before .args .refusal) (at-if1 .if1 .taken))
+    (c .before .before .end-line .ensures)
 
 returns-2 : tie.Need-returns-2
 returns-2 c =

@@ -34,8 +34,10 @@ loop-again c =
     let at-read-cell = at-record-line .before .before .before in
     let at-loop = at-read-cell .before .before .before in (
       at-loop .loop .inv .0,
-      along-turn (at-loop .loop .inv .1) (at-loop .loop .inv .0) (at-read-cell .before .if1 .taken) (at-record-line .before .before .judged .ensures) (at-read-cell .read-cell .ensures .0)
-          (c .before .after .ensures .1) (at-record-line .record-line .ensures) (at-record-line .record-line .kept .0) (c .before .after .ensures .0) (c .read2 .ensures),
+      along-turn (at-loop .loop .inv .1) (at-loop .loop .inv .0) (at-read-cell .before .if1 .taken) (at-record-line .before .before .judged .ensures)
+          (at-read-cell .read-cell .ensures .0)
+          (c .before .after .ensures .1) (at-record-line .record-line .ensures) (at-record-line .record-line .kept .0) (c .before .after .ensures .0)
+          (c .read2 .ensures),
     )
 
 same-length : tie.Need-same-length Inv-loop μ-loop

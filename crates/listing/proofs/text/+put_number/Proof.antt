@@ -46,7 +46,8 @@ returns-2 t c =
     let at-digit2 = c .before .before .before in
     let at-put-number = at-digit2 .before .before .before .before in
     let at-call = at-put-number .before .before .before .before in
-    number-more (at-call .args .n) (at-put-number .before .before .if1 .left) (omega arith) (at-digit2 .digit2 .ensures) (at-put-number .put-number .ensures) (c .before .before .put2 .ensures)
+    number-more (at-call .args .n) (at-put-number .before .before .if1 .left) (omega arith) (at-digit2 .digit2 .ensures)
+    (at-put-number .put-number .ensures) (c .before .before .put2 .ensures)
 
 pub +put-number-spec : {M : Type 1} → statement M
 +put-number-spec =

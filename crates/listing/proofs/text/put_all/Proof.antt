@@ -25,7 +25,8 @@ loop-again c =
     let at-call = at-loop-test .before .before .before .before in (
       search needs,
       c .before .before .put .kept .0 ∙ at-loop-test .before .loop .inv .1,
-      puts-turn (at-call .args .octets .now) (at-loop-test .before .loop .i) (at-loop-test .loop-test .taken) (at-loop-test .before .loop .inv .2) (c .before .before .put .ensures),
+      puts-turn (at-call .args .octets .now) (at-loop-test .before .loop .i) (at-loop-test .loop-test .taken) (at-loop-test .before .loop .inv .2)
+          (c .before .before .put .ensures),
     )
 
 returns : tie.Need-returns Inv-loop μ-loop

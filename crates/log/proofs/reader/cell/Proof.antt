@@ -27,4 +27,5 @@ cell-spec 𝓤 H 𝓜 𝓖 𝓡 =
     𝓜 𝓖 𝓡 code.env (sliceTy (tyRef (named 0) imm (tyInt w8)))
     (λ κs r u is. shr-slice-lawful 𝓤 H (𝓖 .A) (givenOf 𝓤 H 𝓜 𝓖) (named 0) (κs .0) u8 .typed r _ is .0)
     name callee-def.name (code.unfolded 𝓤 H 𝓜 𝓡)
-    (cited 𝓤 H (tripleOf 𝓤 H (𝓖 .A) callee.signature (callee.spec 𝓤 H (𝓖 .A) (𝓜 .mem) (𝓡 .run))) 𝓜 𝓡 code.env callee-def.name callee-def.routine code.calls-log·read-cell (callee-thm.met 𝓤 H 𝓜 𝓖 𝓡))
+    (cited 𝓤 H (tripleOf 𝓤 H (𝓖 .A) callee.signature (callee.spec 𝓤 H (𝓖 .A) (𝓜 .mem)
+    (𝓡 .run))) 𝓜 𝓡 code.env callee-def.name callee-def.routine code.calls-log·read-cell (callee-thm.met 𝓤 H 𝓜 𝓖 𝓡))

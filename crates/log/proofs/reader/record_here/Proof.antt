@@ -26,4 +26,5 @@ record-here-spec 𝓤 H 𝓜 𝓖 𝓡 =
     𝓜 𝓖 𝓡 code.env S′.mir
     (λ κs r u is. LL.lawful S.the-type S′.the-laws 𝓤 H (𝓖 .A) (givenOf 𝓤 H 𝓜 𝓖) .typed r _ is .0)
     name callee-def.name (code.unfolded 𝓤 H 𝓜 𝓡)
-    (cited 𝓤 H (tripleOf 𝓤 H (𝓖 .A) callee.signature (callee.spec 𝓤 H (𝓖 .A) (𝓜 .mem) (𝓡 .run))) 𝓜 𝓡 code.env callee-def.name callee-def.routine code.calls-log·read-record (callee-thm.met 𝓤 H 𝓜 𝓖 𝓡))
+    (cited 𝓤 H (tripleOf 𝓤 H (𝓖 .A) callee.signature (callee.spec 𝓤 H (𝓖 .A) (𝓜 .mem)
+    (𝓡 .run))) 𝓜 𝓡 code.env callee-def.name callee-def.routine code.calls-log·read-record (callee-thm.met 𝓤 H 𝓜 𝓖 𝓡))

@@ -21,17 +21,24 @@ use Rattle.status.proofs.Steps.{
 use Rattle.status.proofs.step.step.Statement.{statement}
 use Rattle.status.proofs.step.step.Tie as tie
 
+-- the way back to the call
+abbrev called : tie.Else1 → tie.Start
+called c = c .before .before
+
+abbrev called-4 : tie.Else4 → tie.Start
+called-4 c = called (c .before .before .before)
+
 -- the step isn't refused
-taken : (c : tie.Else1) → isRefused (c .before .before .args .block .bits) (c .before .before .args .ancillary) (c .before .before .args .mark) ≡ false
+taken : (c : tie.Else1) → isRefused (called c .args .block .bits) (called c .args .ancillary) (called c .args .mark) ≡ false
 taken c = sym (c .before .refused .ensures) ∙ c .if1 .left
 
 -- B is 0, and the block has begun
 added : (c : tie.Else4)
-    → stepOf (c .before .before .before .before .before .args .block) (c .before .before .before .before .before .args .ancillary) (c .before .before .before .before .before .args .mark)
-    ≡ addedTo (c .before .before .before .before .before .args .block .bits)
-    (withBit (c .before .before .before .before .before .args .block .octets) (c .before .before .before .before .before .args .block .bits) (cOf (c .before .before .before .before .before .args .ancillary)))
+    → stepOf (called-4 c .args .block) (called-4 c .args .ancillary) (called-4 c .args .mark)
+    ≡ addedTo (called-4 c .args .block .bits)
+    (withBit (called-4 c .args .block .octets) (called-4 c .args .block .bits) (cOf (called-4 c .args .ancillary)))
 added c =
-    let s = c .before .before .before .before .before .args in
+    let s = called-4 c .args in
     step-added (s .block) (s .ancillary) (s .mark) (taken (c .before .before .before)) (c .before .before .if2 .left) (c .before .if3 .left) (c .if4 .left)
 
 returns : tie.Need-returns
