@@ -1,3 +1,6 @@
+pub mod One
 pub mod Placement
+pub mod Places
 pub mod Subframes
 pub mod Whole
+pub mod Wrong
