@@ -1,8 +1,8 @@
 -- Laws of the protection bits: the nine top bits at every sample length, and the fold to seven bits by one test over all tens.
 -- Assumes nothing.
-use mathlib.Core.Path.{_≡_, sym, _∙_, ap, ap₂}
+use mathlib.Core.Path.{_≡_, refl, sym, _∙_, ap, ap₂}
 use Prim.Native.Nat.{ℕ, _+_, _*_, _/_, _%_, _-_, _^_, _≤_, _<_}
-use native.Mathlib.Nat.{mod-lt, mod-eq-of-lt, div-lt-iff-lt-mul, mul-div-mul-right}
+use native.Mathlib.Nat.{mod-lt, mod-eq-of-lt, zero-div, div-lt-iff-lt-mul, mul-div-mul-right}
 use native.Mathlib.Omega.{arith}
 use lib.Bits.{bitXor}
 use lib.Dec.{eqb, eqb→eq}
@@ -22,6 +22,19 @@ nine-lt length sample = mod-lt _ (omega arith)
 pub guard-le : (length sample v : ℕ) → guardOf length sample v ≤ 7
 unfolding guardOf tenGuard
 guard-le length sample v = omega arith
+
+nine-zero : (bits : ℕ) → nineOf bits 0 ≡ 0
+unfolding nineOf
+nine-zero bits = ap (λ (n : ℕ). n % 512) (zero-div (2 ^ bits))
+
+ten-zero : tenGuard 0 ≡ 7
+unfolding tenGuard coefficients divided takenDown
+ten-zero = refl
+
+-- "protection of sample 0 with V 0 is 111", at every sample length
+pub guard-zero : (bits : ℕ) → guardOf bits 0 0 ≡ 7
+unfolding guardOf
+guard-zero bits = ap (λ (n : ℕ). tenGuard (n * 2 + 0)) (nine-zero bits) ∙ ten-zero
 
 pub ten-guard-lt : (ten : ℕ) → tenGuard ten < 8
 unfolding tenGuard

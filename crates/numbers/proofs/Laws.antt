@@ -114,6 +114,17 @@ unfolding every wordBit
 second-back word {second} h =
     eqb→eq (secondOf (wordBit word second)) second (every-at (λ s. eqb (secondOf (wordBit word s)) s) 16 tt second h)
 
+-- bits 9 to 12 of a word one by one, and those after them
+pub second-bit : (word second : ℕ) {i : ℕ} → i < 4 → wordBit word second (8 + i) ≡ second / 2 ^ i % 2
+unfolding wordBit
+second-bit word second {i} h =
+    rw (le-ltb (8 + i) 8 (omega arith), lt-ltb (8 + i) 12 (omega arith))
+    (ap (λ (k : ℕ). second / 2 ^ k % 2) (let place : 8 + i - 8 ≡ i = omega arith in place))
+
+pub later-bit : (word second : ℕ) {slot : ℕ} → 12 ≤ slot → wordBit word second slot ≡ 0
+unfolding wordBit
+later-bit word second {slot} h = rw (le-ltb slot 8 (omega arith), le-ltb slot 12 h)
+
 pub entry-lt : {number : ℕ} → number < 16 → entryOf number < 256
 unfolding every tableA1
 entry-lt {number} h = leb→le _ _ (every-at (λ n. ltb (entryOf n) 256) 16 tt number h)
