@@ -9,21 +9,8 @@ use Rattle.runs.specs.Runs.{over}
 use Rattle.formats.specs.Formats.{formatOf}
 use Rattle.sender.specs.Sender as S
 use Rattle.receiver.specs.Receiver as R
-use Rattle.line.specs.Demands.{
-  SendCall,
-  MeetsSend,
-  sendTable,
-  ReceiveCall,
-  MeetsReceive,
-  receiveTable,
-  Refuses,
-  SentNothing,
-  ReceivedNothing,
-  InSettings,
-  formatIn,
-  GivesBack,
-  Tells,
-}
+use Rattle.line.specs.Contracts.{SendCall, MeetsSend, ReceiveCall, MeetsReceive}
+use Rattle.line.specs.Demands.{sendTable, receiveTable, Refuses, SentNothing, ReceivedNothing, InSettings, formatIn, GivesBack, Tells}
 use Rattle.line.proofs.Cells.{
   sent-refusal,
   received-refusal,

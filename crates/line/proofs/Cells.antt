@@ -15,6 +15,7 @@ use Rattle.formats.specs.Formats.{formatOf, timesOf, settingsRefusal, settled}
 use Rattle.numbers.specs.Numbers.{entryOf, numberIn}
 use Rattle.numbers.proofs.Laws.{entry-lt, number-entry}
 use Rattle.cells.specs.Cells.{sampleIn, ancillaryIn, markIn, eightIn, entriesOf}
+use Rattle.cells.proofs.Sent.{sent-cell}
 use Rattle.cells.proofs.Whole.{cell-length, eight-in-back, second-in-back, second-in-none, samples-back, ancillaries-back, marks-back}
 use Rattle.sender.specs.declared.Sender.{Sender}
 use Rattle.sender.specs.Packing.{Packable}
@@ -22,7 +23,8 @@ use Rattle.sender.specs.Sender as S
 use Rattle.sender.proofs.Laws as SL
 use Rattle.receiver.specs.declared.Receiver.{Receiver}
 use Rattle.receiver.specs.Receiver as R
-use Rattle.line.specs.Demands.{SendCall, MeetsSend, sendTable, ReceiveCall, MeetsReceive, receiveTable, InSettings, formatIn}
+use Rattle.line.specs.Contracts.{SendCall, MeetsSend, ReceiveCall, MeetsReceive}
+use Rattle.line.specs.Demands.{sendTable, receiveTable, InSettings, formatIn, IsDocument01's}
 
 -- the refusal of an answer is the refusal of the table
 pub sent-refusal : (s : SendCall) → MeetsSend s → s .answer .refusal ≡ sendTable s
@@ -159,3 +161,11 @@ module _ (s : SendCall) (meets : MeetsSend s) (sent : s .answer .refusal ≡ 0) 
         entries markIn 2
         (marks-back (fits .limits .sound) _ (s .state .channels) (S.timesNow (s .state)) _ _ (s .samples) (s .ancillary)
         (fits .small) (fits .few) (fits .limits .channels-from) (fits .limits .used-in))
+
+  -- what the cell holds, sentence by sentence
+  pub is-document-01's : IsDocument01's s
+  unfolding S.cellNow
+  is-document-01's =
+      rw written-is
+      (sent-cell (fits .limits .sound) _ (s .state .channels) (S.timesNow (s .state)) (s .state .number) _ (s .samples) (s .ancillary)
+      (fits .small) (fits .few) (fits .limits .channels-from) (fits .limits .used-in) number-lt)

@@ -4,6 +4,7 @@ pub mod Cells
 pub mod Demands
 pub mod Opened
 pub mod Places
+pub mod Refused
 pub mod Rows
 pub mod Sharp
 pub mod Steps

@@ -11,13 +11,13 @@ use borrow.Author.Tests.{ne-eqb, le-ltb, eqb-true, eqb-false}
 use lib.Dec.{eqb}
 use lib.ListN.{replicate, replicate-append-replicate}
 use Rattle.runs.proofs.Laws.{split}
-use Rattle.formats.specs.declared.Format.{Format}
 use Rattle.formats.specs.Formats.{formatOf}
 use Rattle.sender.specs.declared.Sender.{Sender}
 use Rattle.sender.specs.Sender as S
 use Rattle.receiver.specs.declared.Receiver.{Receiver}
 use Rattle.receiver.specs.Receiver as R
-use Rattle.line.specs.Demands.{SendCall, MeetsSend, ReceiveCall, MeetsReceive, InSettings, formatIn}
+use Rattle.line.specs.Contracts.{SendCall, MeetsSend, ReceiveCall, MeetsReceive}
+use Rattle.line.specs.Demands.{InSettings, formatIn}
 use Rattle.line.specs.Line.{
   Row,
   Sending,

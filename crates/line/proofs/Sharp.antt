@@ -16,7 +16,7 @@ use Rattle.receiver.specs.declared.Receiver.{Receiver}
 use Rattle.receiver.specs.declared.Received.{Received}
 use Rattle.receiver.specs.Receiver as R
 use Rattle.receiver.proofs.Room as Room
-use Rattle.line.specs.Demands.{SendCall, MeetsSend, ReceiveCall, MeetsReceive}
+use Rattle.line.specs.Contracts.{SendCall, MeetsSend, ReceiveCall, MeetsReceive}
 use Rattle.line.specs.Line.{
   Row,
   Sending,

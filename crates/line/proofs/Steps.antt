@@ -23,7 +23,8 @@ use Rattle.cells.specs.Cells.{eightIn}
 use Rattle.sender.specs.Sender as S
 use Rattle.receiver.specs.Receiver as R
 use Rattle.receiver.proofs.Laws as RL
-use Rattle.line.specs.Demands.{SendCall, MeetsSend, ReceiveCall, MeetsReceive, receiveTable, InSettings, formatIn, GivesBack}
+use Rattle.line.specs.Contracts.{SendCall, MeetsSend, ReceiveCall, MeetsReceive}
+use Rattle.line.specs.Demands.{receiveTable, InSettings, formatIn, GivesBack}
 use Rattle.line.specs.Line.{alteredIn, WithRoom, Place, places, handedBy}
 use Rattle.line.proofs.Calls.{gives-back}
 use Rattle.line.proofs.Cells.{

@@ -1,57 +1,23 @@
 -- The words of demands 1 and 2, over the promises of the calls.
 -- Assumes nothing.
-use mathlib.Core.Bool.{Bool, false}
+use mathlib.Core.Bool.{cond, false}
 use mathlib.Core.List.{List, _++_}
 use mathlib.Core.Path.{_≡_}
-use Prim.Native.Nat.{ℕ, _+_, _*_, _%_, _≤_, _<_}
-use lib.Dec.{eqb}
+use Prim.Native.Nat.{ℕ, _+_, _*_, _≤_, _<_}
+use lib.Dec.{eqb, leb, ltb}
 use lib.ListN.{length, getD, replicate}
 use Rattle.runs.specs.Runs.{over}
 use Rattle.formats.specs.declared.Format.{Format}
 use Rattle.formats.specs.Formats.{formatOf}
-use Rattle.numbers.specs.Numbers.{entryOf, dividedEntry, secondOf}
-use Rattle.guards.specs.Guards.{guardOf}
-use Rattle.cells.specs.Placement.{slotOf}
-use Rattle.cells.specs.Cells.{subframeAt, sampleIn, ancillaryIn, bitIn, eightIn}
+use Rattle.cells.specs.Sent.{SentCell}
 use Rattle.sender.specs.declared.Sender.{Sender}
-use Rattle.sender.specs.declared.Sent.{Sent}
 use Rattle.sender.specs.Sender as S
 use Rattle.receiver.specs.declared.Receiver.{Receiver}
-use Rattle.receiver.specs.declared.Received.{Received}
 use Rattle.receiver.specs.Receiver as R
-
--- a call of `send` and what it left
-pub record SendCall : Type 0 where
-  pub state : Sender
-  pub indication : Bool
-  pub samples : List ℕ
-  pub ancillary : List ℕ
-  pub cell : List ℕ
-  pub answer : Sent
-  pub written : List ℕ
-
--- the call meets `send`'s own contract
-abbrev pub MeetsSend : SendCall → Type 0
-MeetsSend c = S.Sends (c .state) (c .indication) (c .samples) (c .ancillary) (c .cell) (c .answer) (c .written)
-
--- a call of `receive` and what it left
-pub record ReceiveCall : Type 0 where
-  pub state : Receiver
-  pub cell : List ℕ
-  pub indication : Bool
-  pub samples : List ℕ
-  pub ancillary : List ℕ
-  pub marks : List ℕ
-  pub answer : Received
-  pub samples-after : List ℕ
-  pub ancillary-after : List ℕ
-  pub marks-after : List ℕ
-
--- the call meets `receive`'s own contract
-abbrev pub MeetsReceive : ReceiveCall → Type 0
-MeetsReceive c =
-    R.Receives (c .state) (c .cell) (c .indication) (c .samples) (c .ancillary) (c .marks)
-    (c .answer) (c .samples-after) (c .ancillary-after) (c .marks-after)
+use Rattle.status.specs.declared.step.Block.{Block}
+use Rattle.status.specs.declared.step.Stepped.{Stepped}
+use Rattle.log.specs.declared.Record.{Record}
+use Rattle.line.specs.Contracts.{SendCall, ReceiveCall}
 
 -- "It refuses exactly where document 01's table says so, under that number"; where it refuses, nothing was changed and nothing else
 -- is told
@@ -81,41 +47,32 @@ pub record ReceivedNothing (c : ReceiveCall) : Type 0 where
   pub no-second : c .answer .second ≡ 0
   pub no-indication : c .answer .indication ≡ false
 
--- what a slot of a sent cell holds
+-- "A mark above 2, .. is refused": the block is as it was lent, and 24 zeros go out with neither yes nor no
+pub record SteppedNothing (block : Block) (r : Stepped) : Type 0 where
+  pub block-as-lent : r .block ≡ block
+  pub zeros-out : r .handed .octets ≡ replicate 24 0
+  pub neither : r .handed .answer ≡ 0
+
+-- a record: 11 for "an indication above 1", 12 for "a record cut before its 48 octets end"; none at the log's end or past it
+abbrev pub recordTable : List ℕ → ℕ → ℕ
+recordTable log place =
+    cond (leb (length log) place) 0 (cond (ltb 1 (getD log place 0)) 11 (cond (ltb (length log) (place + 49)) 12 0))
+
+pub record ReadNothing (r : Record) : Type 0 where
+  pub no-cell : r .what ≡ 0
+  pub no-indication : r .indication ≡ false
+  pub no-start : r .start ≡ 0
+  pub no-next : r .next ≡ 0
+
+-- the format of a sent cell
 abbrev pub formatIn : SendCall → Format
 formatIn s = formatOf (s .state .format)
 
-abbrev pub slotIn : SendCall → ℕ → ℕ
-slotIn s k = subframeAt (formatIn s) (s .written) k
-
-pub record Holds (s : SendCall) (k sample ancillary : ℕ) : Type 0 where
-  pub holds-sample : sampleIn (formatIn s) (slotIn s k) ≡ sample
-  pub holds-ancillary : ancillaryIn (formatIn s) (slotIn s k) ≡ ancillary
-
--- the overhead of a sent cell: the sequencing word, and the protection of what each slot holds
-pub record Overhead (s : SendCall) : Type 0 where
-  -- "Bits 1 to 4: the cell number", up to bit 8: Table A.1's entry, which is that of the division
-  pub number-table : eightIn (formatIn s) (s .written) ≡ entryOf (s .state .number)
-  pub number-divided : eightIn (formatIn s) (s .written) ≡ dividedEntry (s .state .number)
-  -- "Bits 9 to 12: the second number, least significant first, where S is at least 12. Later bits are sent as zero"
-  pub second : 12 ≤ formatIn s .slots → secondOf (bitIn (formatIn s) (s .written)) ≡ S.secondNow (s .state) (s .indication)
-  pub later-zero : {k : ℕ} → 12 ≤ k → k < formatIn s .slots → bitIn (formatIn s) (s .written) k ≡ 0
-  -- the three protection bits of every slot, and "111" in an unused one
-  pub protected : {k : ℕ} → k < formatIn s .slots
-      → slotIn s k % 8
-      ≡ guardOf (formatIn s .«sample_bits») (sampleIn (formatIn s) (slotIn s k)) (ancillaryIn (formatIn s) (slotIn s k))
-  pub unused-protected : {k : ℕ} → S.usedNow (s .state) ≤ k → k < formatIn s .slots → slotIn s k % 8 ≡ 0b111
-
 -- "Cells, number protection, data protection and placement are document 01's"
-pub record SentCell (s : SendCall) : Type 0 where
-  pub whole : length (s .written) ≡ 48
-  -- "Order 0: channel c at time t is in slot t×C + c. Order 1: slot c×T + t."; "Sample runs hold time after time, channels side by side."
-  pub placed : {c t : ℕ} → c < s .state .channels → t < S.timesNow (s .state)
-      → Holds s (slotOf (eqb (s .state .order) 1) (s .state .channels) (S.timesNow (s .state)) c t)
-      (getD (s .samples) (t * s .state .channels + c) 0) (getD (s .ancillary) (t * s .state .channels + c) 0)
-  -- "slots with no channel are zero"
-  pub unused-zero : {k : ℕ} → S.usedNow (s .state) ≤ k → k < formatIn s .slots → Holds s k 0 0
-  pub overhead : (formatIn s .«overhead_bits» ≡ 0 → ⊥) → Overhead s
+abbrev pub IsDocument01's : SendCall → Type 0
+IsDocument01's s =
+    SentCell (formatIn s) (eqb (s .state .order) 1) (s .state .channels) (S.timesNow (s .state)) (s .state .number)
+    (S.secondNow (s .state) (s .indication)) (s .samples) (s .ancillary) (s .written)
 
 -- "a receiver in the sender's settings"
 pub record InSettings (st : Sender) (rc : Receiver) : Type 0 where

@@ -14,7 +14,8 @@ use Rattle.sender.specs.declared.Sender.{Sender}
 use Rattle.sender.specs.Sender as S
 use Rattle.receiver.specs.declared.Receiver.{Receiver}
 use Rattle.receiver.specs.Receiver as R
-use Rattle.line.specs.Demands.{SendCall, ReceiveCall, receiveTable}
+use Rattle.line.specs.Contracts.{SendCall, ReceiveCall}
+use Rattle.line.specs.Demands.{receiveTable}
 
 -- calls in a row from a state: each starts in the state that the one before it answered with, and is as the box promises
 unfoldable pub Row : {State Call : Type 0} → (Call → State) → (Call → State) → (Call → Type 0) → State → List Call → Type 0
