@@ -10,7 +10,22 @@ use borrow.Author.Tests.{le-ltb, ltb-true, ltb-false}
 use lib.Dec.{ltb}
 use Rattle.runs.specs.Test.{every}
 use Rattle.runs.proofs.Laws.{every-at, split}
-use Rattle.formats.specs.Formats.{lengthOf, sampleBits, ancillaryBits, overheadBits, isAmong, isValid, widthOf, slotsOf, Row, row, baseFormats, eleven, notYet, isBase}
+use Rattle.formats.specs.Formats.{
+  lengthOf,
+  sampleBits,
+  ancillaryBits,
+  overheadBits,
+  isAmong,
+  isValid,
+  widthOf,
+  slotsOf,
+  Row,
+  row,
+  baseFormats,
+  eleven,
+  notYet,
+  isBase,
+}
 use Rattle.formats.proofs.Laws.{beq-eq, among-below, below, beyond}
 
 -- a row of an octet by the rules

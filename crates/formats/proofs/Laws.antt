@@ -19,7 +19,25 @@ use Rattle.runs.proofs.Laws.{every-at, both-left, both-right, past, neither, sp
 use Rattle.formats.specs.declared.Format.{Format}
 use Rattle.formats.specs.declared.Settled.{Settled}
 use Rattle.formats.specs.Sound.{Sound, Limits}
-use Rattle.formats.specs.Formats.{lengthOf, sampleBits, ancillaryBits, overheadBits, isReserved, wholes, widthOf, slotsOf, eleven, isAmong, isBase, noFormat, formatOf, settingsRefusal, settingsOf, settled, unsettledBy}
+use Rattle.formats.specs.Formats.{
+  lengthOf,
+  sampleBits,
+  ancillaryBits,
+  overheadBits,
+  isReserved,
+  wholes,
+  widthOf,
+  slotsOf,
+  eleven,
+  isAmong,
+  isBase,
+  noFormat,
+  formatOf,
+  settingsRefusal,
+  settingsOf,
+  settled,
+  unsettledBy,
+}
 use Rattle.formats.specs.Code.{refusalBy, isUsual, usualWith}
 
 pub length-low : {code : ℕ} → code < 2 → lengthOf code ≡ 0

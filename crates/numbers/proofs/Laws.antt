@@ -20,7 +20,24 @@ use Rattle.runs.proofs.Arms.{NoneOf, orListed, others, singles}
 use Rattle.runs.proofs.Laws.{every-at, split, or-right}
 use Rattle.numbers.specs.declared.Found.{Found}
 use Rattle.numbers.specs.declared.Found.the-variants.{Number, Nothing}
-use Rattle.numbers.specs.Numbers.{tableA1, entryOf, turned, protectionOf, sevenOf, dividedEntry, placeIn, numberIn, foundOf, refusalOf, valueOf, wordBit, gathered, eightOf, secondOf, differenceOf}
+use Rattle.numbers.specs.Numbers.{
+  tableA1,
+  entryOf,
+  turned,
+  protectionOf,
+  sevenOf,
+  dividedEntry,
+  placeIn,
+  numberIn,
+  foundOf,
+  refusalOf,
+  valueOf,
+  wordBit,
+  gathered,
+  eightOf,
+  secondOf,
+  differenceOf,
+}
 use Rattle.numbers.specs.Code.{sequenceOf}
 
 -- each entry is what the division and the parity make of its number

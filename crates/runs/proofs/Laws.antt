@@ -5,7 +5,24 @@ use mathlib.Core.List.{List, [], _∷_, _++_}
 use mathlib.Core.Logic.{⊎-elim}
 use mathlib.Core.Path.{_≡_, refl, sym, _∙_, ap, subst}
 use Prim.Native.Nat.{ℕ, zero, suc, _+_, _*_, _/_, _%_, _-_, _^_, _≤_, _<_}
-use native.Mathlib.Nat.{suc-ne-zero, not-suc-le-zero, le-of-suc-le-suc, eq-or-lt-of-le, pow-suc, pow-zero, mul-one, one-mul, mod-eq-of-lt, mul-assoc, mul-comm, mul-suc, suc-mul, mod-one, mul-le-mul-right, zero-mul}
+use native.Mathlib.Nat.{
+  suc-ne-zero,
+  not-suc-le-zero,
+  le-of-suc-le-suc,
+  eq-or-lt-of-le,
+  pow-suc,
+  pow-zero,
+  mul-one,
+  one-mul,
+  mod-eq-of-lt,
+  mul-assoc,
+  mul-comm,
+  mul-suc,
+  suc-mul,
+  mod-one,
+  mul-le-mul-right,
+  zero-mul,
+}
 use native.Mathlib.Omega.{arith}
 use lib.Arith.{mod-mul}
 use lib.Pow.{pow-add, pow-lt}

@@ -16,12 +16,16 @@ returns c =
 
 returns-2 : tie.Need-returns-2
 returns-2 c =
-    let asked = c .before .before .before .before .before .args in
-    step-back (asked .step) (asked .used) (asked .at) (c .wrapping-sub-usize .result) (c .before .before .wrapping-add-usize .result)
-    (omega (arith, c .before .before .before .if1 .left, c .before .before .before .before .without .ensures))
+    let added = c .before .before in
+    let tested = added .before in
+    let start = tested .before .before in
+    step-back (start .args .step) (start .args .used) (start .args .at) (c .wrapping-sub-usize .result)
+    (added .wrapping-add-usize .result)
+    (omega (arith, tested .if1 .left, tested .before .without .ensures))
     (c .wrapping-sub-usize .ok)
-    (c .before .before .wrapping-add-usize .ensures)
-    (ap (λ (n : ℕ). (c .wrapping-sub-usize .result + n) % 2 ^ 64) (sym (c .before .without2 .ensures)) ∙ c .wrapping-sub-usize .ensures)
+    (added .wrapping-add-usize .ensures)
+    (ap (λ (n : ℕ). (c .wrapping-sub-usize .result + n) % 2 ^ 64) (sym (c .before .without2 .ensures))
+    ∙ c .wrapping-sub-usize .ensures)
 
 pub next-place-spec : {M : Type 1} → statement M
 next-place-spec =
