@@ -11,6 +11,8 @@ import sys
 crates = pathlib.Path('crates')
 mutants = pathlib.Path('tests/mutants')
 text = pathlib.Path('docs/PROMISES.md').read_text(encoding='utf-8')
+# a list's item is one line, however it is broken
+text = re.sub(r'\n +(?=[^\s-])', ' ', text)
 wrong = []
 named = 0
 

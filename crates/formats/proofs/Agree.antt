@@ -19,7 +19,7 @@ use Rattle.formats.specs.Formats.{
   isValid,
   widthOf,
   slotsOf,
-  Row,
+  FormatRow,
   row,
   baseFormats,
   eleven,
@@ -29,7 +29,7 @@ use Rattle.formats.specs.Formats.{
 use Rattle.formats.proofs.Laws.{beq-eq, among-below, below, beyond}
 
 -- a row of an octet by the rules
-abbrev ruledRows : List ℕ → List Row
+abbrev ruledRows : List ℕ → List FormatRow
 ruledRows [] = []
 ruledRows (octet ∷ octets) =
     row octet (ancillaryBits octet) (overheadBits octet) (sampleBits octet) (slotsOf octet) ∷ ruledRows octets

@@ -55,26 +55,26 @@ unfoldable pub slotsOf : ℕ → ℕ
 slotsOf octet = 48 / widthOf octet
 
 -- a row of the table
-pub record Row : Type 0 where
+pub record FormatRow : Type 0 where
   pub octet : ℕ
   pub ancillary : ℕ
   pub overhead : ℕ
   pub sample : ℕ
   pub slots : ℕ
 
-abbrev pub row : ℕ → ℕ → ℕ → ℕ → ℕ → Row
+abbrev pub row : ℕ → ℕ → ℕ → ℕ → ℕ → FormatRow
 row octet ancillary overhead sample slots =
     record { octet = octet; ancillary = ancillary; overhead = overhead; sample = sample; slots = slots }
 
 -- "Base formats, with S the slots in a cell": octet; ancillary, overhead and sample bits; S
-abbrev pub baseFormats : List Row
+abbrev pub baseFormats : List FormatRow
 baseFormats =
     row 0x02 0 0 8 48 ∷ row 0x04 0 0 16 24 ∷ row 0x06 0 0 24 16 ∷ row 0x08 0 0 32 12
     ∷ row 0x43 4 0 12 24 ∷ row 0x45 4 0 20 16 ∷ row 0x47 4 0 28 12
     ∷ row 0x52 4 4 8 24 ∷ row 0x54 4 4 16 16 ∷ row 0x56 4 4 24 12 ∷ row 0x5A 4 4 40 8
     ∷ []
 
-abbrev pub octetsIn : List Row → List ℕ
+abbrev pub octetsIn : List FormatRow → List ℕ
 octetsIn [] = []
 octetsIn (r ∷ rs) = r .octet ∷ octetsIn rs
 
