@@ -1,31 +1,16 @@
 -- The rules of the paper's first paragraph and the rows of its table say the same of every number, but for 13, 15 and 17 hex, which the
 -- rules take and the table doesn't have yet.
 -- Assumes nothing.
-use mathlib.Core.Bool.{Bool, _||_, Bool·beq}
+use mathlib.Core.Bool.{_||_, Bool·beq}
 use mathlib.Core.List.{List, [], _∷_}
-use mathlib.Core.Path.{_≡_, refl, sym, _∙_, ap₂}
+use mathlib.Core.Path.{_≡_, refl, sym, ap₂}
 use Prim.Native.Nat.{ℕ, _<_, _≤_}
 use native.Mathlib.Omega.{arith}
 use borrow.Author.Tests.{le-ltb, ltb-true, ltb-false}
 use lib.Dec.{ltb}
 use Rattle.runs.specs.Test.{every}
 use Rattle.runs.proofs.Laws.{every-at, split}
-use Rattle.formats.specs.Formats.{
-  lengthOf,
-  sampleBits,
-  ancillaryBits,
-  overheadBits,
-  isAmong,
-  isValid,
-  widthOf,
-  slotsOf,
-  Row,
-  row,
-  baseFormats,
-  eleven,
-  notYet,
-  isBase,
-}
+use Rattle.formats.specs.Formats.{lengthOf, sampleBits, ancillaryBits, overheadBits, isAmong, isValid, widthOf, slotsOf, Row, row, baseFormats, eleven, notYet, isBase}
 use Rattle.formats.proofs.Laws.{beq-eq, among-below, below, beyond}
 
 -- a row of an octet by the rules

@@ -2,8 +2,9 @@
 // log's start.
 ghost use mathlib.Core.Path.{_≡_};
 ghost use Prim.Native.Nat.{_<_, _≤_};
-ghost use Rattle.log.specs.Numbers.{numberAt, numberIn, behind, noNumber};
-ghost use Rattle.log.specs.Records.{headerOf, noHeader, recordAt, noRecord, placeAfter, cellAt, from};
+ghost use Rattle.log.specs.Code.{numberWithin, behind, from};
+ghost use Rattle.log.specs.Numbers.{numberAt, noNumber};
+ghost use Rattle.log.specs.Records.{headerOf, noHeader, recordAt, noRecord, placeAfter, cellAt};
 
 pub mod keep; // keep.rt: writing a log
 pub mod reader; // reader.rt: the reader that holds a lent log and a place
@@ -69,7 +70,7 @@ fn behind(group: u32, more: Number) -> Number
 // The number at a place, in at most so many groups.
 fn number_in(log: &[u8], place: usize, groups: u8) -> Number
     requires { ⌜ groups ≤ 3 ⌝ }
-    ensures { λ r. ⌜ r ≡ numberIn groups (now (log .entry)) place ⌝ }
+    ensures { λ r. ⌜ r ≡ numberWithin groups (now (log .entry)) place ⌝ }
 {
     if groups == 0 {
         return no_number();

@@ -14,7 +14,7 @@ use lib.ListN.{getD}
 use Rattle.runs.proofs.Laws.{split}
 use Rattle.status.specs.Bits.{bitOf, withBit}
 use Rattle.status.specs.Check.{checkCharacter}
-use Rattle.status.specs.Sender.{blockAfter, broughtBy, broughtOut, Octets, Sends}
+use Rattle.status.specs.Sender.{blockAfter, broughtBy, broughtOut, Octets, SendsBlock}
 use Rattle.status.specs.Step.{stepOf, isRefused, unfinished, finished, addedTo, fitOf, noBlock, bOf, cOf}
 use Rattle.status.specs.declared.step.Block.{Block}
 use Rattle.status.specs.declared.step.Stepped.{Stepped}
@@ -78,7 +78,7 @@ module _ (block : Block) (a m : ℕ) (a≤ : a ≤ 15) (m≤ : m ≤ 2) (bits≤
       }))
 
 -- ---- a sender's steps
-module _ (block : Block) (octets : List ℕ) (a m : ℕ → ℕ) (begun : block .bits ≤ 191) (sends : Sends octets a) (marks : (k : ℕ) → k < 192 → m k ≤ 2) where
+module _ (block : Block) (octets : List ℕ) (a m : ℕ → ℕ) (begun : block .bits ≤ 191) (sends : SendsBlock octets a) (marks : (k : ℕ) → k < 192 → m k ≤ 2) where
   goes-at : (n : ℕ) → n < 191 → Goes (blockAfter block a m n) (a n) (m n) (suc n)
   unfolding blockAfter
   goes-at zero h = beginning block (a 0) (m 0) (sends .within 0 (omega arith)) (marks 0 (omega arith)) begun (sends .first)
@@ -175,7 +175,7 @@ module _ (block : Block) (octets : List ℕ) (a m : ℕ → ℕ) (begun : block 
 -- A sender's C bits, B set on the first, with marks 0 or 1, whatever block was under assembly: the 192 steps bring out the 24
 -- octets, once, and fewer steps bring out nothing.
 pub brings-out : (block : Block) (octets : List ℕ) (ancillary mark : ℕ → ℕ)
-    → block .bits ≤ 191 → Octets octets → Sends octets ancillary → ((k : ℕ) → k < 192 → mark k ≤ 1)
+    → block .bits ≤ 191 → Octets octets → SendsBlock octets ancillary → ((k : ℕ) → k < 192 → mark k ≤ 1)
     → (broughtOut block ancillary mark 192 ≡ (fitOf octets, octets) ∷ []) × ((n : ℕ) → n < 192 → broughtOut block ancillary mark n ≡ [])
 brings-out block octets ancillary mark begun whole sends sound =
     let marks : (k : ℕ) → k < 192 → mark k ≤ 2 = λ k h. omega (arith, sound k h) in
@@ -183,7 +183,7 @@ brings-out block octets ancillary mark begun whole sends sound =
 
 -- The same with a mark 2 anywhere among them: the 192 steps bring out nothing.
 pub brings-none : (block : Block) (octets : List ℕ) (ancillary mark : ℕ → ℕ)
-    → block .bits ≤ 191 → Sends octets ancillary → ((k : ℕ) → k < 192 → mark k ≤ 2) → (j : ℕ) → j < 192 → mark j ≡ 2
+    → block .bits ≤ 191 → SendsBlock octets ancillary → ((k : ℕ) → k < 192 → mark k ≤ 2) → (j : ℕ) → j < 192 → mark j ≡ 2
     → broughtOut block ancillary mark 192 ≡ []
 brings-none block octets ancillary mark begun sends marks j h two = all-none block octets ancillary mark begun sends marks j two h
 
@@ -192,7 +192,7 @@ unfolding bitOf
 bit-lt octets k = omega arith
 
 -- There is such a sender for every block.
-pub sends-any : (octets : List ℕ) → Sends octets (λ k. cond (eqb k 0) 8 0 + bitOf octets k * 4)
+pub sends-any : (octets : List ℕ) → SendsBlock octets (λ k. cond (eqb k 0) 8 0 + bitOf octets k * 4)
 sends-any octets = record {
   within = λ k h. split (eqb k 0) (λ e. rw e (omega (arith, bit-lt octets k))) (λ e. rw e (omega (arith, bit-lt octets k)));
   first = omega (arith, bit-lt octets 0);

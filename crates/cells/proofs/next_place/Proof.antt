@@ -1,7 +1,7 @@
 -- `cells::next_place` meets its contract.
 -- Assumes nothing.
 use mathlib.Core.Path.{sym, ap, _∙_}
-use Prim.Native.Nat.{ℕ, _%_, _+_, _-_, _^_, _≤_, _<_}
+use Prim.Native.Nat.{ℕ, _%_, _+_, _^_}
 use native.Mathlib.Omega.{arith}
 use borrow.Author.Needs.{needs}
 use Rattle.cells.proofs.Places.{step-further, step-back}

@@ -7,7 +7,7 @@ use borrow.Author.Needs.{needs}
 use borrow.Fn.Kinds.{In}
 use borrow.Fn.PlainCycle.{Measures, is, falls, and}
 use Rattle.log.specs.declared.Number.{Number}
-use Rattle.log.specs.Numbers.{behind}
+use Rattle.log.specs.Code.{behind}
 use Rattle.log.proofs.Laws.{number-none, number-some-groups, number-cut, number-whole, number-more, value-below}
 use Rattle.log.proofs.number_in.Reads as number-in
 use Rattle.log.proofs.number_in.Kinds as number-in-kinds

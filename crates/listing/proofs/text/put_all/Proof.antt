@@ -4,7 +4,7 @@ use mathlib.Core.Path.{_≡_, refl, _∙_}
 use Prim.Native.Nat.{_≤_, _-_}
 use borrow.Author.Needs.{needs}
 use lib.ListN.{length, take}
-use Rattle.listing.specs.Text.{Puts}
+use Rattle.listing.specs.Code.{Puts}
 use Rattle.listing.proofs.Laws.{puts-none, puts-turn, puts-all}
 use Rattle.listing.proofs.text.put_all.Statement.{statement}
 use Rattle.listing.proofs.text.put_all.Tie as tie

@@ -9,7 +9,8 @@ use denote.Ref.{now}
 use denote.Slice.{ShrSlice, sliceTy, shr-slice-lawful}
 use denote.Triple.Spec.{tripleOf}
 use denote.Triple.Table.{cited}
-use Rattle.log.specs.Records.{recordAt, cellAt, from}
+use Rattle.log.specs.Code.{from}
+use Rattle.log.specs.Records.{recordAt, cellAt}
 use Rattle.log.proofs.Walks.{handed-on}
 use Rattle.log.proofs.read_cell as callee
 use Rattle.log.proofs.read_cell.Symbol as callee-def

@@ -1,4 +1,4 @@
--- `log::reader::onward` meets its contract: a walk of its MIR, by hand. `next_place` gives the next place; a reader is made anew of the
+-- `log::reader::past_record` meets its contract: a walk of its MIR, by hand. `next_place` gives the next place; a reader is made anew of the
 -- log and that place.
 -- Assumes nothing.
 use mathlib.Core.Path.{_≡_, refl, ap}
@@ -42,10 +42,10 @@ use Rattle.log.proofs.reader.Reader.Laws as T′
 use Rattle.log.proofs.Walks.{B, mach, stays-reader, Own, D, L, vd, twice, Asked, apart, Answers, to, Said, said, reader-ends}
 use Rattle.log.proofs.next_place.Symbol as callee-def
 use Rattle.log.proofs.next_place.Met as callee-thm
-use Rattle.log.proofs.reader.onward.Key.{name}
-use Rattle.log.proofs.reader.onward as onward
-use Rattle.log.proofs.reader.onward.Statement as stated
-use Rattle.log.proofs.reader.onward.Code as code
+use Rattle.log.proofs.reader.past_record.Key.{name}
+use Rattle.log.proofs.reader.past_record as past-record
+use Rattle.log.proofs.reader.past_record.Statement as stated
+use Rattle.log.proofs.reader.past_record.Code as code
 
 -- what the callee answers
 abbrev Place : Lfts 1 → RattleType
@@ -59,10 +59,10 @@ module _ {M : Type 1} (𝓤 : URA M) (H : Heap 𝓤) (A : Atoms 𝓤) (W : Given
   Callee = Answers 𝓤 H A W Place Found
 
   abbrev Held : SProp 𝓤
-  Held = onEntry 𝓤 H A onward.signature (κ, tt) (q, tt) (d, tt) (mach d ∷ [], tt)
+  Held = onEntry 𝓤 H A past-record.signature (κ, tt) (q, tt) (d, tt) (mach d ∷ [], tt)
 
   abbrev Post : Val → SProp 𝓤
-  Post = walkOf 𝓤 H A onward.ended (stays-reader (plain B)) (onward.clauses 𝓤 H A mem run) .post (((κ, tt), (q, tt), tt, (d, tt), (mach d ∷ [], tt)), tt)
+  Post = walkOf 𝓤 H A past-record.ended (stays-reader (plain B)) (past-record.clauses 𝓤 H A mem run) .post (((κ, tt), (q, tt), tt, (d, tt), (mach d ∷ [], tt)), tt)
 
   -- the reader that is handed back
   abbrev past : ℕ → Reader
@@ -71,7 +71,7 @@ module _ {M : Type 1} (𝓤 : URA M) (H : Heap 𝓤) (A : Atoms 𝓤) (W : Given
   exits : (n : ℕ) → n < 2 ^ 64 → Found (κ, tt) (d .log) (d .place) n → ent 𝓤 (⋆ 𝓤 H A ((‵ (flft κ q) ⊛ ‵ ftrue) ∷ ‵ (Own 𝓤 H A W κ q d) ∷ [])) (Post (mach (past n)))
   exits n fits e =
       qed W ((‵ (flft κ q) ⊛ ‵ ftrue) ∷ ‵ (Own 𝓤 H A W κ q d) ∷ []) ∵
-      suffices ! _ (ends-at 𝓤 H A onward.ended (stays-reader (plain B)) (onward.clauses 𝓤 H A mem run) W (((κ, tt), (q, tt), tt, (d, tt), (mach d ∷ [], tt)), tt) (mach (past n)) (past n) (tt, tt) (tt, tt)) $ says ! (refl, e) $
+      suffices ! _ (ends-at 𝓤 H A past-record.ended (stays-reader (plain B)) (past-record.clauses 𝓤 H A mem run) W (((κ, tt), (q, tt), tt, (d, tt), (mach d ∷ [], tt)), tt) (mach (past n)) (past n) (tt, tt) (tt, tt)) $ says ! (refl, e) $
       frame ! $ use1 W (‵ (Own 𝓤 H A W κ q d) ⊛ ‵ (Own 𝓤 H A W κ q d)) (twice 𝓤 H A W κ q d) $ split ! $ nothing ! $ move ! (1 ∷ 0 ∷ []) $ fjoin ! $ frame ! $
       -- [what the struct owns]: the number's facts take the place of the old place's
       owned ! usize (Is usize) (uint-makes 𝓤 H A W w64) n _ (refl, fits) $ move ! (1 ∷ 0 ∷ []) $ by ! (own-put 𝓤 H A W (D 𝓤 H A W κ q d) (L 𝓤 H A W κ q d) 1 (vd 𝓤 H A W κ q d) n (mach d))
@@ -95,9 +95,9 @@ module _ {M : Type 1} (𝓤 : URA M) (H : Heap 𝓤) (A : Atoms 𝓤) (W : Given
         returns ! (look ! 13 refl) $ forget ! 3 refl $ forget ! 5 refl $ forget ! 7 refl $ forget ! 9 refl $ forget ! 11 refl $ forget ! 13 refl $
         move ! (13 ∷ 14 ∷ []) $ free1 ! $ move ! (11 ∷ 12 ∷ []) $ free1 ! $ move ! (9 ∷ 10 ∷ []) $ free1 ! $ move ! (7 ∷ 8 ∷ []) $ free1 ! $ move ! (5 ∷ 6 ∷ []) $ free1 ! $ move ! (3 ∷ 4 ∷ []) $ free1 ! $ free0 ! $ drop ! $ by ! (exits r (is .1) e)))))))))))
 
-pub onward-spec : {M : Type 1} → stated.statement M
+pub past-record-spec : {M : Type 1} → stated.statement M
 unfolding code.routine
-onward-spec 𝓤 H 𝓜 𝓖 𝓡 =
-    reader-ends 𝓤 H 𝓜 𝓖 𝓡 code.env (plain B) name code.function (code.unfolded 𝓤 H 𝓜 𝓡) (onward.clauses 𝓤 H (𝓖 .A) (𝓜 .mem) (𝓡 .run))
+past-record-spec 𝓤 H 𝓜 𝓖 𝓡 =
+    reader-ends 𝓤 H 𝓜 𝓖 𝓡 code.env (plain B) name code.function (code.unfolded 𝓤 H 𝓜 𝓡) (past-record.clauses 𝓤 H (𝓖 .A) (𝓜 .mem) (𝓡 .run))
     (λ κ q d g. walk 𝓤 H (𝓖 .A) (givenOf 𝓤 H 𝓜 𝓖) (𝓜 .mem) (𝓡 .run) κ q d (tables 𝓤 H 𝓜 𝓡 code.env .C) (tables 𝓤 H 𝓜 𝓡 code.env .Λ) (calls-framed 𝓤 H 𝓜 𝓖 𝓡 code.env)
     (cited 𝓤 H (Answers 𝓤 H (𝓖 .A) (givenOf 𝓤 H 𝓜 𝓖) Place Found) 𝓜 𝓡 code.env callee-def.name callee-def.routine code.calls-log·next-place (callee-thm.met 𝓤 H 𝓜 𝓖 𝓡)))
