@@ -18,7 +18,7 @@ import sys
 
 ROOT = pathlib.Path(__file__).resolve().parent.parent / "crates"
 START = ROOT / "line/proofs/Demands.antt"
-CODE = {"Code", "Packing", "Unpacking", "Marks", "Sound"}
+CODE = {"Code", "Packing", "Unpacking", "Marks", "Settings", "Sound"}
 CONTRACTS = ("line", "Contracts")
 MOST = 750
 

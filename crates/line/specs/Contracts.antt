@@ -6,6 +6,7 @@ use mathlib.Core.List.{List}
 use mathlib.Core.Path.{_≡_}
 use Prim.Native.Nat.{ℕ}
 use Rattle.sender.specs.declared.Sender.{Sender}
+use Rattle.sender.specs.declared.Ready as SR
 use Rattle.sender.specs.declared.Sent.{Sent}
 use Rattle.sender.specs.Sender as S
 use Rattle.receiver.specs.declared.Receiver.{Receiver}
@@ -57,7 +58,7 @@ MeetsReceive c =
     (c .answer) (c .samples-after) (c .ancillary-after) (c .marks-after)
 
 -- `sender::opened` and `receiver::opened`
-abbrev pub MeetsOpenSender : ℕ → ℕ → ℕ → ℕ → Bool → ℕ → Sent → Type 0
+abbrev pub MeetsOpenSender : ℕ → ℕ → ℕ → ℕ → Bool → ℕ → SR.Ready → Type 0
 MeetsOpenSender octet channels order number wanted second r = r ≡ S.openedOf octet channels order number wanted second
 
 abbrev pub MeetsOpenReceiver : ℕ → ℕ → ℕ → Ready → Type 0
