@@ -26,7 +26,7 @@ use Rattle.formats.specs.Formats.{
   formatOf,
   settingsRefusal,
 }
-use Rattle.numbers.specs.Numbers.{tableA1, wordBit, gathered, placeIn, differenceOf}
+use Rattle.numbers.specs.Numbers.{tableA1, wordBit, gathered, placeIn, differenceOf, indicationRefused}
 use Rattle.guards.specs.Guards.{nineOf, tenGuard, guardOf}
 use Rattle.cells.specs.Cells.{
   overheadOf,
@@ -54,7 +54,7 @@ use Rattle.line.specs.Line.{Fate, dropped, spoiled, unaltered, Trip, cel
 
 -- every definition on the way down to the numbers
 opened : Unit {0}
-unfolding ones onesIn coefficients divided takenDown orElse tab joined octetsOf readOn over lengthOf sampleBits ancillaryBits overheadBits eleven isAmong isBase widthOf slotsOf formatOf settingsRefusal tableA1 wordBit gathered placeIn differenceOf nineOf tenGuard guardOf overheadOf subframeOf slotOctets cellOf subframeAt sampleIn ancillaryIn markIn bitIn eightIn secondIn entriesOf slotOf slotOfEntry entryOfSlot carried S.numbersRefused S.stateRefusal S.allBelow S.lengthsRefused S.valuesRefused S.indicationRefused S.sendRefusal S.secondNow S.after S.cellNow R.lastRefused R.stateRefusal R.lengthsRefused R.numberNow R.gapNow R.receiveRefusal R.entriesNow R.secondNow R.after R.receivedOf R.given InARow Fair longest arrivals Row WithRoom handed shown fromFirst allLost toLast Demand3
+unfolding ones onesIn coefficients divided takenDown orElse tab joined octetsOf readOn over lengthOf sampleBits ancillaryBits overheadBits eleven isAmong isBase widthOf slotsOf formatOf settingsRefusal tableA1 wordBit gathered placeIn differenceOf nineOf tenGuard guardOf overheadOf subframeOf slotOctets cellOf subframeAt sampleIn ancillaryIn markIn bitIn eightIn secondIn entriesOf slotOf slotOfEntry entryOfSlot carried S.numbersRefused S.stateRefusal S.allBelow S.lengthsRefused S.valuesRefused indicationRefused S.sendRefusal S.secondNow S.after S.cellNow R.lastRefused R.stateRefusal R.lengthsRefused R.numberNow R.gapNow R.receiveRefusal R.entriesNow R.secondNow R.after R.receivedOf R.given InARow Fair longest arrivals Row WithRoom handed shown fromFirst allLost toLast Demand3
 opened = tt
 
 -- Three equal runs of fifteen times C×T always have room.
