@@ -184,7 +184,8 @@ module _ (f : Format) (ancillary : List ℕ) {samples : List ℕ} {all : ℕ} (u
   unfolding valuesRefusedBy
   samples-refused far = rw (united .below (f .«sample_bits»), le-ltb all (2 ^ f .«sample_bits») (rw shifted at far))
 
-  pub ancillary-refused : {few as-wide : ℕ} → all < (1 * 2 ^ f .«sample_bits») % 2 ^ 64 → f .«ancillary_bits» ≤ 4 → Unites ancillary few → as-wide ≡ few
+  pub ancillary-refused : {few as-wide : ℕ} → all < (1 * 2 ^ f .«sample_bits») % 2 ^ 64 → f .«ancillary_bits» ≤ 4
+      → Unites ancillary few → as-wide ≡ few
       → leb ((1 * 2 ^ f .«ancillary_bits») % 2 ^ 64) as-wide ≡ valuesRefusedBy f samples ancillary
   unfolding valuesRefusedBy
   ancillary-refused {few} near to-4 united-few e =
@@ -351,13 +352,16 @@ module _ (c : Call) (cell : List ℕ) where
                 packs set (c .samples) (c .ancillary) (entryOf (state .number % 16)) second (entry-lt (mod-lt (state .number) (omega arith)))
                 (rw second-is (second-lt state (c .indication) (passed .second-to))) sequence-is filled
                 ∙ ap (λ (x : Settled). packed x (entryOf (state .number % 16)) second (c .samples) (c .ancillary)) set-is
-                ∙ ap₂ (λ (n m : ℕ). packed (settled (state .format) (state .channels) (state .order)) (entryOf n) m (c .samples) (c .ancillary)) low second-is
+                ∙ ap₂
+                (λ (n m : ℕ). packed (settled (state .format) (state .channels) (state .order)) (entryOf n) m (c .samples) (c .ancillary))
+                low second-is
                 ∙ rw (← none);
           }
 
   -- and the answer to it
   module _ {refusal : ℕ} {cell₁ : List ℕ} (writes : Writes (c .state) (c .indication) (c .samples) (c .ancillary) cell refusal cell₁) where
-    pub sends-refused : (refusal ≡ 0 → ⊥) → Sends (c .state) (c .indication) (c .samples) (c .ancillary) cell (record { refusal = refusal; state = state }) cell₁
+    pub sends-refused : (refusal ≡ 0 → ⊥)
+        → Sends (c .state) (c .indication) (c .samples) (c .ancillary) cell (record { refusal = refusal; state = state }) cell₁
     unfolding sentOf
     sends-refused some =
         record { answered = rw (← writes .refused, ne-eqb _ _ some); cell-after = writes .cell-after }

@@ -37,9 +37,13 @@ use Rattle.sender.proofs.opened.Reads as opened-reads
 use Rattle.sender.proofs.send.Kinds as send-kinds
 use Rattle.sender.proofs.send.Reads as send-reads
 
--- every definition on the way down to the numbers
+-- every definition on the way down to the numbers, those of a cell first
+unfoldable pub cell-unfolded : Unit {0}
+unfolding orElse joined octetsOf formats.unfolded numbers.unfolded guards.unfolded overheadOf subframeOf slotOctets cellOf entryOfSlot carried
+cell-unfolded = tt
+
 unfoldable pub unfolded : Unit {0}
-unfolding orElse joined octetsOf formats.unfolded numbers.unfolded guards.unfolded overheadOf subframeOf slotOctets cellOf entryOfSlot carried numbersRefused stateRefusal openedOf allBelow lengthsRefused valuesRefused sendRefusal secondNow after cellNow sentOf cellAfter
+unfolding cell-unfolded numbersRefused stateRefusal openedOf allBelow lengthsRefused valuesRefused sendRefusal secondNow after cellNow sentOf cellAfter
 unfolded = tt
 
 -- openings: format, C, order, first number, second number wanted or not, its start

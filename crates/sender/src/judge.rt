@@ -61,7 +61,7 @@ pub(crate) fn state_refusal(
     0
 }
 
-// The bits that any sample has, and those that any ancillary number has: they are below a power of two just where all the numbers
+// The bits that any sample has, and those that any ancillary number has. They are below a power of two just where all the numbers
 // are.
 struct AllBits {
     samples: u64,

@@ -100,7 +100,7 @@ fn write_any(
     0
 }
 
-// Writes the next cell by the way that is the call's, or gives its refusal.
+// Writes the next cell, or gives its refusal: a usual call goes through usual.rt, any other through pack.rt.
 fn write(
     state: Sender,
     indication: bool,

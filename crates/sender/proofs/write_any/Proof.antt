@@ -43,4 +43,5 @@ returns-2 c =
 pub write-any-spec : {M : Type 1} → statement M
 write-any-spec =
     tie.close
-    (tie.spec (search needs) (search needs) (search needs) (search needs) (λ c κs. search needs) returns (search needs) pack-requires (search needs) returns-2)
+    (tie.spec (search needs) (search needs) (search needs) (search needs) (λ c κs. search needs) returns (search needs)
+    pack-requires (search needs) returns-2)

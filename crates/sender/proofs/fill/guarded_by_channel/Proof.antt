@@ -7,7 +7,27 @@ use denote.Ref.{now}
 use lib.ListN as L
 use borrow.Author.Needs.{needs}
 use Rattle.sender.specs.Packing.{entryAt}
-use Rattle.sender.proofs.Filling.{Filling, filling-begun, filling-on, filling-done, bits-begun, bits-on, bits-from, bits-to, few-to, width-to, small-at, few-at, used-room, used-number, used-few, as-many, entry-first, entry-in, entry-on}
+use Rattle.sender.proofs.Filling.{
+  Filling,
+  filling-begun,
+  filling-on,
+  filling-done,
+  bits-begun,
+  bits-on,
+  bits-from,
+  bits-to,
+  few-to,
+  width-to,
+  small-at,
+  few-at,
+  used-room,
+  used-number,
+  used-few,
+  as-many,
+  entry-first,
+  entry-in,
+  entry-on,
+}
 use Rattle.sender.proofs.Subframes.{guarded-is}
 use Rattle.sender.proofs.fill.guarded_by_channel.Statement.{statement}
 use Rattle.sender.proofs.fill.guarded_by_channel.Tie as tie

@@ -7,7 +7,21 @@ use native.Mathlib.Omega.{arith}
 use denote.Ref.{now}
 use lib.ListN as L
 use borrow.Author.Needs.{needs}
-use Rattle.sender.proofs.Filling.{Filling, FillingBy, filling-begun, filling-on, filling-done, bits-to, few-to, width-to, small-at, few-at, used-room, used-number, in-order}
+use Rattle.sender.proofs.Filling.{
+  Filling,
+  FillingBy,
+  filling-begun,
+  filling-on,
+  filling-done,
+  bits-to,
+  few-to,
+  width-to,
+  small-at,
+  few-at,
+  used-room,
+  used-number,
+  in-order,
+}
 use Rattle.sender.proofs.Subframes.{plain-is, plain-fits}
 use Rattle.sender.proofs.fill.plain_in_order.Statement.{statement}
 use Rattle.sender.proofs.fill.plain_in_order.Tie as tie

@@ -7,7 +7,18 @@ use native.Mathlib.Omega.{arith}
 use denote.Ref.{now}
 use lib.ListN as L
 use borrow.Author.Needs.{needs}
-use Rattle.sender.proofs.Filling.{Filling, FillingBy, filling-begun, filling-on, filling-done, small-at, few-at, used-room, used-number, in-order}
+use Rattle.sender.proofs.Filling.{
+  Filling,
+  FillingBy,
+  filling-begun,
+  filling-on,
+  filling-done,
+  small-at,
+  few-at,
+  used-room,
+  used-number,
+  in-order,
+}
 use Rattle.sender.proofs.Subframes.{guard-of-24, guarded-is}
 use Rattle.sender.proofs.usual.fill_usual.Statement.{statement}
 use Rattle.sender.proofs.usual.fill_usual.Tie as tie
