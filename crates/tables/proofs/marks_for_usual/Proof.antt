@@ -1,11 +1,11 @@
--- `tables::marks_in_three` meets its contract: each arm by the test over its keys.
+-- `tables::marks_for_usual` meets its contract: each arm by the test over its keys.
 -- Assumes nothing.
 use Rattle.tables.proofs.Laws.{marks-in, marks-last}
-use Rattle.tables.proofs.marks_in_three.Statement.{statement}
-use Rattle.tables.proofs.marks_in_three.Tie as tie
+use Rattle.tables.proofs.marks_for_usual.Statement.{statement}
+use Rattle.tables.proofs.marks_for_usual.Tie as tie
 
-pub marks-in-three-spec : {M : Type 1} → statement M
-marks-in-three-spec =
+pub marks-for-usual-spec : {M : Type 1} → statement M
+marks-for-usual-spec =
     tie.close
     (tie.spec (λ c. marks-in 0 _ (c .match .keys1)) (λ c. marks-in 1 _ (c .match .keys2)) (λ c. marks-in 2 _ (c .match .keys3))
     (λ c. marks-in 3 _ (c .match .keys4)) (λ c. marks-in 4 _ (c .match .keys5)) (λ c. marks-in 5 _ (c .match .keys6))

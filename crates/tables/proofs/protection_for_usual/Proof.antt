@@ -1,14 +1,14 @@
--- `tables::guard_of` meets its contract: each arm by the test over its keys.
+-- `tables::protection_for_usual` meets its contract: each arm by the test over its keys.
 -- Assumes nothing.
 use mathlib.Core.Path.{sym}
 use native.Mathlib.Nat.{mod-lt}
 use native.Mathlib.Omega.{arith}
 use Rattle.tables.proofs.Classes.{of-nine, of-nine-last}
-use Rattle.tables.proofs.guard_of.Statement.{statement}
-use Rattle.tables.proofs.guard_of.Tie as tie
+use Rattle.tables.proofs.protection_for_usual.Statement.{statement}
+use Rattle.tables.proofs.protection_for_usual.Tie as tie
 
-pub guard-of-spec : {M : Type 1} → statement M
-guard-of-spec =
+pub protection-for-usual-spec : {M : Type 1} → statement M
+protection-for-usual-spec =
     tie.close
     (tie.spec (λ c. sym (of-nine 0 _ (c .match .keys1))) (λ c. sym (of-nine 1 _ (c .match .keys2)))
     (λ c. sym (of-nine 2 _ (c .match .keys3))) (λ c. sym (of-nine 3 _ (c .match .keys4)))
