@@ -11,7 +11,8 @@ use lib.Dec.{eqb}
 use lib.ListN.{length, replicate}
 use Rattle.runs.proofs.Laws.{split}
 use Rattle.formats.specs.declared.Format.{Format}
-use Rattle.formats.specs.Formats.{formatOf, timesOf, settingsRefusal, settled}
+use Rattle.formats.specs.Formats.{formatOf, timesOf, settingsRefusal}
+use Rattle.formats.specs.Settings.{settled}
 use Rattle.numbers.specs.declared.Found.the-variants.{Number}
 use Rattle.numbers.specs.Numbers.{entryOf, foundOf}
 use Rattle.numbers.proofs.Laws.{entry-lt, number-entry}

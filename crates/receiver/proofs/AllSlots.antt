@@ -12,7 +12,8 @@ use Rattle.runs.specs.Runs.{tab, over}
 use Rattle.runs.proofs.Filling.{Filled, begun}
 use Rattle.formats.specs.declared.Format.{Format}
 use Rattle.formats.specs.declared.Settled.{Settled}
-use Rattle.formats.specs.Formats.{formatOf, settingsOf}
+use Rattle.formats.specs.Formats.{formatOf}
+use Rattle.formats.specs.Settings.{settingsOf}
 use Rattle.formats.specs.Code.{isUsual, usualWith}
 use Rattle.formats.specs.Sound.{Sound}
 use Rattle.formats.proofs.Laws.{usual-is, usual-set}

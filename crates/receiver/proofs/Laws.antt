@@ -26,10 +26,9 @@ use Rattle.formats.specs.Formats.{
   widthOf,
   slotsOf,
   formatOf,
-  settingsOf,
   settingsRefusal,
-  settled,
 }
+use Rattle.formats.specs.Settings.{settingsOf, settled}
 use Rattle.formats.specs.Sound.{Limits}
 use Rattle.formats.proofs.Laws.{
   base-octet,

@@ -122,7 +122,7 @@ fn split(
         samples[i] = sample;
         ancillary[i] = (subframe / 16 % 16) as u8;
         let nine = (sample * 2) >> (format.sample_bits - 8);
-        marks[i] = ((tables::marks_of(nine) >> (subframe % 32)) % 2) as u8;
+        marks[i] = ((tables::marks_for_others(nine) >> (subframe % 32)) % 2) as u8;
         i += 1;
     }
 }

@@ -51,7 +51,7 @@ fn own_entries(cell: &[u8], at: usize, samples: &mut [u64], ancillary: &mut [u8]
     let mut i = 0;
     while i < 12 {
         let subframe = octets::in4(cell, i * 4);
-        let bits = tables::marks_at(subframe / 8388608);
+        let bits = tables::marks_for_usual(subframe / 8388608);
         enter(subframe, bits, at + i, samples, ancillary, marks);
         i += 1;
     }

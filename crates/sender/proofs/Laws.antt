@@ -17,7 +17,8 @@ use Rattle.runs.specs.Refusals.{orElse}
 use Rattle.runs.proofs.Laws.{split, first-refuses, then-later, past, past-both, neither, both-true, one-shifted}
 use Rattle.formats.specs.declared.Format.{Format}
 use Rattle.formats.specs.declared.Settled.{Settled}
-use Rattle.formats.specs.Formats.{formatOf, settingsOf, settingsRefusal, settled}
+use Rattle.formats.specs.Formats.{formatOf, settingsRefusal}
+use Rattle.formats.specs.Settings.{settingsOf, settled}
 use Rattle.formats.specs.Sound.{Limits}
 use Rattle.formats.proofs.Laws.{
   settled-of,

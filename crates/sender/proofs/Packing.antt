@@ -13,7 +13,7 @@ use Rattle.runs.proofs.Filling.{filled}
 use Rattle.runs.proofs.Laws.{length-joined, length-octets}
 use Rattle.formats.specs.declared.Format.{Format}
 use Rattle.formats.specs.declared.Settled.{Settled}
-use Rattle.formats.specs.Formats.{settingsOf}
+use Rattle.formats.specs.Settings.{settingsOf}
 use Rattle.formats.proofs.Laws.{usual-is, usual-set}
 use Rattle.numbers.specs.Numbers.{wordBit}
 use Rattle.numbers.specs.Code.{sequenceOf}

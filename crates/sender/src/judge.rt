@@ -2,7 +2,7 @@
 ghost use mathlib.Core.Path.{_≡_};
 ghost use Prim.Native.Nat.{_≤_};
 ghost use lib.ListN.{length};
-ghost use Rattle.formats.specs.Formats.{settingsOf};
+ghost use Rattle.formats.specs.Settings.{settingsOf};
 ghost use Rattle.sender.specs.Sender.{
   openState,
   stateRefusal,

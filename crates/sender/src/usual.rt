@@ -34,7 +34,7 @@ fn fill_usual(set: Settled, sequence: u64, samples: &[u64], ancillary: &[u8], ce
     while slot < samples.len() {
         let bit = (sequence >> slot) % 2;
         let sample = samples[slot];
-        let guard = tables::guard_of(sample / 32768);
+        let guard = tables::protection_for_usual(sample / 32768);
         let few = wide(ancillary[slot]);
         let number = subframe(24, 4, sample, guard, few, bit);
         put_four(cell, slot * 4, number);

@@ -38,7 +38,7 @@ loop-again c =
     parted-on (s .args .format) (s .pre .1) (s .pre .2) (s .args .at) (s .args .used) (now (s .args .samples)) (now (s .args .ancillary))
     (now (s .args .marks)) (s .pre .3) (l .loop .inv) (c .before .before .before .loop-test .taken)
     (mark-on-top (s .args .format) (s .pre .1) (s .pre .2) (getD (l .loop .samples) (l .loop .i) 0) (s .args .format .«sample_bits») _ refl
-    (s .pre .0 .sample-from) refl (c .marks-of .result) (c .marks-of .ensures .0))
+    (s .pre .0 .sample-from) refl (c .marks-for-others .result) (c .marks-for-others .ensures .0))
 
 returns : tie.Need-returns Inv-loop μ-loop
 returns c =

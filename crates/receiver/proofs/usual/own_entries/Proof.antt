@@ -42,7 +42,7 @@ loop-again c =
     (by-width fours (now (s .args .cell)) slot refl
     (c .before .before .before .before .before .before .before .before .before .before .before .in4 .ensures .0 ∙ four-read (now (s .args .cell)) (slot * 4) (omega (arith, s .pre .0, less))))
     (mark-on-top fours refl refl word 24 (word / 8388608) refl (omega arith)
-    (let on-top : word / 8388608 % 512 ≡ word / 256 * 2 / 65536 % 512 = omega arith in on-top) (c .before .before .before .before .before .before .before .before .before .before .marks-at .result) (c .before .before .before .before .before .before .before .before .before .before .marks-at .ensures .0))
+    (let on-top : word / 8388608 % 512 ≡ word / 256 * 2 / 65536 % 512 = omega arith in on-top) (c .before .before .before .before .before .before .before .before .before .before .marks-for-usual .result) (c .before .before .before .before .before .before .before .before .before .before .marks-for-usual .ensures .0))
     (c .before .before .before .before .before .before .enter .ensures)
 
 returns : tie.Need-returns Inv-loop μ-loop

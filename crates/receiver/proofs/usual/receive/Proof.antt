@@ -4,7 +4,7 @@ use mathlib.Core.Path.{_≡_, _∙_, sym}
 use Prim.Native.Nat.{_≤_}
 use native.Mathlib.Omega.{arith}
 use denote.Ref.{now}
-use Rattle.formats.specs.Formats.{settingsOf}
+use Rattle.formats.specs.Settings.{settingsOf}
 use Rattle.receiver.proofs.AllSlots.{usual-settles, usual-sound, usual-found, usual-room, usual-fills}
 use Rattle.receiver.proofs.Laws.{
   Call,

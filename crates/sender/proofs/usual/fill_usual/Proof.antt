@@ -51,7 +51,7 @@ subframe-requires c κs =
       omega arith,
       omega arith,
       small,
-      guard-of-24 small (c .before .before .guard-of .ensures),
+      guard-of-24 small (c .before .before .protection-for-usual .ensures),
       few-at (given .0) (given .2) (l .before .loop .slot) (c .wide .ensures .0),
       omega arith,
     )

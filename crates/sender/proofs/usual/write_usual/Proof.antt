@@ -3,7 +3,7 @@
 use mathlib.Core.Path.{_≡_, _∙_, sym, ap}
 use denote.Ref.{now}
 use lib.ListN.{length}
-use Rattle.formats.specs.Formats.{settingsOf}
+use Rattle.formats.specs.Settings.{settingsOf}
 use Rattle.sender.specs.Packing.{Packable, filledTo}
 use Rattle.sender.proofs.Laws.{Call, refusalOf, writes-refused, can-pack, writes-taken}
 use Rattle.sender.proofs.Packing.{all-filled, usual-settles, usual-in-order, usual-named, all-used}
