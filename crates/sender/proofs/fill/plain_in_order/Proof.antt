@@ -7,7 +7,8 @@ use native.Mathlib.Omega.{arith}
 use denote.Ref.{now}
 use lib.ListN as L
 use borrow.Author.Needs.{needs}
-use Rattle.sender.proofs.Filling.{Filling, FillingBy, filling-begun, filling-on, filling-done, few-to, used-room, put-ready, in-order, plain-room, plain-number}
+use Rattle.sender.proofs.Filling.{Filling, FillingBy, filling-begun, filling-on, filling-done}
+use Rattle.sender.proofs.Filling.{few-to, used-room, put-ready, in-order, plain-room, plain-number}
 use Rattle.sender.proofs.fill.plain_in_order.Statement.{statement}
 use Rattle.sender.proofs.fill.plain_in_order.Tie as tie
 

@@ -7,8 +7,8 @@ use native.Mathlib.Omega.{arith}
 use denote.Ref.{now}
 use lib.ListN as L
 use borrow.Author.Needs.{needs}
-use Rattle.sender.proofs.Filling.{Filling, FillingBy, filling-begun, filling-on, filling-done, small-at, used-room, put-ready, subframe-ready, in-order}
-use Rattle.sender.proofs.Filling.{guarded-number}
+use Rattle.sender.proofs.Filling.{Filling, FillingBy, filling-begun, filling-on, filling-done}
+use Rattle.sender.proofs.Filling.{small-at, used-room, put-ready, subframe-ready, in-order, guarded-number}
 use Rattle.sender.proofs.Subframes.{guard-of-24}
 use Rattle.sender.proofs.usual.fill_usual.Statement.{statement}
 use Rattle.sender.proofs.usual.fill_usual.Tie as tie
