@@ -17,6 +17,7 @@ use Rattle.runs.proofs.Laws.{length-octets}
 use Rattle.formats.specs.declared.Format.{Format}
 use Rattle.formats.specs.declared.Settled.{Settled}
 use Rattle.guards.specs.Guards.{nineOf, tenGuard, guardOf}
+use Rattle.guards.specs.Code.{sevenGuards}
 use Rattle.cells.specs.Cells.{overheadOf, subframeOf}
 use Rattle.cells.specs.Code.{stepOn}
 use Rattle.cells.specs.Placement.{entryOfSlot, carried}
@@ -24,6 +25,7 @@ use Rattle.cells.proofs.Placement.{entry-lt, entry-next}
 use Rattle.cells.proofs.Places.{step-fits}
 use Rattle.cells.proofs.Subframes.{slot-room}
 use Rattle.sender.specs.Packing.{Packable, Named, entryAt, slotBy, filledTo, idleNumber}
+use Rattle.sender.proofs.Subframes.{guarded-is, plain-is, plain-fits}
 
 -- a cell filled up to `slot`, of the slots before `end` that a loop fills
 pub record Filling (set : Settled) (sequence : ℕ) (samples ancillary cell₀ : List ℕ) (end : ℕ) (cell : List ℕ) (slot : ℕ) : Type 0 where
@@ -112,29 +114,33 @@ module _ {set : Settled} {samples ancillary : List ℕ} (p : Packable set sample
 
   -- what they bound, by the numbers that a call names
   module _ {sample-bits ancillary-bits overhead width : ℕ} (named : Named (set .format) sample-bits ancillary-bits overhead width) where
-    pub bits-from : 8 ≤ sample-bits
+    bits-from : 8 ≤ sample-bits
     bits-from = omega (arith, named .sample-is, p .limits .sound .sample-from)
 
-    pub bits-to : sample-bits ≤ 40
+    bits-to : sample-bits ≤ 40
     bits-to = omega (arith, named .sample-is, p .limits .sound .sample-to)
 
     pub few-to : ancillary-bits ≤ 4
     few-to = omega (arith, named .ancillary-is, p .limits .sound .ancillary-to)
 
-    pub width-to : width ≤ 6
+    width-to : width ≤ 6
     width-to = omega (arith, named .width-is, p .limits .sound .width-to)
 
     pub small-at : (i : ℕ) → getD samples i 0 < 2 ^ sample-bits
     small-at i = rw (named .sample-is) (p .small i)
 
-    pub few-at : (i : ℕ) {few : ℕ} → few ≡ getD ancillary i 0 → few < 2 ^ ancillary-bits
+    few-at : (i : ℕ) {few : ℕ} → few ≡ getD ancillary i 0 → few < 2 ^ ancillary-bits
     few-at i e = rw (e, named .ancillary-is) (p .few i)
 
     pub used-room : {slot : ℕ} → slot < length samples → slot * width + width ≤ 48
     used-room less = rw (named .width-is) (slot-room (p .limits .sound) (omega (arith, used-in)))
 
+    pub put-ready : {slot room whole : ℕ} → slot < length samples → room ≡ whole → whole ≡ 48
+        → (slot * width + width ≤ room) × (width ≤ 6)
+    put-ready less same all = (omega (arith, used-room less), width-to)
+
   -- a used slot's subframe
-  pub used-number : {slot at few bit sequencing number : ℕ} → at ≡ entryAt set slot → slot < length samples → few ≡ getD ancillary at 0
+  used-number : {slot at few bit sequencing number : ℕ} → at ≡ entryAt set slot → slot < length samples → few ≡ getD ancillary at 0
       → bit ≡ sequencing
       → number ≡ subframeOf (set .format) (getD samples at 0) few bit
       → number ≡ subframeOf (set .format) (carriedAt set samples slot) (carriedAt set ancillary slot) sequencing
@@ -145,6 +151,39 @@ module _ {set : Settled} {samples ancillary : List ℕ} (p : Packable set sample
       ∙ ap₂ (λ (a b : ℕ). subframeOf (set .format) (getD samples at 0) a b) few-is bit-is
       ∙ ap (λ (i : ℕ). subframeOf (set .format) (getD samples i 0) (getD ancillary i 0) sequencing) at-is
       ∙ rw (lt-ltb slot (set .channels * set .times) used)
+
+  -- what the loops' calls ask, and the number that they put, with overhead and without
+  module _ {sample-bits ancillary-bits width : ℕ} (named : Named (set .format) sample-bits ancillary-bits 4 width) where
+    pub guard-ready : {table : List ℕ} → table ≡ sevenGuards → (i : ℕ)
+        → (table ≡ sevenGuards) × (8 ≤ sample-bits) × (sample-bits ≤ 40) × (getD samples i 0 < 2 ^ sample-bits)
+    guard-ready same i = (same, bits-from named, bits-to named, small-at named i)
+
+    pub subframe-ready : (i : ℕ) {guard few bit : ℕ} → guard ≡ tenGuard (nineOf sample-bits (getD samples i 0) * 2)
+        → few ≡ getD ancillary i 0 → bit < 2
+        → (sample-bits ≤ 40) × (ancillary-bits ≤ 4) × (getD samples i 0 < 2 ^ sample-bits)
+        × (guard ≡ tenGuard (nineOf sample-bits (getD samples i 0) * 2)) × (few < 2 ^ ancillary-bits) × (bit < 2)
+    subframe-ready i guard-is few-is small-bit =
+        (bits-to named, few-to named, small-at named i, guard-is, few-at named i few-is, small-bit)
+
+    pub guarded-number : {slot at few bit sequencing number : ℕ} → at ≡ entryAt set slot → slot < length samples
+        → few ≡ getD ancillary at 0 → bit ≡ sequencing
+        → number ≡ (getD samples at 0 * 2 ^ ancillary-bits + few) * 16 + (bit * 8 + guardOf sample-bits (getD samples at 0) few)
+        → number ≡ subframeOf (set .format) (carriedAt set samples slot) (carriedAt set ancillary slot) sequencing
+    guarded-number {at = at} {few = few} {bit = bit} at-is less few-is bit-is e =
+        used-number at-is less few-is bit-is (e ∙ guarded-is (getD samples at 0) few bit named)
+
+  module _ {sample-bits ancillary-bits width : ℕ} (named : Named (set .format) sample-bits ancillary-bits 0 width) where
+    short : sample-bits + ancillary-bits ≤ 63
+    short = omega (arith, bits-to named, few-to named)
+
+    pub plain-room : (i : ℕ) {few : ℕ} → few ≡ getD ancillary i 0 → (getD samples i 0 * 2 ^ ancillary-bits) % 2 ^ 64 + few < 2 ^ 64
+    plain-room i {few} few-is = plain-fits (getD samples i 0) few 0 named short (small-at named i) (few-at named i few-is)
+
+    pub plain-number : (sequencing : ℕ) {slot at few : ℕ} → at ≡ entryAt set slot → slot < length samples → few ≡ getD ancillary at 0
+        → (getD samples at 0 * 2 ^ ancillary-bits) % 2 ^ 64 + few
+        ≡ subframeOf (set .format) (carriedAt set samples slot) (carriedAt set ancillary slot) sequencing
+    plain-number sequencing {at = at} {few = few} at-is less few-is =
+        used-number at-is less few-is refl (plain-is (getD samples at 0) few sequencing named short (small-at named at))
 
   -- and an unused one's
   pub idle-number : (bit : ℕ) {slot number : ℕ} → length samples ≤ slot → number ≡ idleNumber (set .format .«overhead_bits») bit

@@ -20,49 +20,14 @@ use Rattle.formats.specs.declared.Settled.{Settled}
 use Rattle.formats.specs.Formats.{formatOf, settingsRefusal}
 use Rattle.formats.specs.Settings.{settingsOf, settled}
 use Rattle.formats.specs.Sound.{Limits}
-use Rattle.formats.proofs.Laws.{
-  settled-of,
-  Settles,
-  settles-all,
-  settled-limits,
-  given-refuses,
-  given-none,
-  given-settled,
-  given-later,
-}
+use Rattle.formats.proofs.Laws.{settled-of, Settles, settles-all, settled-limits, given-refuses, given-none, given-settled, given-later}
 use Rattle.numbers.specs.Code.{sequenceOf}
 use Rattle.numbers.specs.Numbers.{entryOf, indicationRefused}
 use Rattle.numbers.proofs.Laws.{entry-lt}
 use Rattle.sender.specs.declared.Sender.{Sender}
-use Rattle.sender.specs.Packing.{
-  Packable,
-  packed,
-  filledCell,
-  numbersRefusedBy,
-  lengthsRefusedBy,
-  valuesRefusedBy,
-  Unites,
-  Writes,
-}
-use Rattle.sender.specs.Sender.{
-  formatNow,
-  usedNow,
-  zeroState,
-  openState,
-  openedOf,
-  numbersRefused,
-  stateRefusal,
-  allBelow,
-  lengthsRefused,
-  valuesRefused,
-  sendRefusal,
-  secondNow,
-  after,
-  cellNow,
-  sentOf,
-  cellAfter,
-  Sends,
-}
+use Rattle.sender.specs.Packing.{Packable, packed, filledCell, numbersRefusedBy, lengthsRefusedBy, valuesRefusedBy, Unites, Writes}
+use Rattle.sender.specs.Sender.{formatNow, usedNow, zeroState, openState, openedOf, numbersRefused, stateRefusal, allBelow, lengthsRefused}
+use Rattle.sender.specs.Sender.{valuesRefused, sendRefusal, secondNow, after, cellNow, sentOf, cellAfter, Sends}
 use Rattle.sender.proofs.Packing.{packs}
 
 -- checks 1 to 4, by the settings

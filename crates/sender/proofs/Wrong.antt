@@ -18,20 +18,8 @@ use Rattle.cells.specs.Placement.{entryOfSlot, carried}
 use Rattle.sender.specs.declared.Ready.{Ready}
 use Rattle.sender.specs.declared.Sender.{Sender}
 use Rattle.sender.specs.declared.Sent.{Sent}
-use Rattle.sender.specs.Sender.{
-  numbersRefused,
-  stateRefusal,
-  openedOf,
-  allBelow,
-  lengthsRefused,
-  valuesRefused,
-  sendRefusal,
-  secondNow,
-  after,
-  cellNow,
-  sentOf,
-  cellAfter,
-}
+use Rattle.sender.specs.Sender.{numbersRefused, stateRefusal, openedOf, allBelow, lengthsRefused, valuesRefused, sendRefusal, secondNow, after}
+use Rattle.sender.specs.Sender.{cellNow, sentOf, cellAfter}
 use Rattle.sender.proofs.opened.Kinds as opened-kinds
 use Rattle.sender.proofs.opened.Reads as opened-reads
 use Rattle.sender.proofs.send.Kinds as send-kinds

@@ -1,34 +1,14 @@
 -- `sender::fill::guarded_by_channel` meets its contract.
 -- Assumes nothing.
-use mathlib.Core.Path.{_≡_, refl, _∙_, ap}
+use mathlib.Core.Path.{_≡_, ap}
 use Prim.Native.Nat.{ℕ, _/_, _%_, _-_, _^_, _<_}
 use native.Mathlib.Omega.{arith}
 use denote.Ref.{now}
 use lib.ListN as L
 use borrow.Author.Needs.{needs}
 use Rattle.sender.specs.Packing.{entryAt}
-use Rattle.sender.proofs.Filling.{
-  Filling,
-  filling-begun,
-  filling-on,
-  filling-done,
-  bits-begun,
-  bits-on,
-  bits-from,
-  bits-to,
-  few-to,
-  width-to,
-  small-at,
-  few-at,
-  used-room,
-  used-number,
-  used-few,
-  as-many,
-  entry-first,
-  entry-in,
-  entry-on,
-}
-use Rattle.sender.proofs.Subframes.{guarded-is}
+use Rattle.sender.proofs.Filling.{Filling, filling-begun, filling-on, filling-done, bits-begun, bits-on, entry-first, entry-in, entry-on}
+use Rattle.sender.proofs.Filling.{used-few, as-many, guard-ready, subframe-ready, used-room, put-ready, guarded-number}
 use Rattle.sender.proofs.fill.guarded_by_channel.Statement.{statement}
 use Rattle.sender.proofs.fill.guarded_by_channel.Tie as tie
 
@@ -66,12 +46,7 @@ shared-slice-read-sample c = inside (c .before)
 
 guard-in-requires : tie.Need-guard-in-requires Inv-loop μ-loop
 guard-in-requires c κs =
-    let given = from (c .before) .pre in (
-      given .4,
-      bits-from (given .0) (given .2),
-      bits-to (given .0) (given .2),
-      small-at (given .0) (given .2) (c .before .before .loop .entry),
-    )
+    let given = from (c .before) .pre in guard-ready (given .0) (given .2) (given .4) (c .before .before .loop .entry)
 
 shared-slice-read-wide : tie.Need-shared-slice-read-wide Inv-loop μ-loop
 shared-slice-read-wide c =
@@ -80,14 +55,8 @@ shared-slice-read-wide c =
 subframe-requires : tie.Need-subframe-requires Inv-loop μ-loop
 subframe-requires c κs =
     let l = c .before .before .before .before in
-    let given = from l .pre in (
-      bits-to (given .0) (given .2),
-      few-to (given .0) (given .2),
-      small-at (given .0) (given .2) (l .before .loop .entry),
-      c .before .before .guard-in .ensures,
-      few-at (given .0) (given .2) (l .before .loop .entry) (c .wide .ensures .0),
-      omega arith,
-    )
+    let given = from l .pre in
+    subframe-ready (given .0) (given .2) (l .before .loop .entry) (c .before .before .guard-in .ensures) (c .wide .ensures .0) (omega arith)
 
 mul-put : tie.Need-mul-put Inv-loop μ-loop
 mul-put c =
@@ -97,10 +66,7 @@ mul-put c =
 put-requires : tie.Need-put-requires Inv-loop μ-loop
 put-requires c κs =
     let l = c .before .before .before .before .before .before in
-    let given = from l .pre in (
-      omega (arith, used-room (given .0) (given .2) (l .loop-test .taken), l .before .loop .inv .0 .same, given .3),
-      width-to (given .0) (given .2),
-    )
+    let given = from l .pre in put-ready (given .0) (given .2) (l .loop-test .taken) (l .before .loop .inv .0 .same) (given .3)
 
 loop-again : tie.Need-loop-again Inv-loop μ-loop
 loop-again c =
@@ -111,9 +77,8 @@ loop-again c =
     let few = c .before .before .before .before .before .before .wide in (
       filling-on (a .set) (a .sequence) (now (a .samples)) (now (a .ancillary)) (now (a .cell)) (here .inv .0)
           (l .loop-test .taken) (given .2 .width-is)
-          (used-number (given .0) (here .inv .1) (l .loop-test .taken) (few .ensures .0) (ap (λ (n : ℕ). n % 2) (here .inv .2))
-          (c .before .before .before .before .before .subframe .ensures
-          ∙ guarded-is (L.getD (now (a .samples)) (here .entry) 0) (few .result) (here .rest % 2) (given .2)))
+          (guarded-number (given .0) (given .2) (here .inv .1) (l .loop-test .taken) (few .ensures .0) (ap (λ (n : ℕ). n % 2) (here .inv .2))
+          (c .before .before .before .before .before .subframe .ensures))
           (c .before .before .before .put .ensures) (c .before .before .before .put .kept .0),
       entry-on (given .0) (given .1) (here .inv .1) (l .loop-test .taken) (c .next-place .ensures),
       bits-on (a .sequence) (here .slot) (here .inv .2),

@@ -1,31 +1,14 @@
 -- `sender::fill::guarded_in_order` meets its contract.
 -- Assumes nothing.
 use mathlib.Core.Bool.{false}
-use mathlib.Core.Path.{_≡_, refl, _∙_, ap}
+use mathlib.Core.Path.{_≡_, ap}
 use Prim.Native.Nat.{ℕ, _/_, _%_, _-_, _^_}
 use native.Mathlib.Omega.{arith}
 use denote.Ref.{now}
 use lib.ListN as L
 use borrow.Author.Needs.{needs}
-use Rattle.sender.proofs.Filling.{
-  Filling,
-  FillingBy,
-  filling-begun,
-  filling-on,
-  filling-done,
-  bits-begun,
-  bits-on,
-  bits-from,
-  bits-to,
-  few-to,
-  width-to,
-  small-at,
-  few-at,
-  used-room,
-  used-number,
-  in-order,
-}
-use Rattle.sender.proofs.Subframes.{guarded-is}
+use Rattle.sender.proofs.Filling.{Filling, FillingBy, filling-begun, filling-on, filling-done, bits-begun, bits-on, guard-ready}
+use Rattle.sender.proofs.Filling.{subframe-ready, used-room, put-ready, in-order, guarded-number}
 use Rattle.sender.proofs.fill.guarded_in_order.Statement.{statement}
 use Rattle.sender.proofs.fill.guarded_in_order.Tie as tie
 
@@ -54,24 +37,13 @@ loop-holds c =
 
 guard-in-requires : tie.Need-guard-in-requires Inv-loop μ-loop
 guard-in-requires c κs =
-    let given = from (c .before) .pre in (
-      given .4,
-      bits-from (given .0) (given .2),
-      bits-to (given .0) (given .2),
-      small-at (given .0) (given .2) (c .before .before .loop .slot),
-    )
+    let given = from (c .before) .pre in guard-ready (given .0) (given .2) (given .4) (c .before .before .loop .slot)
 
 subframe-requires : tie.Need-subframe-requires Inv-loop μ-loop
 subframe-requires c κs =
     let l = c .before .before .before .before in
-    let given = from l .pre in (
-      bits-to (given .0) (given .2),
-      few-to (given .0) (given .2),
-      small-at (given .0) (given .2) (l .before .loop .slot),
-      c .before .before .guard-in .ensures,
-      few-at (given .0) (given .2) (l .before .loop .slot) (c .wide .ensures .0),
-      omega arith,
-    )
+    let given = from l .pre in
+    subframe-ready (given .0) (given .2) (l .before .loop .slot) (c .before .before .guard-in .ensures) (c .wide .ensures .0) (omega arith)
 
 mul-put : tie.Need-mul-put Inv-loop μ-loop
 mul-put c =
@@ -81,10 +53,7 @@ mul-put c =
 put-requires : tie.Need-put-requires Inv-loop μ-loop
 put-requires c κs =
     let l = c .before .before .before .before .before .before in
-    let given = from l .pre in (
-      omega (arith, used-room (given .0) (given .2) (l .loop-test .taken), so-far l .same, given .3),
-      width-to (given .0) (given .2),
-    )
+    let given = from l .pre in put-ready (given .0) (given .2) (l .loop-test .taken) (so-far l .same) (given .3)
 
 loop-again : tie.Need-loop-again Inv-loop μ-loop
 loop-again c =
@@ -95,9 +64,8 @@ loop-again c =
       λ set p by named.
           filling-on set (a .sequence) (now (a .samples)) (now (a .ancillary)) (now (a .cell)) (here .inv .0 set p by named)
           (l .loop-test .taken) (named .width-is)
-          (used-number p (in-order p by) (l .loop-test .taken) (few .ensures .0) (ap (λ (n : ℕ). n % 2) (here .inv .1))
-          (c .before .before .before .before .subframe .ensures
-          ∙ guarded-is (L.getD (now (a .samples)) (here .slot) 0) (few .result) (here .rest % 2) named))
+          (guarded-number p named (in-order p by) (l .loop-test .taken) (few .ensures .0) (ap (λ (n : ℕ). n % 2) (here .inv .1))
+          (c .before .before .before .before .subframe .ensures))
           (c .before .before .put .ensures) (c .before .before .put .kept .0),
       bits-on (a .sequence) (here .slot) (here .inv .1),
     )

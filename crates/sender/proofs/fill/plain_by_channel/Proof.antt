@@ -1,31 +1,14 @@
 -- `sender::fill::plain_by_channel` meets its contract.
 -- Assumes nothing.
-use mathlib.Core.Path.{_≡_, refl, _∙_, ap}
-use Prim.Native.Nat.{ℕ, _*_, _+_, _/_, _%_, _-_, _^_, _<_, _≤_}
+use mathlib.Core.Path.{_≡_}
+use Prim.Native.Nat.{ℕ, _/_, _%_, _-_, _^_, _<_}
 use native.Mathlib.Omega.{arith}
 use denote.Ref.{now}
 use lib.ListN as L
 use borrow.Author.Needs.{needs}
 use Rattle.sender.specs.Packing.{entryAt}
-use Rattle.sender.proofs.Filling.{
-  Filling,
-  filling-begun,
-  filling-on,
-  filling-done,
-  bits-to,
-  few-to,
-  width-to,
-  small-at,
-  few-at,
-  used-room,
-  used-number,
-  used-few,
-  as-many,
-  entry-first,
-  entry-in,
-  entry-on,
-}
-use Rattle.sender.proofs.Subframes.{plain-is, plain-fits}
+use Rattle.sender.proofs.Filling.{Filling, filling-begun, filling-on, filling-done, entry-first, entry-in, entry-on, used-few}
+use Rattle.sender.proofs.Filling.{as-many, few-to, used-room, put-ready, plain-room, plain-number}
 use Rattle.sender.proofs.fill.plain_by_channel.Statement.{statement}
 use Rattle.sender.proofs.fill.plain_by_channel.Tie as tie
 
@@ -67,14 +50,7 @@ shl-number c = let given = from (c .before .before .before) .pre in omega (arith
 add-number : tie.Need-add-number Inv-loop μ-loop
 add-number c =
     let l = c .before .before .before in
-    let given = from l .pre in
-    let entry = l .before .loop .entry in
-    record {
-      fits =
-          plain-fits (L.getD (now (from l .args .samples)) entry 0) (c .before .wide .result) 0 (given .2)
-          (omega (arith, bits-to (given .0) (given .2), few-to (given .0) (given .2)))
-          (small-at (given .0) (given .2) entry) (few-at (given .0) (given .2) entry (c .before .wide .ensures .0));
-    }
+    record { fits = plain-room (from l .pre .0) (from l .pre .2) (l .before .loop .entry) (c .before .wide .ensures .0) }
 
 mul-put : tie.Need-mul-put Inv-loop μ-loop
 mul-put c =
@@ -84,10 +60,7 @@ mul-put c =
 put-requires : tie.Need-put-requires Inv-loop μ-loop
 put-requires c κs =
     let l = c .before .before .before .before in
-    let given = from l .pre in (
-      omega (arith, used-room (given .0) (given .2) (l .loop-test .taken), l .before .loop .inv .0 .same, given .3),
-      width-to (given .0) (given .2),
-    )
+    let given = from l .pre in put-ready (given .0) (given .2) (l .loop-test .taken) (l .before .loop .inv .0 .same) (given .3)
 
 loop-again : tie.Need-loop-again Inv-loop μ-loop
 loop-again c =
@@ -97,9 +70,7 @@ loop-again c =
     let here = l .before .loop in
     let few = c .before .before .before .before .before .before .wide in (
       filling-on (a .set) 0 (now (a .samples)) (now (a .ancillary)) (now (a .cell)) (here .inv .0) (l .loop-test .taken) (given .2 .width-is)
-          (used-number (given .0) (here .inv .1) (l .loop-test .taken) (few .ensures .0) refl
-          (plain-is (L.getD (now (a .samples)) (here .entry) 0) (few .result) (0 / 2 ^ here .slot % 2) (given .2)
-          (omega (arith, bits-to (given .0) (given .2), few-to (given .0) (given .2))) (small-at (given .0) (given .2) (here .entry))))
+          (plain-number (given .0) (given .2) (0 / 2 ^ here .slot % 2) (here .inv .1) (l .loop-test .taken) (few .ensures .0))
           (c .before .before .before .put .ensures) (c .before .before .before .put .kept .0),
       entry-on (given .0) (given .1) (here .inv .1) (l .loop-test .taken) (c .next-place .ensures),
     )

@@ -1,28 +1,14 @@
 -- `sender::fill::plain_in_order` meets its contract.
 -- Assumes nothing.
 use mathlib.Core.Bool.{false}
-use mathlib.Core.Path.{_≡_, refl, _∙_, ap}
-use Prim.Native.Nat.{ℕ, _*_, _+_, _/_, _%_, _-_, _^_, _<_, _≤_}
+use mathlib.Core.Path.{_≡_}
+use Prim.Native.Nat.{ℕ, _/_, _%_, _-_, _^_, _<_}
 use native.Mathlib.Omega.{arith}
 use denote.Ref.{now}
 use lib.ListN as L
 use borrow.Author.Needs.{needs}
-use Rattle.sender.proofs.Filling.{
-  Filling,
-  FillingBy,
-  filling-begun,
-  filling-on,
-  filling-done,
-  bits-to,
-  few-to,
-  width-to,
-  small-at,
-  few-at,
-  used-room,
-  used-number,
-  in-order,
-}
-use Rattle.sender.proofs.Subframes.{plain-is, plain-fits}
+use Rattle.sender.proofs.Filling.{Filling, FillingBy, filling-begun, filling-on, filling-done}
+use Rattle.sender.proofs.Filling.{few-to, used-room, put-ready, in-order, plain-room, plain-number}
 use Rattle.sender.proofs.fill.plain_in_order.Statement.{statement}
 use Rattle.sender.proofs.fill.plain_in_order.Tie as tie
 
@@ -53,14 +39,7 @@ shl-number c = let given = from (c .before .before .before) .pre in omega (arith
 add-number : tie.Need-add-number Inv-loop μ-loop
 add-number c =
     let l = c .before .before .before in
-    let given = from l .pre in
-    let slot = l .before .loop .slot in
-    record {
-      fits =
-          plain-fits (L.getD (now (from l .args .samples)) slot 0) (c .before .wide .result) 0 (given .2)
-          (omega (arith, bits-to (given .0) (given .2), few-to (given .0) (given .2)))
-          (small-at (given .0) (given .2) slot) (few-at (given .0) (given .2) slot (c .before .wide .ensures .0));
-    }
+    record { fits = plain-room (from l .pre .0) (from l .pre .2) (l .before .loop .slot) (c .before .wide .ensures .0) }
 
 mul-put : tie.Need-mul-put Inv-loop μ-loop
 mul-put c =
@@ -70,10 +49,7 @@ mul-put c =
 put-requires : tie.Need-put-requires Inv-loop μ-loop
 put-requires c κs =
     let l = c .before .before .before .before in
-    let given = from l .pre in (
-      omega (arith, used-room (given .0) (given .2) (l .loop-test .taken), so-far l .same, given .3),
-      width-to (given .0) (given .2),
-    )
+    let given = from l .pre in put-ready (given .0) (given .2) (l .loop-test .taken) (so-far l .same) (given .3)
 
 loop-again : tie.Need-loop-again Inv-loop μ-loop
 loop-again c =
@@ -84,9 +60,7 @@ loop-again c =
     λ sample-bits set p by named.
     filling-on set 0 (now (a .samples)) (now (a .ancillary)) (now (a .cell)) (here .inv sample-bits set p by named)
     (l .loop-test .taken) (named .width-is)
-    (used-number p (in-order p by) (l .loop-test .taken) (few .ensures .0) refl
-    (plain-is (L.getD (now (a .samples)) (here .slot) 0) (few .result) (0 / 2 ^ here .slot % 2) named
-    (omega (arith, bits-to p named, few-to p named)) (small-at p named (here .slot))))
+    (plain-number p named (0 / 2 ^ here .slot % 2) (in-order p by) (l .loop-test .taken) (few .ensures .0))
     (c .before .before .put .ensures) (c .before .before .put .kept .0)
 
 ended : (c : tie.After-loop Inv-loop μ-loop)

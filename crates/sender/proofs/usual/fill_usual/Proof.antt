@@ -1,25 +1,15 @@
 -- `sender::usual::fill_usual` meets its contract.
 -- Assumes nothing.
 use mathlib.Core.Bool.{false}
-use mathlib.Core.Path.{_≡_, refl, _∙_, ap}
+use mathlib.Core.Path.{_≡_, refl}
 use Prim.Native.Nat.{ℕ, _/_, _%_, _-_, _^_}
 use native.Mathlib.Omega.{arith}
 use denote.Ref.{now}
 use lib.ListN as L
 use borrow.Author.Needs.{needs}
-use Rattle.sender.proofs.Filling.{
-  Filling,
-  FillingBy,
-  filling-begun,
-  filling-on,
-  filling-done,
-  small-at,
-  few-at,
-  used-room,
-  used-number,
-  in-order,
-}
-use Rattle.sender.proofs.Subframes.{guard-of-24, guarded-is}
+use Rattle.sender.proofs.Filling.{Filling, FillingBy, filling-begun, filling-on, filling-done}
+use Rattle.sender.proofs.Filling.{small-at, used-room, put-ready, subframe-ready, in-order, guarded-number}
+use Rattle.sender.proofs.Subframes.{guard-of-24}
 use Rattle.sender.proofs.usual.fill_usual.Statement.{statement}
 use Rattle.sender.proofs.usual.fill_usual.Tie as tie
 
@@ -47,6 +37,7 @@ subframe-requires : tie.Need-subframe-requires Inv-loop μ-loop
 subframe-requires c κs =
     let l = c .before .before .before .before in
     let given = from l .pre in
+<<<<<<< HEAD
     let small = small-at (given .0) (given .2) (l .before .loop .slot) in (
       omega arith,
       omega arith,
@@ -55,6 +46,11 @@ subframe-requires c κs =
       few-at (given .0) (given .2) (l .before .loop .slot) (c .wide .ensures .0),
       omega arith,
     )
+=======
+    let slot = l .before .loop .slot in
+    subframe-ready (given .0) (given .2) slot (guard-of-24 (small-at (given .0) (given .2) slot) (c .before .before .guard-of .ensures))
+    (c .wide .ensures .0) (omega arith)
+>>>>>>> sender
 
 mul-put-four : tie.Need-mul-put-four Inv-loop μ-loop
 mul-put-four c =
@@ -64,8 +60,7 @@ mul-put-four c =
 put-four-requires : tie.Need-put-four-requires Inv-loop μ-loop
 put-four-requires c κs =
     let l = c .before .before .before .before .before .before in
-    let given = from l .pre in
-    omega (arith, used-room (given .0) (given .2) (l .loop-test .taken), so-far l .same, given .3)
+    let given = from l .pre in put-ready (given .0) (given .2) (l .loop-test .taken) (so-far l .same) (given .3) .0
 
 loop-again : tie.Need-loop-again Inv-loop μ-loop
 loop-again c =
@@ -76,9 +71,7 @@ loop-again c =
     λ set p by named.
     filling-on set (a .sequence) (now (a .samples)) (now (a .ancillary)) (now (a .cell)) (here .inv set p by named)
     (l .loop-test .taken) (named .width-is)
-    (used-number p (in-order p by) (l .loop-test .taken) (few .ensures .0) refl
-    (c .before .before .before .before .subframe .ensures
-    ∙ guarded-is (L.getD (now (a .samples)) (here .slot) 0) (few .result) (a .sequence / 2 ^ here .slot % 2) named))
+    (guarded-number p named (in-order p by) (l .loop-test .taken) (few .ensures .0) refl (c .before .before .before .before .subframe .ensures))
     (c .before .before .put-four .ensures) (c .before .before .put-four .kept .0)
 
 ended : (c : tie.After-loop Inv-loop μ-loop)
