@@ -8,7 +8,9 @@ use lib.ListN.{length}
 use Rattle.runs.specs.Runs.{over}
 use Rattle.formats.specs.Formats.{formatOf}
 use Rattle.sender.specs.Sender as S
+use Rattle.cells.specs.Cells.{secondIn}
 use Rattle.receiver.specs.Receiver as R
+use Rattle.receiver.proofs.Laws.{second-over, number-found}
 use Rattle.line.specs.Contracts.{SendCall, MeetsSend, ReceiveCall, MeetsReceive}
 use Rattle.line.specs.Demands.{sendTable, receiveTable, Refuses, SentNothing, ReceivedNothing, InSettings, formatIn, GivesBack, Tells}
 use Rattle.line.proofs.Cells.{
@@ -17,7 +19,7 @@ use Rattle.line.proofs.Cells.{
   samples-there,
   ancillary-there,
   marks-there,
-  number-sent,
+  found-arrived,
   second-sent,
   no-second-sent,
 }
@@ -34,7 +36,7 @@ sends-or-nothing s meets =
     }
 
 pub receives-or-nothing : (r : ReceiveCall) → MeetsReceive r → Refuses (r .answer .refusal) (receiveTable r) (ReceivedNothing r)
-unfolding R.receivedOf R.given over
+unfolding R.receivedOf R.entriesGiven over
 receives-or-nothing r meets =
     record {
       by-the-table = received-refusal r meets;
@@ -55,9 +57,9 @@ receives-or-nothing r meets =
 
 -- what a call that is taken gives a run
 given-there : (r : ReceiveCall) (run : List ℕ) {entries there after : List ℕ} → receiveTable r ≡ 0
-    → after ≡ over (R.given (r .state) (r .cell) (length (r .samples)) (length (r .ancillary)) (length (r .marks)) entries) run
+    → after ≡ over (R.entriesGiven (r .state) (r .cell) (length (r .samples)) (length (r .ancillary)) (length (r .marks)) entries) run
     → entries ≡ there → after ≡ over there run
-unfolding R.given
+unfolding R.entriesGiven
 given-there r run taken left e = left ∙ rw taken (ap (λ new. over new run) e)
 
 -- a cell that was sent, unaltered at a receiver that takes it
@@ -85,9 +87,13 @@ module _ (s : SendCall) (r : ReceiveCall) (sends : MeetsSend s) (sent : s .answe
               (given-there r (r .marks) taken (receives .marks-after) (marks-there s sends sent r same arrived));
         }
 
-    second-told : r .answer .second ≡ R.secondNow (formatIn s) (s .written)
+    second-told : (formatIn s .«overhead_bits» ≡ 0 → ⊥) → r .answer .second ≡ secondIn (formatIn s) (s .written)
     unfolding R.receivedOf
-    second-told = ap (λ x. x .second) (receives .answered) ∙ (rw taken) ∙ (λ i. R.secondNow (formatOf (same .format i)) (arrived i))
+    second-told with-overhead =
+        ap (λ x. x .second) (receives .answered)
+        ∙ (rw taken)
+        ∙ second-over (r .state) (r .cell) (ap formatOf (same .format)) with-overhead
+        ∙ ap (secondIn (formatIn s)) arrived
 
     pub tells : (formatIn s .«overhead_bits» ≡ 0 → ⊥) → Tells s r
     unfolding R.receivedOf
@@ -96,8 +102,7 @@ module _ (s : SendCall) (r : ReceiveCall) (sends : MeetsSend s) (sent : s .answe
           number-told =
               ap (λ x. x .number) (receives .answered)
               ∙ (rw taken)
-              ∙ (λ i. R.numberNow (formatOf (same .format i)) (arrived i))
-              ∙ number-sent s sends sent with-overhead;
-          second-told = λ enough. second-told ∙ second-sent s sends sent with-overhead enough;
-          no-second-told = λ less. second-told ∙ no-second-sent s sends sent with-overhead less;
+              ∙ sym (number-found (r .state) (r .cell) (sym (found-arrived s sends sent with-overhead (r .state) same arrived)));
+          second-told = λ enough. second-told with-overhead ∙ second-sent s sends sent with-overhead enough;
+          no-second-told = λ less. second-told with-overhead ∙ no-second-sent s sends sent with-overhead less;
         }

@@ -12,9 +12,10 @@ use lib.ListN.{length, replicate}
 use Rattle.runs.proofs.Laws.{split}
 use Rattle.formats.specs.declared.Format.{Format}
 use Rattle.formats.specs.Formats.{formatOf, timesOf, settingsRefusal, settled}
-use Rattle.numbers.specs.Numbers.{entryOf, numberIn}
-use Rattle.numbers.proofs.Laws.{entry-lt, number-entry}
-use Rattle.cells.specs.Cells.{sampleIn, ancillaryIn, markIn, eightIn, entriesOf}
+use Rattle.numbers.specs.declared.Found.the-variants.{Number}
+use Rattle.numbers.specs.Numbers.{entryOf, foundOf}
+use Rattle.numbers.proofs.Laws.{entry-lt, entry-found}
+use Rattle.cells.specs.Cells.{sampleIn, ancillaryIn, markIn, eightIn, secondIn, entriesOf}
 use Rattle.cells.proofs.Sent.{sent-cell}
 use Rattle.cells.proofs.Whole.{cell-length, eight-in-back, second-in-back, second-in-none, samples-back, ancillaries-back, marks-back}
 use Rattle.sender.specs.declared.Sender.{Sender}
@@ -23,6 +24,7 @@ use Rattle.sender.specs.Sender as S
 use Rattle.sender.proofs.Laws as SL
 use Rattle.receiver.specs.declared.Receiver.{Receiver}
 use Rattle.receiver.specs.Receiver as R
+use Rattle.receiver.proofs.Laws.{found-over}
 use Rattle.line.specs.Contracts.{SendCall, MeetsSend, ReceiveCall, MeetsReceive}
 use Rattle.line.specs.Demands.{sendTable, receiveTable, InSettings, formatIn, IsDocument01's}
 
@@ -100,25 +102,30 @@ module _ (s : SendCall) (meets : MeetsSend s) (sent : s .answer .refusal ≡ 0) 
         ∙ eight-in-back (fits .limits .sound) _ (s .state .channels) (S.timesNow (s .state)) _ _ (s .samples) (s .ancillary)
         (fits .small) (fits .few) with-overhead (entry-lt number-lt)
 
-    pub number-sent : R.numberNow (formatIn s) (s .written) ≡ s .state .number
-    unfolding R.numberNow
-    number-sent = rw (ne-eqb _ 0 with-overhead) (ap numberIn eight-sent ∙ number-entry number-lt)
+    pub found-sent : foundOf (eightIn (formatIn s) (s .written)) ≡ Number (s .state .number)
+    found-sent = ap foundOf eight-sent ∙ entry-found number-lt
 
-    pub second-sent : 12 ≤ formatIn s .slots → R.secondNow (formatIn s) (s .written) ≡ S.secondNow (s .state) (s .indication)
-    unfolding S.cellNow R.secondNow
+    -- a receiver in the sender's settings finds the cell's number
+    pub found-arrived : (rc : Receiver) → InSettings (s .state) rc → {cell : List ℕ} → cell ≡ s .written
+        → R.foundNow rc cell ≡ Number (s .state .number)
+    found-arrived rc same {cell} arrived =
+        found-over rc cell (ap formatOf (same .format)) with-overhead
+        ∙ ap (λ (came : List ℕ). foundOf (eightIn (formatIn s) came)) arrived
+        ∙ found-sent
+
+    pub second-sent : 12 ≤ formatIn s .slots → secondIn (formatIn s) (s .written) ≡ S.secondNow (s .state) (s .indication)
+    unfolding S.cellNow
     second-sent enough =
-        ap (R.secondNow (formatIn s)) written-is
-        ∙ rw (ne-eqb _ 0 with-overhead)
-        (second-in-back (fits .limits .sound) _ (s .state .channels) (S.timesNow (s .state)) _ _ (s .samples) (s .ancillary)
-        (fits .small) (fits .few) with-overhead enough second-small)
+        ap (secondIn (formatIn s)) written-is
+        ∙ second-in-back (fits .limits .sound) _ (s .state .channels) (S.timesNow (s .state)) _ _ (s .samples) (s .ancillary)
+        (fits .small) (fits .few) with-overhead enough second-small
 
-    pub no-second-sent : formatIn s .slots < 12 → R.secondNow (formatIn s) (s .written) ≡ 0
-    unfolding S.cellNow R.secondNow
+    pub no-second-sent : formatIn s .slots < 12 → secondIn (formatIn s) (s .written) ≡ 0
+    unfolding S.cellNow
     no-second-sent less =
-        ap (R.secondNow (formatIn s)) written-is
-        ∙ rw (ne-eqb _ 0 with-overhead)
-        (second-in-none (fits .limits .sound) _ (s .state .channels) (S.timesNow (s .state)) _ _ (s .samples) (s .ancillary)
-        (fits .small) (fits .few) with-overhead less)
+        ap (secondIn (formatIn s)) written-is
+        ∙ second-in-none (fits .limits .sound) _ (s .state .channels) (S.timesNow (s .state)) _ _ (s .samples) (s .ancillary)
+        (fits .small) (fits .few) with-overhead less
 
   -- at a receiver in the sender's settings
   module _ (r : ReceiveCall) (same : InSettings (s .state) (r .state)) (arrived : r .cell ≡ s .written) where

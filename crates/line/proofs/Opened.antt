@@ -23,7 +23,7 @@ unfolding F.lengthOf F.sampleBits F.ancillaryBits F.overheadBits F.eleven F.isAm
 formats = tt
 
 numbers : Unit {0}
-unfolding N.tableA1 N.turned N.protectionOf N.sevenOf N.dividedEntry N.wordBit N.gathered N.placeIn N.differenceOf nineOf tenGuard guardOf
+unfolding N.tableA1 N.turned N.protectionOf N.sevenOf N.dividedEntry N.wordBit N.gathered N.placeIn N.differenceOf nineOf tenGuard guardOf N.foundOf N.refusalOf N.valueOf
 numbers = tt
 
 cells : Unit {0}
@@ -43,7 +43,7 @@ unfolding S.cellNow S.sentOf S.cellAfter
 sent = tt
 
 receiver : Unit {0}
-unfolding R.lastRefused R.stateRefusal R.lengthsRefused R.numberNow R.gapNow R.receiveRefusal R.entriesNow R.secondNow R.after R.receivedOf R.given
+unfolding R.lastRefused R.stateRefusal R.lengthsRefused R.foundNow R.gapOf R.receiveRefusal R.entriesNow R.secondNow R.after R.receivedOf R.entriesGiven
 receiver = tt
 
 line : Unit {0}

@@ -15,7 +15,9 @@ use Rattle.formats.specs.Formats.{formatOf}
 use Rattle.sender.specs.declared.Sender.{Sender}
 use Rattle.sender.specs.Sender as S
 use Rattle.receiver.specs.declared.Receiver.{Receiver}
+use Rattle.numbers.specs.declared.Found.the-variants.{Number}
 use Rattle.receiver.specs.Receiver as R
+use Rattle.receiver.proofs.Laws.{gap-by, number-found}
 use Rattle.line.specs.Contracts.{SendCall, MeetsSend, ReceiveCall, MeetsReceive}
 use Rattle.line.specs.Demands.{InSettings, formatIn}
 use Rattle.line.specs.Line.{
@@ -114,20 +116,25 @@ and-false : (b : Bool) → b && false ≡ false
 and-false true = refl
 and-false false = refl
 
+overhead-there : {st : Sender} {rc : Receiver} {since : Since} → Beside st rc since
+    → eqb (formatOf (rc .format) .«overhead_bits») 0 ≡ false
+overhead-there beside =
+    ap (λ (octet : ℕ). eqb (formatOf octet .«overhead_bits») 0) (beside .same .format) ∙ ne-eqb _ 0 (beside .with-overhead)
+
 last-passes : {st : Sender} {rc : Receiver} (since : Since) → Beside st rc since
-    → R.lastRefused (formatOf (st .format)) (rc .started) (rc .last) ≡ false
+    → R.lastRefused rc ≡ false
 unfolding R.lastRefused
 last-passes never beside = rw (beside .stands .1)
 last-passes {rc = rc} (after k waiting) beside =
-    rw (le-ltb _ _ (beside .stands .1), beside .stands .0, ne-eqb _ 0 (beside .with-overhead)) (and-false (not (eqb (rc .last) 0)))
+    rw (le-ltb _ _ (beside .stands .1), beside .stands .0, overhead-there beside) (and-false (not (eqb (rc .last) 0)))
 
 gap-is : {st : Sender} {rc : Receiver} (since : Since) → Beside st rc since → lostSince since ≤ 14
-    → R.gapNow (formatOf (st .format)) (rc .started) (rc .last) (st .number) ≡ suc (lostSince since)
-unfolding R.gapNow
-gap-is never beside few = rw (beside .stands .0)
-gap-is {rc = rc} (after k waiting) beside few =
-    rw (beside .stands .0, ne-eqb _ 0 (beside .with-overhead), beside .stands .2)
-    (difference-after (rc .last) k (beside .stands .1) few ∙ add-one k)
+    → (cell : List ℕ) → R.foundNow rc cell ≡ Number (st .number) → R.gapOf rc cell ≡ suc (lostSince since)
+gap-is {rc = rc} never beside few cell found = gap-by rc cell (beside .stands .0) refl refl
+gap-is {rc = rc} (after k waiting) beside few cell found =
+    gap-by rc cell (beside .stands .0) (overhead-there beside) (sym (number-found rc cell (sym found)) ∙ beside .stands .2)
+    ∙ difference-after (rc .last) k (beside .stands .1) few
+    ∙ add-one k
 
 -- the places that wait are those of lost cells
 waiting-is : {st : Sender} {rc : Receiver} (since : Since) → Beside st rc since

@@ -17,8 +17,9 @@ use Rattle.runs.specs.Runs.{over}
 use Rattle.runs.specs.Refusals.{orElse}
 use Rattle.runs.proofs.Laws.{split, then-later}
 use Rattle.formats.specs.Formats.{formatOf, settingsRefusal}
-use Rattle.numbers.specs.Numbers.{entryOf, numberIn, differenceOf}
-use Rattle.numbers.proofs.Laws.{entry-number-in, table-apart}
+use Rattle.numbers.specs.declared.Found.the-variants.{Number}
+use Rattle.numbers.specs.Numbers.{entryOf, numberIn, foundOf, refusalOf, differenceOf}
+use Rattle.numbers.proofs.Laws.{entry-number-in, found-either, table-apart}
 use Rattle.cells.specs.Cells.{eightIn}
 use Rattle.sender.specs.Sender as S
 use Rattle.receiver.specs.Receiver as R
@@ -35,7 +36,7 @@ use Rattle.line.proofs.Cells.{
   fits,
   cell-48,
   eight-sent,
-  number-sent,
+  found-arrived,
   used-in,
   settings-on,
 }
@@ -107,39 +108,41 @@ module _ (s : SendCall) (sends : MeetsSend s) (sent : s .answer .refusal ≡ 0) 
   module _ (c : ReceiveCall) (receives : MeetsReceive c) (same : InSettings (s .state) (c .state)) where
     -- a spoiled cell is refused
     pub spoiled-refused : {came : List ℕ} → c .cell ≡ came → 1 ≤ alteredIn s came → alteredIn s came ≤ 3 → c .answer .refusal ≡ 0 → ⊥
-    unfolding R.numberNow
+    unfolding refusalOf
     spoiled-refused {came} arrived some few taken =
         let passed = RL.passes (c .state) (c .cell) _ _ _ (sym (received-refusal c receives) ∙ taken) in
-        let number : R.numberNow (formatIn s) came ≤ 15
-        = subst (λ (n : ℕ). n ≤ 15) (λ i. R.numberNow (formatOf (same .format i)) (arrived i)) (passed .number-to) in
-        let found : numberIn (eightIn (formatIn s) came) ≤ 15 = rw (ne-eqb (formatIn s .«overhead_bits») 0 with-overhead) at number in
-        off-table came some few (omega (arith, found))
+        let none : refusalOf (foundOf (eightIn (formatIn s) came)) ≡ 0
+        = ap refusalOf
+        (ap (λ (cell : List ℕ). foundOf (eightIn (formatIn s) cell)) (sym arrived)
+        ∙ sym (RL.found-over (c .state) (c .cell) (ap formatOf (same .format)) with-overhead))
+        ∙ passed .found in
+        found-either (eightIn (formatIn s) came) (λ x. refusalOf x ≡ 0 → ⊥) (λ less e. off-table came some few less)
+        (λ nothing e. let never : _≡_ {A = ℕ} 8 0 = e in omega arith) none
 
     -- an unaltered one is taken where the state passes and the gap is some
     module _ (arrived : c .cell ≡ s .written) (room : WithRoom c)
-        (last-passes : R.lastRefused (formatIn s) (c .state .started) (c .state .last) ≡ false)
-        {gap : ℕ} (gap-is : R.gapNow (formatIn s) (c .state .started) (c .state .last) (s .state .number) ≡ suc gap)
+        (last-passes : R.lastRefused (c .state) ≡ false)
+        {gap : ℕ} (gap-is : (cell : List ℕ) → R.foundNow (c .state) cell ≡ Number (s .state .number) → R.gapOf (c .state) cell ≡ suc gap)
       where
         -- checks 1 to 4 pass
         state-none : R.stateRefusal (c .state) ≡ 0
         unfolding R.stateRefusal
         state-none =
-            (λ i.
-            orElse (settingsRefusal (same .format i) (same .channels i) (same .order i))
-            (cond (R.lastRefused (formatOf (same .format i)) (c .state .started) (c .state .last)) 4 0))
-            ∙ then-later _ (settings-none s sends sent)
+            then-later _ ((λ i. settingsRefusal (same .format i) (same .channels i) (same .order i)) ∙ settings-none s sends sent)
             ∙ rw last-passes
 
-        number-here : R.numberNow (formatOf (c .state .format)) (c .cell) ≡ s .state .number
-        number-here = (λ i. R.numberNow (formatOf (same .format i)) (arrived i)) ∙ number-sent s sends sent with-overhead
+        found-here : R.foundNow (c .state) (c .cell) ≡ Number (s .state .number)
+        found-here = found-arrived s sends sent with-overhead (c .state) same arrived
+
+        number-here : R.numberNow (c .state) (c .cell) ≡ s .state .number
+        number-here = sym (RL.number-found (c .state) (c .cell) (sym found-here))
 
         gap-here : R.gapOf (c .state) (c .cell) ≡ suc gap
-        gap-here = (λ i. R.gapNow (formatOf (same .format i)) (c .state .started) (c .state .last) (number-here i)) ∙ gap-is
+        gap-here = gap-is (c .cell) found-here
 
         pub unaltered-taken : c .answer .refusal ≡ 0
         unfolding R.receiveRefusal R.lengthsRefused
         unaltered-taken =
-            let within : R.numberNow (formatOf (c .state .format)) (c .cell) ≤ 15 = rw number-here (state-passes s sends sent .number-to) in
             let some : R.gapOf (c .state) (c .cell) ≡ 0 → ⊥ = λ e. suc-ne-zero gap (sym gap-here ∙ e) in
             let by-room : receiveTable c ≡ cond (ltb (length (c .samples)) (R.gapOf (c .state) (c .cell) * R.usedNow (c .state))) 10 0
             = then-later _ state-none
@@ -147,9 +150,8 @@ module _ (s : SendCall) (sends : MeetsSend s) (sent : s .answer .refusal ≡ 0) 
               eq-eqb _ _ (ap length arrived ∙ cell-48 s sends sent),
               eq-eqb _ _ (room .ancillary-equal),
               eq-eqb _ _ (room .marks-equal),
-              le-ltb _ _ within,
-              ne-eqb _ 0 some,
-            ) in
+            )
+            (then-later _ (RL.found-passes (c .state) (c .cell) found-here) ∙ rw (ne-eqb _ 0 some)) in
             received-refusal c receives
             ∙ split (ltb (length (c .samples)) (R.gapOf (c .state) (c .cell) * R.usedNow (c .state)))
             (λ e. absurd (room .long-enough (by-room ∙ rw e)))
