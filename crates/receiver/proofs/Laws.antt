@@ -240,7 +240,10 @@ module _ {set : Settled} (st : Receiver) (cell : List ℕ) (indication : Bool) (
     later found e =
         then-later _ (whole-call .state-none)
         ∙ rw (whole-call .lengths-none)
-        (ap₂ (λ (x : Found) (s : Settled). orElse (refusalOf x) (cond (eqb (gapOf st cell) 0) 9 (cond (ltb samples (gapOf st cell * usedIn s)) 10 0))) (sym e) (sym is))
+        (ap₂
+        (λ (x : Found) (s : Settled).
+        orElse (refusalOf x) (cond (eqb (gapOf st cell) 0) 9 (cond (ltb samples (gapOf st cell * usedIn s)) 10 0)))
+        (sym e) (sym is))
 
     pub judged-8 : Nothing ≡ foundNow st cell → refusedBy 8 st ≡ wanted
     unfolding orElse refusalOf
