@@ -44,8 +44,8 @@ use Rattle.formats.proofs.Laws.{
 }
 use Rattle.numbers.specs.declared.Found.{Found}
 use Rattle.numbers.specs.declared.Found.the-variants.{Number, Nothing}
-use Rattle.numbers.specs.Numbers.{refusalOf, valueOf, differenceOf}
-use Rattle.cells.specs.Cells.{sampleIn, ancillaryIn, markIn}
+use Rattle.numbers.specs.Numbers.{foundOf, refusalOf, valueOf, differenceOf}
+use Rattle.cells.specs.Cells.{sampleIn, ancillaryIn, markIn, eightIn, secondIn}
 use Rattle.receiver.specs.declared.Receiver.{Receiver}
 use Rattle.receiver.specs.declared.Received.{Received}
 use Rattle.receiver.specs.Receiver.{
@@ -239,7 +239,10 @@ module _ {set : Settled} (st : Receiver) (cell : List ℕ) (indication : Bool) (
     later found e =
         then-later _ (whole-call .state-none)
         ∙ rw (whole-call .lengths-none)
-        (ap₂ (λ (x : Found) (s : Settled). orElse (refusalOf x) (cond (eqb (gapOf st cell) 0) 9 (cond (ltb samples (gapOf st cell * usedIn s)) 10 0))) (sym e) (sym is))
+        (ap₂
+        (λ (x : Found) (s : Settled).
+        orElse (refusalOf x) (cond (eqb (gapOf st cell) 0) 9 (cond (ltb samples (gapOf st cell * usedIn s)) 10 0)))
+        (sym e) (sym is))
 
     pub judged-8 : Nothing ≡ foundNow st cell → refusedBy 8 st ≡ wanted
     unfolding orElse refusalOf
@@ -265,6 +268,26 @@ module _ {set : Settled} (st : Receiver) (cell : List ℕ) (indication : Bool) (
         judged-0 room second-is =
             answer-taken st cell indication samples samples samples
             (sym (from-9 ∙ rw (ne-eqb _ _ some, le-ltb _ _ room))) (ap (λ (n : ℕ). n - 1) gap-is) (ap valueOf found) second-is
+
+-- what is found and the second number where the format has overhead
+module _ {f : Format} (st : Receiver) (cell : List ℕ) (is : formatOf (st .format) ≡ f) (over : f .«overhead_bits» ≡ 0 → ⊥) where
+  pub found-over : foundNow st cell ≡ foundOf (eightIn f cell)
+  unfolding foundNow
+  found-over = rw (is, ne-eqb (f .«overhead_bits») 0 over)
+
+  pub second-over : secondNow st cell ≡ secondIn f cell
+  unfolding secondNow
+  second-over = rw (is, ne-eqb (f .«overhead_bits») 0 over)
+
+pub gap-by : (st : Receiver) (cell : List ℕ) {started none : Bool} {number : ℕ} → st .started ≡ started
+    → eqb (formatOf (st .format) .«overhead_bits») 0 ≡ none → numberNow st cell ≡ number
+    → gapOf st cell ≡ cond (not started || none) 1 (differenceOf number (st .last))
+unfolding gapOf
+gap-by st cell a b e = λ i. cond (not (a i) || b i) 1 (differenceOf (e i) (st .last))
+
+pub found-passes : (st : Receiver) (cell : List ℕ) {number : ℕ} → foundNow st cell ≡ Number number → refusalOf (foundNow st cell) ≡ 0
+unfolding refusalOf
+found-passes st cell found = ap refusalOf found
 
 pub number-found : (st : Receiver) (cell : List ℕ) {number : ℕ} → Number number ≡ foundNow st cell → number ≡ numberNow st cell
 unfolding valueOf

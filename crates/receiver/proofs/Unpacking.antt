@@ -62,6 +62,19 @@ module _ (read : ℕ → ℕ) (run : List ℕ) (at used : ℕ) where
   held-all {v} each =
       held-is (length-replicate used v) (λ i h. each (getD run (at + i) 0) ∙ sym (getD-replicate used i v 0 h))
 
+-- a run that is filled with them
+module _ (read : ℕ → ℕ) (run d₀ : List ℕ) (at used : ℕ) (room : at + used ≤ length d₀) where
+  pub held-on : {d : List ℕ} {i v : ℕ} → Filled d d₀ at (held read run at used) i → i < used → v ≡ read (getD run (at + i) 0)
+      → Filled (L.set d (at + i) v) d₀ at (held read run at used) (i + 1)
+  held-on so-far less e =
+      fill-on d₀ at _ (held-length read run at used) room so-far less (e ∙ held-at read run at used less)
+
+  pub held-done : {d : List ℕ} {i : ℕ} → Filled d d₀ at (held read run at used) i → used ≤ i → d ≡ written d₀ at (held read run at used)
+  held-done so-far all = fill-done d₀ at _ (held-length read run at used) room so-far all
+
+  pub held-ahead : {d : List ℕ} {i : ℕ} → Filled d d₀ at (held read run at used) i → getD d (at + i) 0 ≡ getD d₀ (at + i) 0
+  held-ahead so-far = fill-ahead d₀ at _ (held-length read run at used) room so-far
+
 -- subframes with ancillary bits and overhead, taken apart in place by a loop that counts from `at` on
 pub record Parted (f : Format) (at used : ℕ) (samples₀ ancillary₀ marks₀ samples ancillary marks : List ℕ) (i : ℕ) : Type 0 where
   pub from : at ≤ i
@@ -245,6 +258,18 @@ module _ (set : Settled) (cell : List ℕ) where
   pub slot-straight : set .«by_channel» ≡ false → (i : ℕ) → i ≡ slotOfEntry (set .«by_channel») (set .channels) (set .times) i
   unfolding slotOfEntry slotOf
   slot-straight e i = rw e (sym (div-add-mod' i (set .channels)))
+
+  -- a run that is filled with the subframes
+  module _ (run₀ : List ℕ) (at : ℕ) (room : at + usedIn set ≤ length run₀) where
+    pub own-on : {run : List ℕ} {i slot v : ℕ} → Filled run run₀ at (ownEntries (λ x. x) set cell) i → i < usedIn set
+        → slot ≡ slotOfEntry (set .«by_channel») (set .channels) (set .times) i → v ≡ subframeAt (set .format) cell slot
+        → Filled (L.set run (at + i) v) run₀ at (ownEntries (λ x. x) set cell) (i + 1)
+    own-on so-far less slot-is e =
+        fill-on run₀ at _ (own-length (λ x. x)) room so-far less (e ∙ ap (subframeAt (set .format) cell) slot-is ∙ own-at (λ x. x) less)
+
+    pub own-done : {run : List ℕ} {i : ℕ} → Filled run run₀ at (ownEntries (λ x. x) set cell) i → usedIn set ≤ i
+        → run ≡ written run₀ at (ownEntries (λ x. x) set cell)
+    own-done so-far all = fill-done run₀ at _ (own-length (λ x. x)) room so-far all
 
   -- subframes put into the first run, and taken apart there
   pub unpacks : (at : ℕ) (samples ancillary marks : List ℕ) {samples₁ samples₂ ancillary₂ marks₂ : List ℕ}

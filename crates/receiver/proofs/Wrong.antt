@@ -53,8 +53,16 @@ use Rattle.receiver.proofs.receive.Kinds as receive-kinds
 use Rattle.receiver.proofs.receive.Reads as receive-reads
 
 -- every definition on the way down to the numbers
+unfoldable cells-unfolded : Unit {0}
+unfolding tab joined octetsOf readOn overheadOf subframeOf slotOctets cellOf subframeAt sampleIn ancillaryIn markIn bitIn eightIn secondIn
+cells-unfolded = tt
+
+unfoldable placed-unfolded : Unit {0}
+unfolding entriesOf slotOf slotOfEntry entryOfSlot carried over orElse refusalOf valueOf openedOf lastRefused stateRefusal lengthsRefused after
+placed-unfolded = tt
+
 unfoldable pub unfolded : Unit {0}
-unfolding orElse refusalOf valueOf tab joined octetsOf readOn over formats.unfolded numbers.unfolded guards.unfolded overheadOf subframeOf slotOctets cellOf subframeAt sampleIn ancillaryIn markIn bitIn eightIn secondIn entriesOf slotOf slotOfEntry entryOfSlot carried openedOf lastRefused stateRefusal lengthsRefused foundNow gapOf receiveRefusal entriesNow secondNow after receivedOf entriesGiven
+unfolding formats.unfolded numbers.unfolded guards.unfolded cells-unfolded placed-unfolded foundNow gapOf receiveRefusal entriesNow secondNow receivedOf entriesGiven
 unfolded = tt
 
 -- openings: format, C, order

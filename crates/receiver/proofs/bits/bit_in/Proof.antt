@@ -27,8 +27,11 @@ shared-slice-read-result c =
 returns : tie.Need-returns
 unfolding subframeAt bitIn
 returns c =
-    let s = c .before in
-    (last-bit (now (s .args .cell)) (s .args .slot * s .args .format .width) (s .pre .0 .width-from) (omega (arith, slot-room (s .pre .0) (s .pre .2), s .pre .1)), mod-lt _ (omega arith))
+    let s = c .before in (
+      last-bit (now (s .args .cell)) (s .args .slot * s .args .format .width) (s .pre .0 .width-from)
+          (omega (arith, slot-room (s .pre .0) (s .pre .2), s .pre .1)),
+      mod-lt _ (omega arith),
+    )
 
 pub bit-in-spec : {M : Type 1} → statement M
 bit-in-spec =

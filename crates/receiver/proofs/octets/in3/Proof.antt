@@ -16,7 +16,9 @@ add-result-2 : tie.Need-add-result-2
 add-result-2 c = omega (arith, c .shared-slice-known2 .given (c .before .before .before .args .at + 2), c .before .in2 .ensures .1)
 
 returns : tie.Need-returns
-returns c = ap (λ (n : ℕ). n * 256 + getD (now (c .before .before .before .args .octets)) (c .before .before .before .args .at + 2) 0) (c .before .in2 .ensures .0)
+returns c =
+    let a = c .before .before .before .args in
+    ap (λ (n : ℕ). n * 256 + getD (now (a .octets)) (a .at + 2) 0) (c .before .in2 .ensures .0)
 
 pub in3-spec : {M : Type 1} → statement M
 in3-spec =

@@ -33,17 +33,20 @@ enter-requires c κs =
 
 loop-again : tie.Need-loop-again Inv-loop μ-loop
 loop-again c =
-    let s = c .before .before .before .before .before .before .before .before .before .before .before .before .before .before .before .before .before .before in
-    let less = c .before .before .before .before .before .before .before .before .before .before .before .before .loop-test .taken in
-    let slot = c .before .before .before .before .before .before .before .before .before .before .before .before .before .loop .i in
-    let word = c .before .before .before .before .before .before .before .before .before .before .before .in4 .result in
-    entered-on (now (s .args .cell)) (s .args .at) (now (s .args .samples)) (now (s .args .ancillary)) (now (s .args .marks))
-    (s .pre .1) (c .before .before .before .before .before .before .before .before .before .before .before .before .before .loop .inv) less
-    (by-width fours (now (s .args .cell)) slot refl
-    (c .before .before .before .before .before .before .before .before .before .before .before .in4 .ensures .0 ∙ four-read (now (s .args .cell)) (slot * 4) (omega (arith, s .pre .0, less))))
+    let entered = c .before .before .before .before .before .before in
+    let marked = entered .before .before .before .before in
+    let l = marked .before .before .before in
+    let s = l .before .before .before .before .before in
+    let less = marked .before .before .loop-test .taken in
+    let word = marked .before .in4 .result in
+    entered-on (now (s .args .cell)) (s .args .at) (now (s .args .samples)) (now (s .args .ancillary)) (now (s .args .marks)) (s .pre .1)
+    (l .loop .inv) less
+    (by-width fours (now (s .args .cell)) (l .loop .i) refl
+    (marked .before .in4 .ensures .0 ∙ four-read (now (s .args .cell)) (l .loop .i * 4) (omega (arith, s .pre .0, less))))
     (mark-on-top fours refl refl word 24 (word / 8388608) refl (omega arith)
-    (let on-top : word / 8388608 % 512 ≡ word / 256 * 2 / 65536 % 512 = omega arith in on-top) (c .before .before .before .before .before .before .before .before .before .before .marks-for-usual .result) (c .before .before .before .before .before .before .before .before .before .before .marks-for-usual .ensures .0))
-    (c .before .before .before .before .before .before .enter .ensures)
+    (let on-top : word / 8388608 % 512 ≡ word / 256 * 2 / 65536 % 512 = omega arith in on-top) (marked .marks-for-usual .result)
+    (marked .marks-for-usual .ensures .0))
+    (entered .enter .ensures)
 
 returns : tie.Need-returns Inv-loop μ-loop
 returns c =

@@ -105,7 +105,8 @@ returns-3 c =
     let u = one t .before .before in
     let k = call (from u) in
     judged-taken k (none (one t)) (t .before .before .judged .ensures) (settles u) (t .if2 .left)
-    (usual-fills (k .state) (u .usual .ensures) (k .cell) (t .before .before .judged .result .missing) (c .before .before .before .before .before .before .write .ensures))
+    (usual-fills (k .state) (u .usual .ensures) (k .cell) (t .before .before .judged .result .missing)
+    (c .before .before .before .before .before .before .write .ensures))
 
 pub receive-spec : {M : Type 1} → statement M
 receive-spec =

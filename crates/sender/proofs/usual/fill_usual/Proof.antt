@@ -37,20 +37,9 @@ subframe-requires : tie.Need-subframe-requires Inv-loop μ-loop
 subframe-requires c κs =
     let l = c .before .before .before .before in
     let given = from l .pre in
-<<<<<<< HEAD
-    let small = small-at (given .0) (given .2) (l .before .loop .slot) in (
-      omega arith,
-      omega arith,
-      small,
-      guard-of-24 small (c .before .before .protection-for-usual .ensures),
-      few-at (given .0) (given .2) (l .before .loop .slot) (c .wide .ensures .0),
-      omega arith,
-    )
-=======
     let slot = l .before .loop .slot in
-    subframe-ready (given .0) (given .2) slot (guard-of-24 (small-at (given .0) (given .2) slot) (c .before .before .guard-of .ensures))
+    subframe-ready (given .0) (given .2) slot (guard-of-24 (small-at (given .0) (given .2) slot) (c .before .before .protection-for-usual .ensures))
     (c .wide .ensures .0) (omega arith)
->>>>>>> sender
 
 mul-put-four : tie.Need-mul-put-four Inv-loop μ-loop
 mul-put-four c =
