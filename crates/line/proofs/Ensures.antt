@@ -1,5 +1,6 @@
--- Each contract of specs/Contracts follows from its function's own `ensures`, which the code is proved to meet. So the demands hold of
--- the code whatever Contracts says: a definition there that says more than the `ensures` is refused here.
+-- Each contract of specs/Contracts follows from its function's own `ensures`, which the code is proved to meet. So Contracts needs no
+-- trust: a definition there that says more than the `ensures` is refused here. What is left to read is which parameter of a call
+-- stands where.
 -- Assumes nothing.
 use mathlib.Core.List.{List}
 use Prim.Native.Nat.{ℕ}
@@ -24,10 +25,15 @@ use Rattle.receiver.proofs.opened.Kinds as open-receiver-kinds
 use Rattle.receiver.proofs.opened.Reads as open-receiver-reads
 use Rattle.receiver.proofs.receive.Kinds as receive-kinds
 use Rattle.receiver.proofs.receive.Reads as receive-reads
+use Rattle.status.specs.declared.step.Handed.{Handed}
 use Rattle.status.proofs.step.step.Kinds as step-kinds
 use Rattle.status.proofs.step.step.Reads as step-reads
 use Rattle.status.proofs.assembler.brought_forward.Kinds as brought-forward-kinds
 use Rattle.status.proofs.assembler.brought_forward.Reads as brought-forward-reads
+use Rattle.status.proofs.assembler.bring_forward as bring-forward
+use Rattle.status.proofs.One as status
+use Rattle.log.specs.declared.Record.{Record}
+use Rattle.log.specs.declared.reader.Reader.{Reader}
 use Rattle.log.proofs.read_number.Kinds as read-number-kinds
 use Rattle.log.proofs.read_number.Reads as read-number-reads
 use Rattle.log.proofs.read_header.Kinds as read-header-kinds
@@ -44,22 +50,15 @@ use Rattle.log.proofs.keep.write_header.Kinds as write-header-kinds
 use Rattle.log.proofs.keep.write_header.Reads as write-header-reads
 use Rattle.log.proofs.keep.write_record.Kinds as write-record-kinds
 use Rattle.log.proofs.keep.write_record.Reads as write-record-reads
-use Rattle.listing.proofs.list.Kinds as list-kinds
-use Rattle.listing.proofs.list.Reads as list-reads
-use Rattle.status.specs.declared.step.Handed.{Handed}
-use Rattle.status.proofs.assembler.bring_forward as bring-forward
-use Rattle.status.proofs.One as status
-use Rattle.log.specs.declared.Record.{Record}
-use Rattle.log.specs.declared.reader.Reader.{Reader}
 use Rattle.log.proofs.reader.record_here as record-here
 use Rattle.log.proofs.reader.cell as cell
 use Rattle.log.proofs.reader.past_record as past-record
 use Rattle.log.proofs.reader.read as read
 use Rattle.log.proofs.One.{RecordEnsures, CellEnsures, PastEnsures, ReadEnsures}
+use Rattle.listing.proofs.list.Kinds as list-kinds
+use Rattle.listing.proofs.list.Reads as list-reads
 use Rattle.line.specs.Contracts.{
-  SendCall,
   MeetsSend,
-  ReceiveCall,
   MeetsReceive,
   MeetsOpenSender,
   MeetsOpenReceiver,
@@ -76,7 +75,8 @@ use Rattle.line.specs.Contracts.{
 }
 
 -- Whatever a function is called with (a), answers (x) and leaves in what was lent to it (v): where its `ensures` holds, so does
--- `Meets`. ps, r and Post are those of the function's modules Kinds and Reads.
+-- `Meets`. The first parameter is a .0, the second a .1 .0, the third a .1 .1 .0 and so on; what it holds afterwards stands at the same
+-- place of v. ps, r and Post are those of the function's modules Kinds and Reads.
 abbrev pub Ensured : {n : ℕ} (ps : List (PK n)) (r : RK n) → Out n ps r
     → ((κs : Lfts n) (a : Dens κs ps) → resT r κs .Denot → Lasts (endedOf n ps r) κs a → Type 0) → Type 0
 Ensured {n} ps r Post Meets =
