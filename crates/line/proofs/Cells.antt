@@ -6,7 +6,7 @@ use mathlib.Core.Path.{_≡_, sym, _∙_, ap, ap₂}
 use Prim.Native.Nat.{ℕ, _*_, _-_, _≤_, _<_}
 use native.Mathlib.Nat.{mod-lt}
 use native.Mathlib.Omega.{arith}
-use borrow.Author.Tests.{ne-eqb, eqb-true, lt-ltb}
+use borrow.Author.Tests.{ne-eqb, eqb-true}
 use lib.Dec.{eqb}
 use lib.ListN.{length, replicate}
 use Rattle.runs.proofs.Laws.{split}
@@ -15,7 +15,7 @@ use Rattle.formats.specs.Formats.{formatOf, timesOf, settingsRefusal}
 use Rattle.formats.specs.Settings.{settled}
 use Rattle.numbers.specs.declared.Found.the-variants.{Number}
 use Rattle.numbers.specs.Numbers.{entryOf, foundOf}
-use Rattle.numbers.proofs.Laws.{entry-lt, number-entry}
+use Rattle.numbers.proofs.Laws.{entry-lt, entry-found}
 use Rattle.cells.specs.Cells.{sampleIn, ancillaryIn, markIn, eightIn, secondIn, entriesOf}
 use Rattle.cells.specs.Placement.{usedOf}
 use Rattle.cells.proofs.Sent.{sent-cell}
@@ -39,11 +39,6 @@ pub received-refusal : (r : ReceiveCall) → MeetsReceive r → r .answer .refus
 unfolding R.receivedOf
 received-refusal r meets =
     ap (λ x. x .refusal) (meets .answered) ∙ split (eqb (receiveTable r) 0) (λ t. rw t (sym (eqb-true _ 0 t))) (λ t. rw t)
-
--- an entry is found as its number
-found-entry : {number : ℕ} → number < 16 → foundOf (entryOf number) ≡ Number number
-unfolding foundOf
-found-entry low = rw (number-entry low, lt-ltb _ _ low)
 
 -- C×T is that of the settings
 pub used-in : {st : Sender} {rc : Receiver} → InSettings st rc → R.usedNow rc ≡ S.usedNow st
@@ -129,7 +124,7 @@ module _ (s : SendCall) (meets : MeetsSend s) (sent : s .answer .refusal ≡ 0) 
       found-there =
           (λ i.
           cond (eqb (formatOf (same .format i) .«overhead_bits») 0) (Number 0) (foundOf (eightIn (formatOf (same .format i)) (arrived i))))
-          ∙ rw (ne-eqb _ 0 with-overhead) (ap foundOf eight-sent ∙ found-entry number-lt)
+          ∙ rw (ne-eqb _ 0 with-overhead) (ap foundOf eight-sent ∙ entry-found number-lt)
 
       second-here : R.secondNow (r .state) (r .cell) ≡ secondIn (formatIn s) (s .written)
       unfolding R.secondNow

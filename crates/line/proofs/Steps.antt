@@ -7,7 +7,7 @@ use Prim.Native.Nat.{ℕ, zero, suc, _+_, _*_, _%_, _-_, _≤_, _<_}
 use native.Mathlib.Nat.{mod-add-mod, mod-eq-of-lt, add-mod-right, suc-mul, suc-ne-zero}
 use native.Mathlib.Numerals.{add-one}
 use native.Mathlib.Omega.{arith}
-use borrow.Author.Tests.{ne-eqb, eq-eqb, eqb-true, eqb-false, ltb-true}
+use borrow.Author.Tests.{ne-eqb, eq-eqb, eqb-true, eqb-false}
 use lib.Bits.{bitXor, xor-self}
 use lib.Count.{ones, onesIn}
 use lib.Dec.{eqb, ltb}
@@ -15,11 +15,11 @@ use lib.ListN.{length, take, replicate, length-append, length-replicate}
 use lib.Seq.{take-at}
 use Rattle.runs.specs.Runs.{over}
 use Rattle.runs.specs.Refusals.{orElse}
-use Rattle.runs.proofs.Laws.{split, then-later}
+use Rattle.runs.proofs.Laws.{split, first-refuses, then-later}
 use Rattle.formats.specs.Formats.{formatOf, settingsRefusal}
-use Rattle.numbers.specs.declared.Found.the-variants.{Number, Nothing}
-use Rattle.numbers.specs.Numbers.{entryOf, numberIn, foundOf, refusalOf, valueOf, differenceOf}
-use Rattle.numbers.proofs.Laws.{entry-number-in, table-apart}
+use Rattle.numbers.specs.declared.Found.the-variants.{Number}
+use Rattle.numbers.specs.Numbers.{entryOf, foundOf, refusalOf, valueOf, differenceOf}
+use Rattle.numbers.proofs.Laws.{table-apart, no-entry-refused}
 use Rattle.cells.specs.Cells.{eightIn}
 use Rattle.sender.specs.Sender as S
 use Rattle.receiver.specs.Receiver as R
@@ -58,13 +58,6 @@ module _ {A B : Type 0} where
   row-zip zero x y xs ys = refl
   row-zip (suc n) x y xs ys = ap (λ l. (x, y) ∷ l) (row-zip n x y xs ys)
 
--- bits that are not refused are a table's entry
-in-table : (word : ℕ) → refusalOf (foundOf word) ≡ 0 → numberIn word < 16
-unfolding foundOf refusalOf
-in-table word none =
-    split (ltb (numberIn word) 16) (λ e. ltb-true _ _ e)
-    (λ e. let nothing : foundOf word ≡ Nothing = rw e in absurd (suc-ne-zero 7 (sym (ap refusalOf nothing) ∙ none)))
-
 -- k cells after the last one, the difference is k + 1
 pub difference-after : (last k : ℕ) → last ≤ 15 → k ≤ 14 → differenceOf ((last + 1 + k) % 16) last ≡ k + 1
 unfolding differenceOf
@@ -93,16 +86,9 @@ pub record Took (s : SendCall) (c : ReceiveCall) (gap : ℕ) : Type 0 where
 -- a cell with overhead that a call wrote
 module _ (s : SendCall) (sends : MeetsSend s) (sent : s .answer .refusal ≡ 0) (with-overhead : formatIn s .«overhead_bits» ≡ 0 → ⊥) where
   -- one, two or three altered bits lead off the table
-  off-table : (came : List ℕ) → 1 ≤ alteredIn s came → alteredIn s came ≤ 3 → numberIn (eightIn (formatIn s) came) < 16 → ⊥
+  off-table : (came : List ℕ) → 1 ≤ alteredIn s came → alteredIn s came ≤ 3 → refusalOf (foundOf (eightIn (formatIn s) came)) ≡ 8
   unfolding ones onesIn
-  off-table came some few found =
-      let word = eightIn (formatIn s) came in
-      let entry : entryOf (numberIn word) ≡ word = entry-number-in word found in
-      let altered : alteredIn s came ≡ ones (bitXor (entryOf (s .state .number)) (entryOf (numberIn word)))
-      = ap₂ (λ (a b : ℕ). ones (bitXor a b)) (eight-sent s sends sent with-overhead) (sym entry) in
-      split (eqb (s .state .number) (numberIn word))
-      (λ e. same (altered ∙ ap (λ (n : ℕ). ones (bitXor (entryOf (s .state .number)) (entryOf n))) (sym (eqb-true _ _ e))))
-      (λ e. let far = table-apart (number-lt s sends sent) found (eqb-false _ _ e) in omega (arith, altered))
+  off-table came some few = no-entry-refused (eightIn (formatIn s) came) not-there
     where
       same : alteredIn s came ≡ ones (bitXor (entryOf (s .state .number)) (entryOf (s .state .number))) → ⊥
       same e =
@@ -110,19 +96,45 @@ module _ (s : SendCall) (sends : MeetsSend s) (sent : s .answer .refusal ≡ 0) 
           = ap ones (xor-self (entryOf (s .state .number))) in
           omega arith
 
+      not-there : (number : ℕ) → number < 16 → entryOf number ≡ eightIn (formatIn s) came → ⊥
+      not-there number low entry =
+          let altered : alteredIn s came ≡ ones (bitXor (entryOf (s .state .number)) (entryOf number))
+          = ap₂ (λ (a b : ℕ). ones (bitXor a b)) (eight-sent s sends sent with-overhead) (sym entry) in
+          split (eqb (s .state .number) number)
+          (λ e. same (altered ∙ ap (λ (n : ℕ). ones (bitXor (entryOf (s .state .number)) (entryOf n))) (sym (eqb-true _ _ e))))
+          (λ e. let far = table-apart (number-lt s sends sent) low (eqb-false _ _ e) in omega (arith, altered))
+
   -- a call on it by a receiver in the sender's settings
   module _ (c : ReceiveCall) (receives : MeetsReceive c) (same : InSettings (s .state) (c .state)) where
-    -- a spoiled cell is refused
-    pub spoiled-refused : {came : List ℕ} → c .cell ≡ came → 1 ≤ alteredIn s came → alteredIn s came ≤ 3 → c .answer .refusal ≡ 0 → ⊥
-    unfolding R.foundNow
-    spoiled-refused {came} arrived some few taken =
-        let passed = RL.passes (c .state) (c .cell) _ _ _ (sym (received-refusal c receives) ∙ taken) in
-        let there : refusalOf (R.foundNow (c .state) (c .cell)) ≡ refusalOf (foundOf (eightIn (formatIn s) came))
-        = (λ i.
-        refusalOf
-        (cond (eqb (formatOf (same .format i) .«overhead_bits») 0) (Number 0) (foundOf (eightIn (formatOf (same .format i)) (arrived i)))))
-        ∙ rw (ne-eqb (formatIn s .«overhead_bits») 0 with-overhead) in
-        off-table came some few (in-table _ (sym there ∙ passed .found))
+    -- a spoiled cell
+    module _ {came : List ℕ} (arrived : c .cell ≡ came) (some : 1 ≤ alteredIn s came) (few : alteredIn s came ≤ 3) where
+      no-number : refusalOf (R.foundNow (c .state) (c .cell)) ≡ 8
+      unfolding R.foundNow
+      no-number =
+          (λ i.
+          refusalOf
+          (cond (eqb (formatOf (same .format i) .«overhead_bits») 0) (Number 0) (foundOf (eightIn (formatOf (same .format i)) (arrived i)))))
+          ∙ (rw (ne-eqb (formatIn s .«overhead_bits») 0 with-overhead))
+          ∙ off-table came some few
+
+      -- it is refused
+      pub spoiled-refused : c .answer .refusal ≡ 0 → ⊥
+      spoiled-refused taken =
+          let passed = RL.passes (c .state) (c .cell) _ _ _ (sym (received-refusal c receives) ∙ taken) in
+          suc-ne-zero 7 (sym no-number ∙ passed .found)
+
+      -- one of 48 octets is refused 8, where checks 1 to 4 pass and the runs have room
+      pub spoiled-gets-8 : length came ≡ 48 → R.stateRefusal (c .state) ≡ 0 → WithRoom c → c .answer .refusal ≡ 8
+      unfolding R.receiveRefusal R.lengthsRefused
+      spoiled-gets-8 whole state-passes room =
+          received-refusal c receives
+          ∙ then-later _ state-passes
+          ∙ rw (
+            eq-eqb _ _ (ap length arrived ∙ whole),
+            eq-eqb _ _ (room .ancillary-equal),
+            eq-eqb _ _ (room .marks-equal),
+          )
+          (first-refuses _ (λ e. suc-ne-zero 7 (sym no-number ∙ e)) ∙ no-number)
 
     -- an unaltered one is taken where the state passes and the gap is some
     module _ (arrived : c .cell ≡ s .written) (room : WithRoom c)
