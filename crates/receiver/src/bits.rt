@@ -16,7 +16,7 @@ fn bit_in(format: Format, cell: &[u8], slot: usize) -> u8
     ensures { λ r. ⌜ (r ≡ bitIn format (now (cell .entry)) slot) × (r < 2) ⌝ }
 {
     let width = format.width;
-    cell[slot * width + (width - 1)] / 8 % 2
+    cell[(slot + 1) * width - 1] / 8 % 2
 }
 
 // The first eight sequencing bits.
