@@ -13,12 +13,12 @@ use Rattle.cells.specs.Placement.{slotOfEntry, carried}
 
 -- "then a sequencing bit and three protection bits", where the format has overhead; V is the ancillary number's lowest bit
 unfoldable pub overheadOf : Format → ℕ → ℕ → ℕ → ℕ
-overheadOf f sample ancillary bit = cond (eqb (f .overhead) 0) 0 (bit * 8 + guardOf (f .sample) sample ancillary)
+overheadOf f sample ancillary bit = cond (eqb (f .«overhead_bits») 0) 0 (bit * 8 + guardOf (f .«sample_bits») sample ancillary)
 
 -- "A subframe is: sample, most significant bit first; then B, C, U, V; then" the overhead
 unfoldable pub subframeOf : Format → ℕ → ℕ → ℕ → ℕ
 subframeOf f sample ancillary bit =
-    (sample * 2 ^ f .ancillary + ancillary) * 2 ^ f .overhead + overheadOf f sample ancillary bit
+    (sample * 2 ^ f .«ancillary_bits» + ancillary) * 2 ^ f .«overhead_bits» + overheadOf f sample ancillary bit
 
 -- what slot k of a cell holds: the subframe, "Octets are filled from their top bit"
 unfoldable pub slotOctets : Format → Bool → ℕ → ℕ → ℕ → ℕ → List ℕ → List ℕ → ℕ → List ℕ
@@ -40,16 +40,16 @@ subframeAt f cell k = numberOf (take (f .width) (drop (k * f .width) cell))
 
 -- its sample and its ancillary number
 unfoldable pub sampleIn : Format → ℕ → ℕ
-sampleIn f subframe = subframe / 2 ^ (f .ancillary + f .overhead)
+sampleIn f subframe = subframe / 2 ^ (f .«ancillary_bits» + f .«overhead_bits»)
 
 unfoldable pub ancillaryIn : Format → ℕ → ℕ
-ancillaryIn f subframe = subframe / 2 ^ f .overhead % 2 ^ f .ancillary
+ancillaryIn f subframe = subframe / 2 ^ f .«overhead_bits» % 2 ^ f .«ancillary_bits»
 
 -- "Mark 0 is sound; mark 1 means that the three protection bits disagree"
 unfoldable pub markIn : Format → ℕ → ℕ
 markIn f subframe =
-    cond (eqb (f .overhead) 0) 0
-    (cond (eqb (subframe % 8) (guardOf (f .sample) (sampleIn f subframe) (ancillaryIn f subframe))) 0 1)
+    cond (eqb (f .«overhead_bits») 0) 0
+    (cond (eqb (subframe % 8) (guardOf (f .«sample_bits») (sampleIn f subframe) (ancillaryIn f subframe))) 0 1)
 
 -- the sequencing bit of slot k
 unfoldable pub bitIn : Format → List ℕ → ℕ → ℕ

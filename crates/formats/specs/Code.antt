@@ -19,7 +19,7 @@ abbrev pub usualWith : ℕ → ℕ → Settled
 usualWith channels times =
     record {
       refusal = 0;
-      format = record { sample = 24; ancillary = 4; overhead = 4; width = 4; slots = 12 };
+      format = record { «sample_bits» = 24; «ancillary_bits» = 4; «overhead_bits» = 4; width = 4; slots = 12 };
       channels = channels;
       times = times;
       «by_channel» = false;

@@ -2,14 +2,15 @@
 ghost use mathlib.Core.Bool.{cond};
 ghost use mathlib.Core.Path.{_≡_};
 ghost use Prim.Native.Nat.{_/_, _≤_};
-ghost use Rattle.formats.specs.Formats.{sampleBits, formatOf, settingsOf, unsettledBy};
+ghost use Rattle.formats.specs.Formats.{sampleBits, formatOf};
+ghost use Rattle.formats.specs.Settings.{settingsOf, unsettledBy};
 ghost use Rattle.formats.specs.Code.{refusalBy, isUsual, usualWith};
 
 // One subframe in bits, and how many octets wide it is; S, the slots in a cell. All zeros stand for no format.
 pub struct Format {
-    pub sample: u64,
-    pub ancillary: u64,
-    pub overhead: u64,
+    pub sample_bits: u64,
+    pub ancillary_bits: u64,
+    pub overhead_bits: u64,
     pub width: usize,
     pub slots: usize,
 }
@@ -39,8 +40,8 @@ fn sample_bits(octet: u32) -> u32
     }
 }
 
-// S, the slots in a cell, for an octet with these sample bits: 0 where the octet, as a number that is not cut to an octet before,
-// is none of the eleven base formats. It goes by the rules of the paper's first paragraph, and not by its table.
+// S, the slots in a cell, for an octet with these sample bits: 0 where it is none of the eleven base formats. The number isn't cut
+// to an octet before. It goes by the rules of the paper's first paragraph and not by its table; the two are proved to agree.
 fn slots_of(octet: u32, sample: u32) -> usize
     requires { ⌜ sample ≡ sampleBits octet ⌝ }
     ensures { λ r. ⌜ r ≡ formatOf octet .slots ⌝ }
@@ -50,6 +51,10 @@ fn slots_of(octet: u32, sample: u32) -> usize
         return 0;
     }
     let overhead = octet / 16 % 4;
+    if 1 < overhead {
+        return 0;
+    }
+    // overhead alone: not yet in the base
     if ancillary < overhead {
         return 0;
     }
@@ -75,9 +80,9 @@ fn format_of(octet: u32) -> Format
     let slots = slots_of(octet, sample);
     if slots == 0 {
         return Format {
-            sample: 0,
-            ancillary: 0,
-            overhead: 0,
+            sample_bits: 0,
+            ancillary_bits: 0,
+            overhead_bits: 0,
             width: 0,
             slots: 0,
         };
@@ -86,9 +91,9 @@ fn format_of(octet: u32) -> Format
     let overhead = octet / 16 % 4 * 4;
     let width = (sample + ancillary + overhead) / 8;
     Format {
-        sample: sample as u64,
-        ancillary: ancillary as u64,
-        overhead: overhead as u64,
+        sample_bits: sample as u64,
+        ancillary_bits: ancillary as u64,
+        overhead_bits: overhead as u64,
         width: width as usize,
         slots,
     }
@@ -180,9 +185,9 @@ fn usual_with(channels: usize, times: usize) -> Settled
     Settled {
         refusal: 0,
         format: Format {
-            sample: 24,
-            ancillary: 4,
-            overhead: 4,
+            sample_bits: 24,
+            ancillary_bits: 4,
+            overhead_bits: 4,
             width: 4,
             slots: 12,
         },
@@ -198,9 +203,9 @@ fn unsettled(refusal: u8) -> Settled
     Settled {
         refusal,
         format: Format {
-            sample: 0,
-            ancillary: 0,
-            overhead: 0,
+            sample_bits: 0,
+            ancillary_bits: 0,
+            overhead_bits: 0,
             width: 0,
             slots: 0,
         },

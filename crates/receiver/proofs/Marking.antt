@@ -25,7 +25,7 @@ v-bit x =
     even y = omega arith
 
 -- a subframe's parts where ancillary and overhead have four bits each
-module _ (f : Format) (ancillary-four : f .ancillary ≡ 4) (overhead-four : f .overhead ≡ 4) (subframe : ℕ) where
+module _ (f : Format) (ancillary-four : f .«ancillary_bits» ≡ 4) (overhead-four : f .«overhead_bits» ≡ 4) (subframe : ℕ) where
   pub sample-over : subframe / 256 ≡ sampleIn f subframe
   unfolding sampleIn
   sample-over = rw (ancillary-four, overhead-four)
@@ -34,18 +34,18 @@ module _ (f : Format) (ancillary-four : f .ancillary ≡ 4) (overhead-four : f .
   unfolding ancillaryIn
   ancillary-over = rw (ancillary-four, overhead-four)
 
-  mark-by : (bits : ℕ) → MarksOf (nineOf (f .sample) (subframe / 256)) bits → bits / 2 ^ (subframe % 32) % 2 ≡ markIn f subframe
+  mark-by : (bits : ℕ) → MarksOf (nineOf (f .«sample_bits») (subframe / 256)) bits → bits / 2 ^ (subframe % 32) % 2 ≡ markIn f subframe
   unfolding markBit markIn guardOf
   mark-by bits marks =
       let few : subframe % 32 < 32 = mod-lt subframe (omega arith) in
       let low : subframe % 32 % 8 ≡ subframe % 8 = omega arith in
-      let some : f .overhead ≡ 0 → ⊥ = λ e. omega (arith, e, overhead-four) in
+      let some : f .«overhead_bits» ≡ 0 → ⊥ = λ e. omega (arith, e, overhead-four) in
       marks (subframe % 32) few
       ∙ ap₂ (λ (x y : ℕ). cond (eqb x y) 0 1) low
-      (ap₂ (λ (x y : ℕ). tenGuard (x * 2 + y)) (ap (nineOf (f .sample)) sample-over) (v-bit subframe ∙ ap (λ (x : ℕ). x % 2) ancillary-over))
-      ∙ sym (rw (ne-eqb (f .overhead) 0 some))
+      (ap₂ (λ (x y : ℕ). tenGuard (x * 2 + y)) (ap (nineOf (f .«sample_bits»)) sample-over) (v-bit subframe ∙ ap (λ (x : ℕ). x % 2) ancillary-over))
+      ∙ sym (rw (ne-eqb (f .«overhead_bits») 0 some))
 
-  pub mark-on-top : (n top : ℕ) → f .sample ≡ n → 8 ≤ n → top % 512 ≡ subframe / 256 * 2 / 2 ^ (n - 8) % 512 → (bits : ℕ)
+  pub mark-on-top : (n top : ℕ) → f .«sample_bits» ≡ n → 8 ≤ n → top % 512 ≡ subframe / 256 * 2 / 2 ^ (n - 8) % 512 → (bits : ℕ)
       → MarksOf (top % 512) bits → bits / 2 ^ (subframe % 32) % 2 ≡ markIn f subframe
   mark-on-top n top length-is from top-is bits marks =
       mark-by bits (rw (top-is ∙ nine-shifted n (subframe / 256) from ∙ ap (λ (k : ℕ). nineOf k (subframe / 256)) (sym length-is)) at marks)
