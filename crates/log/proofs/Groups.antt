@@ -11,7 +11,7 @@ use lib.ListN.{length, getD, List·getD-eq-default}
 use Rattle.runs.proofs.Laws.{split}
 use Rattle.log.specs.declared.Number.{Number}
 use Rattle.log.specs.Code.{behind, numberWithin}
-use Rattle.log.specs.Numbers.{groupsAt, isCut, isLong, isPadded, valueOf, number, noNumber, numberAt}
+use Rattle.log.specs.Numbers.{groupsAt, isCut, isLong, isPadded, valueAt, number, noNumber, numberAt}
 use Rattle.log.proofs.Laws.{number-none, number-cut, number-whole, number-more}
 
 behind-none : (group : ℕ) {more : Number} → more ≡ noNumber → behind group more ≡ noNumber
@@ -44,7 +44,7 @@ module _ (log : List ℕ) (at : ℕ) where
         split (isLong log at) (λ f. rw (e, f)) (λ f. rw (e, f, many, lt-ltb 1 groups h, last)))
 
     is-whole : at + groups ≤ length log → groups ≤ 3 → ltb 1 groups && eqb (getD log (at + groups - 1) 0) 0 ≡ false
-        → numberAt log at ≡ number (valueOf groups log at) (at + groups)
+        → numberAt log at ≡ number (valueAt groups log at) (at + groups)
     unfolding numberAt isCut isLong isPadded
     is-whole h few shortest = rw (many, le-ltb (length log) (at + groups) h, le-ltb 3 groups few, shortest)
 
@@ -71,7 +71,7 @@ module _ (log : List ℕ) (at : ℕ) where
   none-past k h = rw (List·getD-eq-default log 0 h) (omega arith)
 
   agree-1 : at < length log → getD log at 0 < 128 → numberAt log at ≡ numberWithin 3 log at
-  unfolding valueOf
+  unfolding valueAt
   agree-1 here small =
       let low : getD log at 0 % 128 ≡ getD log at 0 = omega arith in
       is-whole (one small) (omega arith) (omega arith) refl ∙ rw low (sym (number-whole 2 log at refl here small))
@@ -82,7 +82,7 @@ module _ (log : List ℕ) (at : ℕ) where
     behind-1 e = sym (number-more 2 log at refl here more ∙ ap (behind (getD log at 0)) e)
 
     agree-2 : at + 1 < length log → getD log (at + 1) 0 < 128 → numberAt log at ≡ numberWithin 3 log at
-    unfolding valueOf
+    unfolding valueAt
     agree-2 there small =
         let last : at + 2 - 1 ≡ at + 1 = omega arith in
         let low : getD log (at + 1) 0 % 128 ≡ getD log (at + 1) 0 = omega arith in
@@ -104,7 +104,7 @@ module _ (log : List ℕ) (at : ℕ) where
           behind-1 (number-more 1 log (at + 1) refl there more₁ ∙ ap (behind (getD log (at + 1) 0)) (rw next e))
 
       agree-3 : at + 2 < length log → getD log (at + 2) 0 < 128 → numberAt log at ≡ numberWithin 3 log at
-      unfolding valueOf
+      unfolding valueAt
       agree-3 third small =
           let last : at + 3 - 1 ≡ at + 2 = omega arith in
           let low : getD log (at + 2) 0 % 128 ≡ getD log (at + 2) 0 = omega arith in

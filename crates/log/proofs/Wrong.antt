@@ -23,7 +23,7 @@ use Rattle.log.specs.declared.Header.{Header}
 use Rattle.log.specs.declared.Record.{Record}
 use Rattle.log.specs.declared.keep.Kept.{Kept}
 use Rattle.log.specs.declared.reader.Reader.{Reader}
-use Rattle.log.specs.Numbers.{groupsAt, isCut, isLong, isPadded, valueOf, numberAt, groupsOf}
+use Rattle.log.specs.Numbers.{groupsAt, isCut, isLong, isPadded, valueAt, numberAt, groupsOf}
 use Rattle.log.specs.Records.{headerRefusal, headerOfNumbers, headerOf, recordAt, placeAfter, cellAt}
 use Rattle.log.specs.Written.{numberRefusal, headerRefused, recordRefusal}
 use Rattle.log.proofs.One.{NewEnsures, RecordEnsures, CellEnsures, PastEnsures, ReadEnsures}
@@ -46,7 +46,7 @@ use Rattle.log.proofs.keep.write_record.Reads as write-record-reads
 
 -- every definition on the way down to the numbers: of numbers, and of all else
 unfoldable numbers-unfolded : Unit {0}
-unfolding groupsAt isCut isLong isPadded valueOf numberAt groupsOf numberRefusal
+unfolding groupsAt isCut isLong isPadded valueAt numberAt groupsOf numberRefusal
 numbers-unfolded = tt
 
 unfoldable pub unfolded : Unit {0}

@@ -30,8 +30,8 @@ abbrev pub groupAt : List ℕ → ℕ → ℕ
 groupAt log at = getD log at 0 % 128
 
 -- "low group first": the value of one, two or three groups
-unfoldable pub valueOf : ℕ → List ℕ → ℕ → ℕ
-valueOf groups log at =
+unfoldable pub valueAt : ℕ → List ℕ → ℕ → ℕ
+valueAt groups log at =
     cond (eqb groups 1) (groupAt log at)
     (cond (eqb groups 2) (groupAt log at + groupAt log (at + 1) * 128)
     (groupAt log at + groupAt log (at + 1) * 128 + groupAt log (at + 2) * 16384))
@@ -46,7 +46,7 @@ noNumber = record { refusal = 11; value = 0; next = 0 }
 unfoldable pub numberAt : List ℕ → ℕ → Number
 numberAt log at =
     cond (isCut log at || (isLong log at || isPadded log at)) noNumber
-    (number (valueOf (groupsAt log at) log at) (at + groupsAt log at))
+    (number (valueAt (groupsAt log at) log at) (at + groupsAt log at))
 
 -- a number's shortest form, where so many groups hold it
 unfoldable pub groupsOf : ℕ → ℕ → List ℕ

@@ -1,7 +1,7 @@
 // The sequencing word, document 01: the cell number and its protection, the second number, and the difference of numbers.
 ghost use mathlib.Core.Path.{_≡_};
 ghost use Prim.Native.Nat.{_%_};
-ghost use Rattle.numbers.specs.Numbers.{turned, entryOf, foundOf, differenceOf};
+ghost use Rattle.numbers.specs.Numbers.{turned, entryOf, foundOf, differenceOf, indicationRefused};
 ghost use Rattle.numbers.specs.Code.{sequenceOf};
 
 // Table A.1: the first eight sequencing bits for numbers 0 to 15, the first bit sent being the top one.
@@ -98,4 +98,14 @@ pub fn difference(number: u8, last: u8) -> u8
     ensures { λ r. ⌜ r ≡ differenceOf number last ⌝ }
 {
     std::num::wrapping_sub_u8(number, last) % 16
+}
+
+// Whether the indication is 1 where the number isn't a multiple of 8.
+pub fn indication_refused(number: u8, indication: bool) -> bool
+    ensures { λ r. ⌜ r ≡ indicationRefused number indication ⌝ }
+{
+    if !indication {
+        return false;
+    }
+    number % 8 != 0
 }
