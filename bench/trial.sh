@@ -1,15 +1,16 @@
 #!/usr/bin/env bash
-# A trial build: the two boxes as they stand in crates/, compiled without any proof, in the place of the proved library in the
-# benchmark. For counting a change's instructions before it is proved; nothing that it prints is about the proved library.
+# A trial build: the two boxes as they stand in crates/, compiled without any proof and counted in the place of the proved
+# library. It takes some seconds. For seeing what a change costs before it is proved; it says nothing of the proved library.
 #
-#   bash bench/trial.sh [ROWS]      ROWS picks rows by name, as for run.sh
+#   bash bench/trial.sh [ROWS]      ROWS is a pattern that picks rows by name; without it all rows are counted
+#   target/trial/bench times ROWS   afterwards: nanoseconds of proved, plain C and memcpy
 #
 # The toolchain compiles only a program without proof, and a program exports nothing. So the face's functions become a program
 # that calls them, its LLVM module is taken from the compiler's hands, and functions for C are added to it.
 set -eu -o pipefail
 export LC_ALL=C
 here=$(cd "$(dirname "$0")/.." && pwd)
-kit=$(dirname "$(dirname "$(readlink -f "$(command -v rt)")")")/on/x86_64
+kit=$(dirname "$(dirname "$(rt doc)")")/on/$(uname -m)
 out=$here/target/trial
 rm -rf "$out"
 mkdir -p "$out/tools/bin" "$out/src"
@@ -46,9 +47,16 @@ fn main() {
 }
 RT
 libraries=(--lib "std=$kit/../../libs/std/src/lib.rt")
-for crate in runs formats numbers guards tables cells sender receiver; do
-    libraries+=(--lib "$crate=$here/crates/$crate/src/lib.rt")
-done
+visited=' '
+visit() { # CRATE: adds it to the libraries, after all that it depends on
+    case $visited in *" $1 "*) return ;; esac
+    visited="$visited$1 "
+    local needed
+    for needed in $(sed -n "s/^$1: *//p" "$here/crates.txt"); do visit "$needed"; done
+    libraries+=(--lib "$1=$here/crates/$1/src/lib.rt")
+}
+visit sender
+visit receiver
 "$kit/bin/rattle-cases" --toolchain "$out/tools" "$out/src/main.rt" --crate-name face "${libraries[@]}" > "$out/cases.log"
 
 target=(--target=x86_64-unknown-linux-gnu --no-default-config -Wno-override-module -x ir)
@@ -93,4 +101,4 @@ PY
 gcc -O3 -std=gnu11 -Wall -Wextra -falign-functions=64 -falign-loops=32 -I"$here/include" -I"$here/bench" "$here/bench/bench.c" \
     "$here/bench/plain.c" "$out/face.o" -o "$out/bench"
 echo 'a trial: not proved'
-bash "$here/bench/run.sh" "$out/bench" "${1:-.}"
+python3 "$here/bench/run.py" --count "$out/bench" "${1:-.}"

@@ -26,7 +26,8 @@ WARNINGS := -Wall -Wextra
 # Aligned, the baseline doesn't change by where the linker happens to place its loops.
 BENCH_FLAGS := -O3 -std=gnu11 $(WARNINGS) -falign-functions=64 -falign-loops=32
 
-.PHONY: face-test face-compare face-examples face-archive fuzz bench
+.PHONY: face-build face-test face-compare face-examples face-archive fuzz
+.PHONY: bench-build bench bench-count bench-table bench-keep bench-guard
 
 # Proves again only what changed, so that nothing is measured or compared that isn't in the crates.
 face-archive:
@@ -64,6 +65,9 @@ face-examples: $(EXAMPLES)/handover-c $(EXAMPLES)/handover-rust $(EXAMPLES)/libr
 	$(call prints-expected,python3 examples/python/handover.py $(EXAMPLES)/librimesatchel.so)
 	@echo "examples: C, Rust and Python print what is expected"
 
+# Everything that links the archive. The gate builds it while `rt ci` goes on.
+face-build: face-compare $(EXAMPLES)/handover-c $(EXAMPLES)/handover-rust $(EXAMPLES)/librimesatchel.so target/bench/bench
+
 face-test: face-compare face-examples
 	$(COMPARE) vectors tests/vectors $(LINELIST)
 	$(COMPARE) story
@@ -80,6 +84,20 @@ target/bench/bench: bench/bench.c bench/plain.c bench/plain.h include/rimesatche
 	mkdir -p target/bench
 	gcc $(BENCH_FLAGS) -Iinclude -Ibench bench/bench.c bench/plain.c $(ARCHIVE) -o $@
 
-bench: face-archive
-	$(MAKE) -f tests/face.mk target/bench/bench
-	bash bench/run.sh target/bench/bench '$(ROWS)'
+bench-build: face-archive
+	$(MAKE) --no-print-directory -f tests/face.mk target/bench/bench
+
+bench: bench-build
+	python3 bench/run.py target/bench/bench '$(ROWS)'
+
+bench-count: bench-build
+	python3 bench/run.py --count target/bench/bench '$(ROWS)'
+
+bench-table: bench-build
+	python3 bench/run.py --page docs/SPEED.md target/bench/bench
+
+bench-keep: bench-build
+	python3 bench/run.py --keep bench/instructions.txt target/bench/bench
+
+bench-guard: target/bench/bench
+	python3 bench/run.py --guard bench/instructions.txt target/bench/bench

@@ -1,3 +1,4 @@
 pub mod Cases
+pub mod Contracts
 pub mod Demands
 pub mod Line

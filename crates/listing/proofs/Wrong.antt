@@ -14,13 +14,13 @@ use Rattle.receiver.proofs.Wrong as receiver
 use Rattle.listing.specs.declared.Listed.{Listed}
 use Rattle.listing.specs.Text.{digitsOf}
 use Rattle.listing.specs.Words.{words}
-use Rattle.listing.specs.List.{judgedOf, lineOf, afterOf, endLines, recordLines, listOf}
+use Rattle.listing.specs.List.{judgedOf, lineOf, afterOf, endLines, recordLines, listRefusal, listOf}
 use Rattle.listing.proofs.list.Kinds as list-kinds
 use Rattle.listing.proofs.list.Reads as list-reads
 
 -- every definition on the way down to the numbers
 unfolded : Unit {0}
-unfolding over log.unfolded receiver.unfolded digitsOf judgedOf lineOf afterOf endLines recordLines listOf
+unfolding over log.unfolded receiver.unfolded digitsOf judgedOf lineOf afterOf endLines recordLines listRefusal listOf
 unfolded = tt
 
 -- the paper's zero cell, and its log: 56 02 00, then twice 00 and that cell

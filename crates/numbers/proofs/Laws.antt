@@ -17,8 +17,26 @@ use lib.Pow.{pow-mono}
 use Rattle.runs.specs.Division.{coefficients, divided, takenDown, remainder}
 use Rattle.runs.specs.Test.{every}
 use Rattle.runs.proofs.Laws.{every-at, split, or-right}
+use Rattle.numbers.specs.declared.Found.{Found}
 use Rattle.numbers.specs.declared.Found.the-variants.{Number, Nothing}
-use Rattle.numbers.specs.Numbers.{tableA1, entryOf, turned, protectionOf, sevenOf, dividedEntry, placeIn, numberIn, foundOf, wordBit, gathered, eightOf, secondOf, differenceOf}
+use Rattle.numbers.specs.Numbers.{
+  tableA1,
+  entryOf,
+  turned,
+  protectionOf,
+  sevenOf,
+  dividedEntry,
+  placeIn,
+  numberIn,
+  foundOf,
+  refusalOf,
+  valueOf,
+  wordBit,
+  gathered,
+  eightOf,
+  secondOf,
+  differenceOf,
+}
 use Rattle.numbers.specs.Code.{sequenceOf}
 
 -- each entry is what the division and the parity make of its number
@@ -155,6 +173,17 @@ unfolding every wordBit
 second-back word {second} h =
     eqb→eq (secondOf (wordBit word second)) second (every-at (λ s. eqb (secondOf (wordBit word s)) s) 16 tt second h)
 
+-- bits 9 to 12 of a word one by one, and those after them
+pub second-bit : (word second : ℕ) {i : ℕ} → i < 4 → wordBit word second (8 + i) ≡ second / 2 ^ i % 2
+unfolding wordBit
+second-bit word second {i} h =
+    rw (le-ltb (8 + i) 8 (omega arith), lt-ltb (8 + i) 12 (omega arith))
+    (ap (λ (k : ℕ). second / 2 ^ k % 2) (let place : 8 + i - 8 ≡ i = omega arith in place))
+
+pub later-bit : (word second : ℕ) {slot : ℕ} → 12 ≤ slot → wordBit word second slot ≡ 0
+unfolding wordBit
+later-bit word second {slot} h = rw (le-ltb slot 8 (omega arith), le-ltb slot 12 h)
+
 pub entry-lt : {number : ℕ} → number < 16 → entryOf number < 256
 unfolding every tableA1
 entry-lt {number} h = leb→le _ _ (every-at (λ n. ltb (entryOf n) 256) 16 tt number h)
@@ -266,3 +295,36 @@ found-not word e =
   where
     never : Number (numberIn word) ≡ Nothing → ⊥
     never h = let z : _≡_ {A = ℕ} 0 1 = cc in omega arith
+
+-- a number's entry is found to be that number
+pub entry-found : {number : ℕ} → number < 16 → foundOf (entryOf number) ≡ Number number
+entry-found {number} h = sym (found-number (entryOf number) (number-entry h) h)
+
+-- what is found is refused 8 or not at all; where it isn't, its entry is the eight bits, and where it is, they are no entry
+pub found-either : (word : ℕ) (P : Found → Type 0) → (numberIn word < 16 → P (Number (numberIn word))) → (numberIn word ≡ 16 → P Nothing) → P (foundOf word)
+unfolding foundOf tableA1
+found-either word P here there =
+    split (ltb (numberIn word) 16)
+    (λ t. rw t (here (ltb-true (numberIn word) 16 t)))
+    (λ t. rw t (there (let above = ltb-false (numberIn word) 16 t in let low = place-le word tableA1 in omega arith)))
+
+pub value-lt : (word : ℕ) → valueOf (foundOf word) < 16
+unfolding valueOf
+value-lt word = found-either word (λ f. valueOf f < 16) (λ h. h) (λ e. omega arith)
+
+pub found-entry : (word : ℕ) → refusalOf (foundOf word) ≡ 0 → entryOf (valueOf (foundOf word)) ≡ word
+unfolding refusalOf valueOf
+found-entry word =
+    found-either word (λ f. refusalOf f ≡ 0 → entryOf (valueOf f) ≡ word)
+    (λ h e. entry-number-in word h)
+    (λ none e. absurd (let never : _≡_ {A = ℕ} 8 0 = e in omega arith))
+
+pub no-entry-refused : (word : ℕ) → ((number : ℕ) → number < 16 → entryOf number ≡ word → ⊥) → refusalOf (foundOf word) ≡ 8
+unfolding refusalOf
+no-entry-refused word never =
+    found-either word (λ f. refusalOf f ≡ 8) (λ h. absurd (never (numberIn word) h (entry-number-in word h))) (λ e. refl)
+
+pub refused-8 : (word : ℕ) → (refusalOf (foundOf word) ≡ 0 → ⊥) → refusalOf (foundOf word) ≡ 8
+unfolding refusalOf
+refused-8 word =
+    found-either word (λ f. (refusalOf f ≡ 0 → ⊥) → refusalOf f ≡ 8) (λ h some. absurd (some refl)) (λ none some. refl)

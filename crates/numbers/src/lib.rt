@@ -2,7 +2,7 @@
 ghost use mathlib.Core.Path.{_≡_};
 ghost use Prim.Native.Nat.{_*_, _%_};
 ghost use Rattle.runs.specs.Division.{remainder};
-ghost use Rattle.numbers.specs.Numbers.{turned, entryOf, foundOf, differenceOf};
+ghost use Rattle.numbers.specs.Numbers.{turned, entryOf, foundOf, differenceOf, indicationRefused};
 ghost use Rattle.numbers.specs.Code.{sequenceOf};
 
 // The number that eight sequencing bits are, or nothing where they equal no entry of the table.
@@ -79,4 +79,14 @@ pub fn difference(number: u8, last: u8) -> u8
     ensures { λ r. ⌜ r ≡ differenceOf number last ⌝ }
 {
     std::num::wrapping_sub_u8(number, last) % 16
+}
+
+// Whether the indication is 1 where the number isn't a multiple of 8.
+pub fn indication_refused(number: u8, indication: bool) -> bool
+    ensures { λ r. ⌜ r ≡ indicationRefused number indication ⌝ }
+{
+    if !indication {
+        return false;
+    }
+    number % 8 != 0
 }

@@ -1,6 +1,9 @@
-// What protects a sample, and a subframe's mark, each as one load: a `match` of constants becomes a table of the program where no arm has
-// two keys that follow each other and the last arm has neither the first key nor the last. Each function may be called **once** in a
-// program: a second call makes of both a call in every slot. Hence one for each loop.
+// Two tables by the nine top bits of a sample: the protection bits, which the sender writes, and the marks, which the
+// receiver gives. tools/tables.py prints this file: change that, and not this.
+//
+// A table is a `match` with constant arms. The compiler makes one load of it; a constant array it would copy to the stack first.
+// Several functions have the same table, because the compiler does so only where a function is called in one place of the
+// program. Where two loops call it, both make a call for every slot, which takes much longer. So each loop has its own.
 ghost use mathlib.Core.Path.{_≡_};
 ghost use Prim.Native.Nat.{_*_, _%_, _<_};
 ghost use Rattle.guards.specs.Guards.{tenGuard};

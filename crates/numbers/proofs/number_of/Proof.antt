@@ -3,17 +3,18 @@
 use mathlib.Core.Path.{_≡_, _∙_, sym, ap}
 use Prim.Native.Nat.{ℕ, _/_, _%_}
 use Rattle.numbers.specs.declared.Found.the-variants.{Number}
-use Rattle.numbers.specs.Numbers.{entryOf, turned}
+use Rattle.numbers.specs.Numbers.{entryOf}
 use Rattle.numbers.specs.Code.{sequenceOf}
 use Rattle.numbers.proofs.Laws.{otherFour, four-number, four-nothing}
 use borrow.Author.Needs.{needs}
 use Rattle.numbers.proofs.number_of.Statement.{statement}
 use Rattle.numbers.proofs.number_of.Tie as tie
 
-abbrev wordOf : tie.After-turned-round2 → ℕ
-wordOf c = c .before .before .before .args .word
+-- after the last call: the way back to the start
+abbrev from : tie.After-turned-round2 → tie.Start
+from c = c .before .before .before
 
-asked : (c : tie.After-turned-round2) → otherFour (wordOf c) ≡ c .before .first-eight .result / 16
+asked : (c : tie.After-turned-round2) → otherFour (from c .args .word) ≡ c .before .first-eight .result / 16
 asked c =
     sym
     (ap (λ (n : ℕ). n / 16)
@@ -22,14 +23,14 @@ asked c =
 
 returns : tie.Need-returns
 returns c =
-    ap Number (c .before .before .before .turned-round .ensures)
-    ∙ four-number (c .before .before .before .before .fits .word .fits)
-    (asked (c .before) ∙ c .if1 .taken ∙ c .before .turned-round2 .ensures)
+    let last = c .before in
+    ap Number (last .before .before .turned-round .ensures)
+    ∙ four-number (from last .fits .word .fits) (asked last ∙ c .if1 .taken ∙ last .turned-round2 .ensures)
 
 returns-2 : tie.Need-returns-2
 returns-2 c =
-    four-nothing (c .before .before .before .before .fits .word .fits)
-    (λ e. c .if1 .left (sym (asked (c .before)) ∙ e ∙ sym (c .before .turned-round2 .ensures)))
+    let last = c .before in
+    four-nothing (from last .fits .word .fits) (λ e. c .if1 .left (sym (asked last) ∙ e ∙ sym (last .turned-round2 .ensures)))
 
 pub number-of-spec : {M : Type 1} → statement M
 number-of-spec =
