@@ -4,8 +4,10 @@
 It starts from the statements of crates/line/proofs/Demands.antt, follows each name that a statement or a definition says to its
 definition in specs/ (a declared type to its struct in src/), and prints each file with the lines reached, comments counted in.
 
-A contract (`Meets..` in crates/line/specs/Contracts.antt) is counted but not followed: the code is proved to meet it and the demands
-are proved of every call that meets it, so what it says need not be trusted. How many lines stand behind the contracts is told last.
+A contract (`Meets..` in crates/line/specs/Contracts.antt) is counted but not followed: what it says need not be trusted. The code
+is proved to meet the `ensures` of each public function; crates/line/proofs/Ensures.antt proves that a call that meets the
+`ensures` meets the contract; the demands are proved of every call that meets the contract. So the demands hold of the code. How
+many lines stand behind the contracts is told last.
 
 It fails where a definition reached lies in a file of the code's words, or where more lines are reached than MOST.
 
@@ -18,7 +20,7 @@ import sys
 
 ROOT = pathlib.Path(__file__).resolve().parent.parent / "crates"
 START = ROOT / "line/proofs/Demands.antt"
-CODE = {"Code", "Packing", "Unpacking", "Marks", "Sound"}
+CODE = {"Code", "Packing", "Unpacking", "Marks", "Settings", "Sound"}
 CONTRACTS = ("line", "Contracts")
 MOST = 750
 

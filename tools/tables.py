@@ -53,8 +53,8 @@ HEAD = '''// Two tables by the nine top bits of a sample: the protection bits, w
 // receiver gives. tools/tables.py prints this file: change that, and not this.
 //
 // A table is a `match` with constant arms. The compiler makes one load of it; a constant array it would copy to the stack first.
-// Several functions have the same table, because the compiler does so only where a function is called in one place of the
-// program. Where two loops call it, both make a call for every slot, which takes much longer. So each loop has its own.
+// Two functions have the same table, because the compiler does so only where a function is called in one place of the program.
+// Where two loops call it, both make a call for every slot, which takes much longer. So each loop has its own.
 ghost use mathlib.Core.Path.{_≡_};
 ghost use Prim.Native.Nat.{_*_, _%_, _<_};
 ghost use Rattle.guards.specs.Guards.{tenGuard};
@@ -66,14 +66,11 @@ MARKS = '⌜ MarksOf (nine % 512) r × (r < 4294967296) ⌝'
 
 # name, what it answers, the name of its key, comment
 FUNCTIONS = [
-    ('guard_of', 'guard', 'bits', 'The protection bits of nine sample bits, V being 0: for subframes of four octets.'),
-    ('guard_in_three', 'guard', 'key', 'For subframes of three octets.'),
-    ('guard_in_six', 'guard', 'key', 'For subframes of six.'),
-    ('marks_of', 'marks', 'top',
-     'For nine sample bits, the mark of each five low bits of a subframe, as a bit of the answer: for subframes of any width.'),
-    ('marks_at', 'marks', 'key', 'For subframes of four octets.'),
-    ('marks_in_three', 'marks', 'key', 'For subframes of three octets.'),
-    ('marks_in_six', 'marks', 'key', 'For subframes of six.'),
+    ('protection_for_usual', 'guard', 'bits', "The protection bits of nine sample bits, V being 0: for the sender's usual call."),
+    ('marks_for_usual', 'marks', 'key',
+     'The marks of all subframes with these nine sample bits: bit n of the answer is the mark where the five low bits are n (V, the\n'
+     "// sequencing bit, three protection bits). For the receiver's usual call."),
+    ('marks_for_others', 'marks', 'top', 'The same, for all its other calls.'),
 ]
 
 

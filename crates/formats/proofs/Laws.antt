@@ -34,10 +34,8 @@ use Rattle.formats.specs.Formats.{
   noFormat,
   formatOf,
   settingsRefusal,
-  settingsOf,
-  settled,
-  unsettledBy,
 }
+use Rattle.formats.specs.Settings.{settingsOf, settled, unsettledBy}
 use Rattle.formats.specs.Code.{refusalBy, isUsual, usualWith}
 
 pub length-low : {code : ℕ} → code < 2 → lengthOf code ≡ 0

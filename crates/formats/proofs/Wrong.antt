@@ -18,8 +18,8 @@ use Rattle.formats.specs.Formats.{
   slotsOf,
   formatOf,
   settingsRefusal,
-  settingsOf,
 }
+use Rattle.formats.specs.Settings.{settingsOf}
 use Rattle.formats.specs.Code.{isUsual}
 use Rattle.formats.proofs.settings.Kinds as settings-kinds
 use Rattle.formats.proofs.settings.Reads as settings-reads

@@ -6,7 +6,6 @@ use mathlib.Core.List.{List, [], _∷_}
 use Prim.Native.Nat.{ℕ, _+_, _*_, _/_, _%_}
 use lib.Dec.{eqb, leb, ltb}
 use Rattle.formats.specs.declared.Format.{Format}
-use Rattle.formats.specs.declared.Settled.{Settled}
 
 -- "0 and 1 reserved, 2 to 8 mean four times the code, 9 reserved, 10 means 40, 11 to 15 reserved": 0 for what is reserved
 unfoldable pub lengthOf : ℕ → ℕ
@@ -114,25 +113,3 @@ timesOf slots channels = slots / channels
 unfoldable pub settingsRefusal : ℕ → ℕ → ℕ → ℕ
 settingsRefusal octet channels order =
     cond (not (isBase octet)) 1 (cond (eqb channels 0 || ltb (slotsOf octet) channels) 2 (cond (ltb 1 order) 3 0))
-
--- what is settled where no check refuses
-abbrev pub settled : ℕ → ℕ → ℕ → Settled
-settled octet channels order =
-    record {
-      refusal = 0;
-      format = formatOf octet;
-      channels = channels;
-      times = timesOf (formatOf octet .slots) channels;
-      «by_channel» = eqb order 1;
-    }
-
--- "Every refusal returns its number .. with any other reported number 0"
-abbrev pub unsettledBy : ℕ → Settled
-unsettledBy refusal = record { refusal = refusal; format = noFormat; channels = 0; times = 0; «by_channel» = false }
-
--- what an octet, C and an order settle, or their refusal
-unfoldable pub settingsOf : ℕ → ℕ → ℕ → Settled
-settingsOf octet channels order =
-    cond (eqb (settingsRefusal octet channels order) 0)
-    (settled octet channels order)
-    (unsettledBy (settingsRefusal octet channels order))

@@ -2,7 +2,8 @@
 ghost use mathlib.Core.Bool.{cond};
 ghost use mathlib.Core.Path.{_≡_};
 ghost use Prim.Native.Nat.{_/_, _≤_};
-ghost use Rattle.formats.specs.Formats.{sampleBits, formatOf, settingsOf, unsettledBy};
+ghost use Rattle.formats.specs.Formats.{sampleBits, formatOf};
+ghost use Rattle.formats.specs.Settings.{settingsOf, unsettledBy};
 ghost use Rattle.formats.specs.Code.{refusalBy, isUsual, usualWith};
 
 // One subframe in bits, and how many octets wide it is; S, the slots in a cell. All zeros stand for no format.

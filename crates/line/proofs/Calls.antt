@@ -6,7 +6,7 @@ use Prim.Native.Nat.{ℕ, _-_}
 use borrow.Author.Tests.{ne-eqb}
 use lib.ListN.{length}
 use Rattle.runs.specs.Runs.{over}
-use Rattle.formats.specs.Formats.{formatOf}
+use Rattle.numbers.specs.Numbers.{valueOf}
 use Rattle.sender.specs.Sender as S
 use Rattle.receiver.specs.Receiver as R
 use Rattle.line.specs.Contracts.{SendCall, MeetsSend, ReceiveCall, MeetsReceive}
@@ -17,9 +17,9 @@ use Rattle.line.proofs.Cells.{
   samples-there,
   ancillary-there,
   marks-there,
-  number-sent,
-  second-sent,
-  no-second-sent,
+  found-there,
+  second-there,
+  no-second-there,
 }
 
 pub sends-or-nothing : (s : SendCall) → MeetsSend s → Refuses (s .answer .refusal) (sendTable s) (SentNothing s)
@@ -34,7 +34,7 @@ sends-or-nothing s meets =
     }
 
 pub receives-or-nothing : (r : ReceiveCall) → MeetsReceive r → Refuses (r .answer .refusal) (receiveTable r) (ReceivedNothing r)
-unfolding R.receivedOf R.given over
+unfolding R.receivedOf R.entriesGiven over
 receives-or-nothing r meets =
     record {
       by-the-table = received-refusal r meets;
@@ -55,9 +55,9 @@ receives-or-nothing r meets =
 
 -- what a call that is taken gives a run
 given-there : (r : ReceiveCall) (run : List ℕ) {entries there after : List ℕ} → receiveTable r ≡ 0
-    → after ≡ over (R.given (r .state) (r .cell) (length (r .samples)) (length (r .ancillary)) (length (r .marks)) entries) run
+    → after ≡ over (R.entriesGiven (r .state) (r .cell) (length (r .samples)) (length (r .ancillary)) (length (r .marks)) entries) run
     → entries ≡ there → after ≡ over there run
-unfolding R.given
+unfolding R.entriesGiven
 given-there r run taken left e = left ∙ rw taken (ap (λ new. over new run) e)
 
 -- a cell that was sent, unaltered at a receiver that takes it
@@ -85,19 +85,18 @@ module _ (s : SendCall) (r : ReceiveCall) (sends : MeetsSend s) (sent : s .answe
               (given-there r (r .marks) taken (receives .marks-after) (marks-there s sends sent r same arrived));
         }
 
-    second-told : r .answer .second ≡ R.secondNow (formatIn s) (s .written)
+    second-told : r .answer .second ≡ R.secondNow (r .state) (r .cell)
     unfolding R.receivedOf
-    second-told = ap (λ x. x .second) (receives .answered) ∙ (rw taken) ∙ (λ i. R.secondNow (formatOf (same .format i)) (arrived i))
+    second-told = ap (λ x. x .second) (receives .answered) ∙ rw taken
 
     pub tells : (formatIn s .«overhead_bits» ≡ 0 → ⊥) → Tells s r
-    unfolding R.receivedOf
+    unfolding R.receivedOf valueOf
     tells with-overhead =
         record {
           number-told =
               ap (λ x. x .number) (receives .answered)
               ∙ (rw taken)
-              ∙ (λ i. R.numberNow (formatOf (same .format i)) (arrived i))
-              ∙ number-sent s sends sent with-overhead;
-          second-told = λ enough. second-told ∙ second-sent s sends sent with-overhead enough;
-          no-second-told = λ less. second-told ∙ no-second-sent s sends sent with-overhead less;
+              ∙ ap valueOf (found-there s sends sent with-overhead r same arrived);
+          second-told = λ enough. second-told ∙ second-there s sends sent with-overhead r same arrived enough;
+          no-second-told = λ less. second-told ∙ no-second-there s sends sent with-overhead r same arrived less;
         }

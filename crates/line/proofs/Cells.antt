@@ -11,10 +11,13 @@ use lib.Dec.{eqb}
 use lib.ListN.{length, replicate}
 use Rattle.runs.proofs.Laws.{split}
 use Rattle.formats.specs.declared.Format.{Format}
-use Rattle.formats.specs.Formats.{formatOf, timesOf, settingsRefusal, settled}
-use Rattle.numbers.specs.Numbers.{entryOf, numberIn}
-use Rattle.numbers.proofs.Laws.{entry-lt, number-entry}
-use Rattle.cells.specs.Cells.{sampleIn, ancillaryIn, markIn, eightIn, entriesOf}
+use Rattle.formats.specs.Formats.{formatOf, timesOf, settingsRefusal}
+use Rattle.formats.specs.Settings.{settled}
+use Rattle.numbers.specs.declared.Found.the-variants.{Number}
+use Rattle.numbers.specs.Numbers.{entryOf, foundOf}
+use Rattle.numbers.proofs.Laws.{entry-lt, entry-found}
+use Rattle.cells.specs.Cells.{sampleIn, ancillaryIn, markIn, eightIn, secondIn, entriesOf}
+use Rattle.cells.specs.Placement.{usedOf}
 use Rattle.cells.proofs.Sent.{sent-cell}
 use Rattle.cells.proofs.Whole.{cell-length, eight-in-back, second-in-back, second-in-none, samples-back, ancillaries-back, marks-back}
 use Rattle.sender.specs.declared.Sender.{Sender}
@@ -39,7 +42,7 @@ received-refusal r meets =
 
 -- C×T is that of the settings
 pub used-in : {st : Sender} {rc : Receiver} → InSettings st rc → R.usedNow rc ≡ S.usedNow st
-used-in same = λ i. same .channels i * timesOf (formatOf (same .format i) .slots) (same .channels i)
+used-in same = λ i. usedOf (same .format i) (same .channels i)
 
 -- a call that wrote a cell
 module _ (s : SendCall) (meets : MeetsSend s) (sent : s .answer .refusal ≡ 0) where
@@ -100,25 +103,40 @@ module _ (s : SendCall) (meets : MeetsSend s) (sent : s .answer .refusal ≡ 0) 
         ∙ eight-in-back (fits .limits .sound) _ (s .state .channels) (S.timesNow (s .state)) _ _ (s .samples) (s .ancillary)
         (fits .small) (fits .few) with-overhead (entry-lt number-lt)
 
-    pub number-sent : R.numberNow (formatIn s) (s .written) ≡ s .state .number
-    unfolding R.numberNow
-    number-sent = rw (ne-eqb _ 0 with-overhead) (ap numberIn eight-sent ∙ number-entry number-lt)
-
-    pub second-sent : 12 ≤ formatIn s .slots → R.secondNow (formatIn s) (s .written) ≡ S.secondNow (s .state) (s .indication)
-    unfolding S.cellNow R.secondNow
+    second-sent : 12 ≤ formatIn s .slots → secondIn (formatIn s) (s .written) ≡ S.secondNow (s .state) (s .indication)
+    unfolding S.cellNow
     second-sent enough =
-        ap (R.secondNow (formatIn s)) written-is
-        ∙ rw (ne-eqb _ 0 with-overhead)
-        (second-in-back (fits .limits .sound) _ (s .state .channels) (S.timesNow (s .state)) _ _ (s .samples) (s .ancillary)
-        (fits .small) (fits .few) with-overhead enough second-small)
+        ap (secondIn (formatIn s)) written-is
+        ∙ second-in-back (fits .limits .sound) _ (s .state .channels) (S.timesNow (s .state)) _ _ (s .samples) (s .ancillary)
+        (fits .small) (fits .few) with-overhead enough second-small
 
-    pub no-second-sent : formatIn s .slots < 12 → R.secondNow (formatIn s) (s .written) ≡ 0
-    unfolding S.cellNow R.secondNow
+    no-second-sent : formatIn s .slots < 12 → secondIn (formatIn s) (s .written) ≡ 0
+    unfolding S.cellNow
     no-second-sent less =
-        ap (R.secondNow (formatIn s)) written-is
-        ∙ rw (ne-eqb _ 0 with-overhead)
-        (second-in-none (fits .limits .sound) _ (s .state .channels) (S.timesNow (s .state)) _ _ (s .samples) (s .ancillary)
-        (fits .small) (fits .few) with-overhead less)
+        ap (secondIn (formatIn s)) written-is
+        ∙ second-in-none (fits .limits .sound) _ (s .state .channels) (S.timesNow (s .state)) _ _ (s .samples) (s .ancillary)
+        (fits .small) (fits .few) with-overhead less
+
+    -- the numbers that a receiver in the sender's settings finds there
+    module _ (r : ReceiveCall) (same : InSettings (s .state) (r .state)) (arrived : r .cell ≡ s .written) where
+      pub found-there : R.foundNow (r .state) (r .cell) ≡ Number (s .state .number)
+      unfolding R.foundNow
+      found-there =
+          (λ i.
+          cond (eqb (formatOf (same .format i) .«overhead_bits») 0) (Number 0) (foundOf (eightIn (formatOf (same .format i)) (arrived i))))
+          ∙ rw (ne-eqb _ 0 with-overhead) (ap foundOf eight-sent ∙ entry-found number-lt)
+
+      second-here : R.secondNow (r .state) (r .cell) ≡ secondIn (formatIn s) (s .written)
+      unfolding R.secondNow
+      second-here =
+          (λ i. cond (eqb (formatOf (same .format i) .«overhead_bits») 0) 0 (secondIn (formatOf (same .format i)) (arrived i)))
+          ∙ rw (ne-eqb _ 0 with-overhead)
+
+      pub second-there : 12 ≤ formatIn s .slots → R.secondNow (r .state) (r .cell) ≡ S.secondNow (s .state) (s .indication)
+      second-there enough = second-here ∙ second-sent enough
+
+      pub no-second-there : formatIn s .slots < 12 → R.secondNow (r .state) (r .cell) ≡ 0
+      no-second-there less = second-here ∙ no-second-sent less
 
   -- at a receiver in the sender's settings
   module _ (r : ReceiveCall) (same : InSettings (s .state) (r .state)) (arrived : r .cell ≡ s .written) where

@@ -8,7 +8,7 @@ use native.Mathlib.Nat.{le-trans}
 use lib.ListN.{length, take}
 use Rattle.runs.specs.Runs.{over}
 use Rattle.formats.specs.Formats.{settingsRefusal}
-use Rattle.sender.specs.declared.Sent.{Sent}
+use Rattle.sender.specs.declared.Ready as SR
 use Rattle.sender.specs.Sender as S
 use Rattle.receiver.specs.declared.Ready.{Ready}
 use Rattle.receiver.specs.Receiver as R
@@ -73,9 +73,9 @@ demand-1-send = sends-or-nothing
 pub demand-1-receive : (r : ReceiveCall) → MeetsReceive r → Refuses (r .answer .refusal) (receiveTable r) (ReceivedNothing r)
 demand-1-receive = receives-or-nothing
 
-pub demand-1-open-sender : (octet channels order number : ℕ) (wanted : Bool) (second : ℕ) (r : Sent)
+pub demand-1-open-sender : (octet channels order number : ℕ) (wanted : Bool) (second : ℕ) (r : SR.Ready)
     → MeetsOpenSender octet channels order number wanted second r
-    → Refuses (r .refusal) (S.stateRefusal octet channels order number wanted second) (r .state ≡ S.zeroState)
+    → Refuses (r .refusal) (S.stateRefusal (S.openState octet channels order number wanted second)) (r .state ≡ S.zeroState)
 demand-1-open-sender = opens-sender
 
 pub demand-1-open-receiver : (octet channels order : ℕ) (r : Ready) → MeetsOpenReceiver octet channels order r

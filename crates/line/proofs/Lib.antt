@@ -2,6 +2,7 @@ pub mod Calls
 pub mod Cases
 pub mod Cells
 pub mod Demands
+pub mod Ensures
 pub mod Opened
 pub mod Places
 pub mod Refused

@@ -23,8 +23,12 @@ unfolding F.lengthOf F.sampleBits F.ancillaryBits F.overheadBits F.eleven F.isAm
 formats = tt
 
 numbers : Unit {0}
-unfolding N.tableA1 N.turned N.protectionOf N.sevenOf N.dividedEntry N.wordBit N.gathered N.placeIn N.differenceOf nineOf tenGuard guardOf
+unfolding N.tableA1 N.turned N.protectionOf N.sevenOf N.dividedEntry N.wordBit N.gathered N.placeIn N.foundOf N.differenceOf nineOf tenGuard guardOf
 numbers = tt
+
+found : Unit {0}
+unfolding N.refusalOf N.valueOf N.indicationRefused
+found = tt
 
 cells : Unit {0}
 unfolding C.overheadOf C.subframeOf C.slotOctets C.cellOf C.subframeAt C.sampleIn C.ancillaryIn C.markIn C.bitIn C.eightIn C.secondIn C.entriesOf
@@ -35,7 +39,7 @@ unfolding slotOf slotOfEntry entryOfSlot carried
 placement = tt
 
 sender : Unit {0}
-unfolding S.numbersRefused S.stateRefusal S.allBelow S.lengthsRefused S.valuesRefused S.indicationRefused S.sendRefusal S.secondNow S.after
+unfolding S.numbersRefused S.stateRefusal S.allBelow S.lengthsRefused S.valuesRefused S.sendRefusal S.secondNow S.after
 sender = tt
 
 sent : Unit {0}
@@ -43,7 +47,7 @@ unfolding S.cellNow S.sentOf S.cellAfter
 sent = tt
 
 receiver : Unit {0}
-unfolding R.lastRefused R.stateRefusal R.lengthsRefused R.numberNow R.gapNow R.receiveRefusal R.entriesNow R.secondNow R.after R.receivedOf R.given
+unfolding R.lastRefused R.stateRefusal R.lengthsRefused R.foundNow R.gapOf R.receiveRefusal R.entriesNow R.secondNow R.after R.receivedOf R.entriesGiven
 receiver = tt
 
 line : Unit {0}
@@ -51,5 +55,5 @@ unfolding L.Row L.wrote L.Each L.longest L.placesOf L.fromFirst L.allLost L.toLa
 line = tt
 
 unfoldable pub opened : Unit {0}
-unfolding runs formats numbers cells placement sender sent receiver line
+unfolding runs formats numbers found cells placement sender sent receiver line
 opened = tt

@@ -10,7 +10,7 @@ use lib.ListN.{length, getD, take}
 use Rattle.runs.specs.Runs.{over}
 use Rattle.runs.proofs.Laws.{split}
 use Rattle.formats.specs.Formats.{settingsRefusal}
-use Rattle.sender.specs.declared.Sent.{Sent}
+use Rattle.sender.specs.declared.Ready as SR
 use Rattle.sender.specs.Sender as S
 use Rattle.receiver.specs.declared.Ready.{Ready}
 use Rattle.receiver.specs.Receiver as R
@@ -52,14 +52,14 @@ opening table number Nothing taken refused zero same nothing =
     (λ e. rw e (record { by-the-table = zero ∙ sym (eqb-true table 0 e); then-nothing = λ some. absurd (some zero) }))
     (λ e. rw e (record { by-the-table = same; then-nothing = λ some. nothing }))
 
-pub opens-sender : (octet channels order number : ℕ) (wanted : Bool) (second : ℕ) (r : Sent)
+pub opens-sender : (octet channels order number : ℕ) (wanted : Bool) (second : ℕ) (r : SR.Ready)
     → MeetsOpenSender octet channels order number wanted second r
-    → Refuses (r .refusal) (S.stateRefusal octet channels order number wanted second) (r .state ≡ S.zeroState)
+    → Refuses (r .refusal) (S.stateRefusal (S.openState octet channels order number wanted second)) (r .state ≡ S.zeroState)
 unfolding S.openedOf
 opens-sender octet channels order number wanted second r meets =
     rw meets
-    (opening (S.stateRefusal octet channels order number wanted second) (λ (x : Sent). x .refusal) (λ (x : Sent). x .state ≡ S.zeroState)
-    _ _ refl refl refl)
+    (opening (S.stateRefusal (S.openState octet channels order number wanted second)) (λ (x : SR.Ready). x .refusal)
+    (λ (x : SR.Ready). x .state ≡ S.zeroState) _ _ refl refl refl)
 
 pub opens-receiver : (octet channels order : ℕ) (r : Ready) → MeetsOpenReceiver octet channels order r
     → Refuses (r .refusal) (settingsRefusal octet channels order) (r .state ≡ R.zeroState)

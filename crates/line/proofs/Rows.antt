@@ -12,6 +12,9 @@ use lib.Dec.{eqb}
 use lib.ListN.{replicate, replicate-append-replicate}
 use Rattle.runs.proofs.Laws.{split}
 use Rattle.formats.specs.Formats.{formatOf}
+use Rattle.numbers.specs.declared.Found.{Found}
+use Rattle.numbers.specs.declared.Found.the-variants.{Number}
+use Rattle.numbers.specs.Numbers.{valueOf}
 use Rattle.sender.specs.declared.Sender.{Sender}
 use Rattle.sender.specs.Sender as S
 use Rattle.receiver.specs.declared.Receiver.{Receiver}
@@ -41,7 +44,7 @@ use Rattle.line.specs.Line.{
   placesOf,
 }
 use Rattle.line.proofs.Calls.{sends-or-nothing, receives-or-nothing}
-use Rattle.line.proofs.Cells.{next-state, settings-on, state-passes}
+use Rattle.line.proofs.Cells.{next-state, settings-on, state-passes, found-there}
 use Rattle.line.proofs.Steps.{
   missing,
   difference-after,
@@ -114,19 +117,25 @@ and-false : (b : Bool) → b && false ≡ false
 and-false true = refl
 and-false false = refl
 
-last-passes : {st : Sender} {rc : Receiver} (since : Since) → Beside st rc since
-    → R.lastRefused (formatOf (st .format)) (rc .started) (rc .last) ≡ false
+overhead-there : {st : Sender} {rc : Receiver} {since : Since} → Beside st rc since → formatOf (rc .format) .«overhead_bits» ≡ 0 → ⊥
+overhead-there beside e = beside .with-overhead (ap (λ (x : ℕ). formatOf x .«overhead_bits») (sym (beside .same .format)) ∙ e)
+
+last-passes : {st : Sender} {rc : Receiver} (since : Since) → Beside st rc since → R.lastRefused rc ≡ false
 unfolding R.lastRefused
 last-passes never beside = rw (beside .stands .1)
 last-passes {rc = rc} (after k waiting) beside =
-    rw (le-ltb _ _ (beside .stands .1), beside .stands .0, ne-eqb _ 0 (beside .with-overhead)) (and-false (not (eqb (rc .last) 0)))
+    rw (le-ltb _ _ (beside .stands .1), beside .stands .0, ne-eqb _ 0 (overhead-there beside)) (and-false (not (eqb (rc .last) 0)))
 
-gap-is : {st : Sender} {rc : Receiver} (since : Since) → Beside st rc since → lostSince since ≤ 14
-    → R.gapNow (formatOf (st .format)) (rc .started) (rc .last) (st .number) ≡ suc (lostSince since)
-unfolding R.gapNow
-gap-is never beside few = rw (beside .stands .0)
-gap-is {rc = rc} (after k waiting) beside few =
-    rw (beside .stands .0, ne-eqb _ 0 (beside .with-overhead), beside .stands .2)
+number-of : {found : Found} {n : ℕ} → found ≡ Number n → valueOf found ≡ n
+unfolding valueOf
+number-of e = ap valueOf e
+
+gap-is : {st : Sender} {rc : Receiver} (since : Since) (cell : List ℕ) → Beside st rc since → lostSince since ≤ 14
+    → R.foundNow rc cell ≡ Number (st .number) → R.gapOf rc cell ≡ suc (lostSince since)
+unfolding R.gapOf
+gap-is never cell beside few found = rw (beside .stands .0)
+gap-is {rc = rc} (after k waiting) cell beside few found =
+    rw (number-of found, ne-eqb _ 0 (overhead-there beside), beside .stands .2, beside .stands .0)
     (difference-after (rc .last) k (beside .stands .1) few ∙ add-one k)
 
 -- the places that wait are those of lost cells
@@ -219,7 +228,7 @@ module _ (t : Trip) (ts : List Trip) (sends : MeetsSend (t .sent)) (sent : t .se
           = subst (λ (x : Receiver). Beside (s .state) x since) (sym (takes .meets .0)) beside in
           let arrived = ap (λ x. x .cell) (head-eq-of-cons-eq (takes .these)) in
           let done = took s sends sent (here .with-overhead) c (takes .meets .1) (here .same) arrived (takes .room .0)
-          (last-passes since here) (gap-is since here (few .0)) in
+          (last-passes since here) (gap-is since (c .cell) here (few .0) (found-there s sends sent (here .with-overhead) c (here .same) arrived)) in
           let next : Beside (s .answer .state) (c .answer .state) (after 0 [])
           = record {
             with-overhead = next-overhead (beside .with-overhead);

@@ -104,9 +104,9 @@ answered rc a = R.receivedOf rc (a .cell) (a .indication) 80 80 80
 abbrev receiving : Receiver → Arrival → ReceiveCall
 receiving rc a =
     call rc a (answered rc a)
-    (R.given rc (a .cell) 80 80 80 (R.samplesNow rc (a .cell)))
-    (R.given rc (a .cell) 80 80 80 (R.ancillaryNow rc (a .cell)))
-    (R.given rc (a .cell) 80 80 80 (R.marksNow rc (a .cell)))
+    (R.entriesGiven rc (a .cell) 80 80 80 (R.samplesNow rc (a .cell)))
+    (R.entriesGiven rc (a .cell) 80 80 80 (R.ancillaryNow rc (a .cell)))
+    (R.entriesGiven rc (a .cell) 80 80 80 (R.marksNow rc (a .cell)))
 
 promised : (rc : Receiver) (a : Arrival) → MeetsReceive (receiving rc a)
 promised rc a = record { answered = refl; samples-after = refl; ancillary-after = refl; marks-after = refl }

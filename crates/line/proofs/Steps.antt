@@ -2,12 +2,12 @@
 -- Assumes nothing.
 use mathlib.Core.Bool.{true, false, cond}
 use mathlib.Core.List.{List, [], _∷_, _++_, zip, zipWith}
-use mathlib.Core.Path.{_≡_, refl, sym, _∙_, ap, ap₂, subst}
+use mathlib.Core.Path.{_≡_, refl, sym, _∙_, ap, ap₂}
 use Prim.Native.Nat.{ℕ, zero, suc, _+_, _*_, _%_, _-_, _≤_, _<_}
 use native.Mathlib.Nat.{mod-add-mod, mod-eq-of-lt, add-mod-right, suc-mul, suc-ne-zero}
 use native.Mathlib.Numerals.{add-one}
 use native.Mathlib.Omega.{arith}
-use borrow.Author.Tests.{ne-eqb, le-ltb, eq-eqb, eqb-true, eqb-false}
+use borrow.Author.Tests.{ne-eqb, eq-eqb, eqb-true, eqb-false}
 use lib.Bits.{bitXor, xor-self}
 use lib.Count.{ones, onesIn}
 use lib.Dec.{eqb, ltb}
@@ -15,10 +15,11 @@ use lib.ListN.{length, take, replicate, length-append, length-replicate}
 use lib.Seq.{take-at}
 use Rattle.runs.specs.Runs.{over}
 use Rattle.runs.specs.Refusals.{orElse}
-use Rattle.runs.proofs.Laws.{split, then-later}
+use Rattle.runs.proofs.Laws.{split, first-refuses, then-later}
 use Rattle.formats.specs.Formats.{formatOf, settingsRefusal}
-use Rattle.numbers.specs.Numbers.{entryOf, numberIn, differenceOf}
-use Rattle.numbers.proofs.Laws.{entry-number-in, table-apart}
+use Rattle.numbers.specs.declared.Found.the-variants.{Number}
+use Rattle.numbers.specs.Numbers.{entryOf, foundOf, refusalOf, valueOf, differenceOf}
+use Rattle.numbers.proofs.Laws.{table-apart, no-entry-refused}
 use Rattle.cells.specs.Cells.{eightIn}
 use Rattle.sender.specs.Sender as S
 use Rattle.receiver.specs.Receiver as R
@@ -30,12 +31,11 @@ use Rattle.line.proofs.Calls.{gives-back}
 use Rattle.line.proofs.Cells.{
   received-refusal,
   settings-none,
-  state-passes,
   number-lt,
   fits,
   cell-48,
   eight-sent,
-  number-sent,
+  found-there,
   used-in,
   settings-on,
 }
@@ -86,16 +86,9 @@ pub record Took (s : SendCall) (c : ReceiveCall) (gap : ℕ) : Type 0 where
 -- a cell with overhead that a call wrote
 module _ (s : SendCall) (sends : MeetsSend s) (sent : s .answer .refusal ≡ 0) (with-overhead : formatIn s .«overhead_bits» ≡ 0 → ⊥) where
   -- one, two or three altered bits lead off the table
-  off-table : (came : List ℕ) → 1 ≤ alteredIn s came → alteredIn s came ≤ 3 → numberIn (eightIn (formatIn s) came) < 16 → ⊥
+  off-table : (came : List ℕ) → 1 ≤ alteredIn s came → alteredIn s came ≤ 3 → refusalOf (foundOf (eightIn (formatIn s) came)) ≡ 8
   unfolding ones onesIn
-  off-table came some few found =
-      let word = eightIn (formatIn s) came in
-      let entry : entryOf (numberIn word) ≡ word = entry-number-in word found in
-      let altered : alteredIn s came ≡ ones (bitXor (entryOf (s .state .number)) (entryOf (numberIn word)))
-      = ap₂ (λ (a b : ℕ). ones (bitXor a b)) (eight-sent s sends sent with-overhead) (sym entry) in
-      split (eqb (s .state .number) (numberIn word))
-      (λ e. same (altered ∙ ap (λ (n : ℕ). ones (bitXor (entryOf (s .state .number)) (entryOf n))) (sym (eqb-true _ _ e))))
-      (λ e. let far = table-apart (number-lt s sends sent) found (eqb-false _ _ e) in omega (arith, altered))
+  off-table came some few = no-entry-refused (eightIn (formatIn s) came) not-there
     where
       same : alteredIn s came ≡ ones (bitXor (entryOf (s .state .number)) (entryOf (s .state .number))) → ⊥
       same e =
@@ -103,53 +96,73 @@ module _ (s : SendCall) (sends : MeetsSend s) (sent : s .answer .refusal ≡ 0) 
           = ap ones (xor-self (entryOf (s .state .number))) in
           omega arith
 
+      not-there : (number : ℕ) → number < 16 → entryOf number ≡ eightIn (formatIn s) came → ⊥
+      not-there number low entry =
+          let altered : alteredIn s came ≡ ones (bitXor (entryOf (s .state .number)) (entryOf number))
+          = ap₂ (λ (a b : ℕ). ones (bitXor a b)) (eight-sent s sends sent with-overhead) (sym entry) in
+          split (eqb (s .state .number) number)
+          (λ e. same (altered ∙ ap (λ (n : ℕ). ones (bitXor (entryOf (s .state .number)) (entryOf n))) (sym (eqb-true _ _ e))))
+          (λ e. let far = table-apart (number-lt s sends sent) low (eqb-false _ _ e) in omega (arith, altered))
+
   -- a call on it by a receiver in the sender's settings
   module _ (c : ReceiveCall) (receives : MeetsReceive c) (same : InSettings (s .state) (c .state)) where
-    -- a spoiled cell is refused
-    pub spoiled-refused : {came : List ℕ} → c .cell ≡ came → 1 ≤ alteredIn s came → alteredIn s came ≤ 3 → c .answer .refusal ≡ 0 → ⊥
-    unfolding R.numberNow
-    spoiled-refused {came} arrived some few taken =
-        let passed = RL.passes (c .state) (c .cell) _ _ _ (sym (received-refusal c receives) ∙ taken) in
-        let number : R.numberNow (formatIn s) came ≤ 15
-        = subst (λ (n : ℕ). n ≤ 15) (λ i. R.numberNow (formatOf (same .format i)) (arrived i)) (passed .number-to) in
-        let found : numberIn (eightIn (formatIn s) came) ≤ 15 = rw (ne-eqb (formatIn s .«overhead_bits») 0 with-overhead) at number in
-        off-table came some few (omega (arith, found))
+    -- a spoiled cell
+    module _ {came : List ℕ} (arrived : c .cell ≡ came) (some : 1 ≤ alteredIn s came) (few : alteredIn s came ≤ 3) where
+      no-number : refusalOf (R.foundNow (c .state) (c .cell)) ≡ 8
+      unfolding R.foundNow
+      no-number =
+          (λ i.
+          refusalOf
+          (cond (eqb (formatOf (same .format i) .«overhead_bits») 0) (Number 0) (foundOf (eightIn (formatOf (same .format i)) (arrived i)))))
+          ∙ (rw (ne-eqb (formatIn s .«overhead_bits») 0 with-overhead))
+          ∙ off-table came some few
+
+      -- it is refused
+      pub spoiled-refused : c .answer .refusal ≡ 0 → ⊥
+      spoiled-refused taken =
+          let passed = RL.passes (c .state) (c .cell) _ _ _ (sym (received-refusal c receives) ∙ taken) in
+          suc-ne-zero 7 (sym no-number ∙ passed .found)
+
+      -- one of 48 octets is refused 8, where checks 1 to 4 pass and the runs have room
+      pub spoiled-gets-8 : length came ≡ 48 → R.stateRefusal (c .state) ≡ 0 → WithRoom c → c .answer .refusal ≡ 8
+      unfolding R.receiveRefusal R.lengthsRefused
+      spoiled-gets-8 whole state-passes room =
+          received-refusal c receives
+          ∙ then-later _ state-passes
+          ∙ rw (
+            eq-eqb _ _ (ap length arrived ∙ whole),
+            eq-eqb _ _ (room .ancillary-equal),
+            eq-eqb _ _ (room .marks-equal),
+          )
+          (first-refuses _ (λ e. suc-ne-zero 7 (sym no-number ∙ e)) ∙ no-number)
 
     -- an unaltered one is taken where the state passes and the gap is some
     module _ (arrived : c .cell ≡ s .written) (room : WithRoom c)
-        (last-passes : R.lastRefused (formatIn s) (c .state .started) (c .state .last) ≡ false)
-        {gap : ℕ} (gap-is : R.gapNow (formatIn s) (c .state .started) (c .state .last) (s .state .number) ≡ suc gap)
+        (last-passes : R.lastRefused (c .state) ≡ false) {gap : ℕ} (gap-is : R.gapOf (c .state) (c .cell) ≡ suc gap)
       where
         -- checks 1 to 4 pass
         state-none : R.stateRefusal (c .state) ≡ 0
         unfolding R.stateRefusal
         state-none =
-            (λ i.
-            orElse (settingsRefusal (same .format i) (same .channels i) (same .order i))
-            (cond (R.lastRefused (formatOf (same .format i)) (c .state .started) (c .state .last)) 4 0))
+            (λ i. orElse (settingsRefusal (same .format i) (same .channels i) (same .order i)) (cond (R.lastRefused (c .state)) 4 0))
             ∙ then-later _ (settings-none s sends sent)
             ∙ rw last-passes
 
-        number-here : R.numberNow (formatOf (c .state .format)) (c .cell) ≡ s .state .number
-        number-here = (λ i. R.numberNow (formatOf (same .format i)) (arrived i)) ∙ number-sent s sends sent with-overhead
-
-        gap-here : R.gapOf (c .state) (c .cell) ≡ suc gap
-        gap-here = (λ i. R.gapNow (formatOf (same .format i)) (c .state .started) (c .state .last) (number-here i)) ∙ gap-is
+        found-here : R.foundNow (c .state) (c .cell) ≡ Number (s .state .number)
+        found-here = found-there s sends sent with-overhead c same arrived
 
         pub unaltered-taken : c .answer .refusal ≡ 0
-        unfolding R.receiveRefusal R.lengthsRefused
+        unfolding R.receiveRefusal R.lengthsRefused refusalOf
         unaltered-taken =
-            let within : R.numberNow (formatOf (c .state .format)) (c .cell) ≤ 15 = rw number-here (state-passes s sends sent .number-to) in
-            let some : R.gapOf (c .state) (c .cell) ≡ 0 → ⊥ = λ e. suc-ne-zero gap (sym gap-here ∙ e) in
+            let some : R.gapOf (c .state) (c .cell) ≡ 0 → ⊥ = λ e. suc-ne-zero gap (sym gap-is ∙ e) in
             let by-room : receiveTable c ≡ cond (ltb (length (c .samples)) (R.gapOf (c .state) (c .cell) * R.usedNow (c .state))) 10 0
             = then-later _ state-none
             ∙ rw (
               eq-eqb _ _ (ap length arrived ∙ cell-48 s sends sent),
               eq-eqb _ _ (room .ancillary-equal),
               eq-eqb _ _ (room .marks-equal),
-              le-ltb _ _ within,
-              ne-eqb _ 0 some,
-            ) in
+            )
+            (then-later _ (ap refusalOf found-here) ∙ rw (ne-eqb _ 0 some)) in
             received-refusal c receives
             ∙ split (ltb (length (c .samples)) (R.gapOf (c .state) (c .cell) * R.usedNow (c .state)))
             (λ e. absurd (room .long-enough (by-room ∙ rw e)))
@@ -165,7 +178,7 @@ module _ (s : SendCall) (sends : MeetsSend s) (sent : s .answer .refusal ≡ 0) 
         unfolding R.receivedOf
         missing-is =
             ap (λ x. x .missing) (receives .answered)
-            ∙ rw (table-none, gap-here) (let whole : suc gap - 1 ≡ gap = omega arith in whole)
+            ∙ rw (table-none, gap-is) (let whole : suc gap - 1 ≡ gap = omega arith in whole)
 
         state-is : c .answer .state ≡ R.after (c .state) (c .cell)
         unfolding R.receivedOf
@@ -203,7 +216,7 @@ module _ (s : SendCall) (sends : MeetsSend s) (sent : s .answer .refusal ≡ 0) 
             ∙ row-zip (gap * used) 0 (0, 2) (s .samples) (zip (s .ancillary) (replicate used 0)))
 
         pub took : Took s c gap
-        unfolding R.after
+        unfolding R.after valueOf
         took =
             record {
               settings =
@@ -214,6 +227,6 @@ module _ (s : SendCall) (sends : MeetsSend s) (sent : s .answer .refusal ≡ 0) 
                     order = ap (λ x. x .order) state-is ∙ same .order;
                   });
               started = ap (λ x. x .started) state-is;
-              last = ap (λ x. x .last) state-is ∙ number-here;
+              last = ap (λ x. x .last) state-is ∙ ap valueOf found-here;
               hands = hands-out;
             }

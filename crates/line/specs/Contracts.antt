@@ -1,11 +1,14 @@
--- The public calls, each with what it leaves, and the contract of each as its `ensures` in src/ says it. What a contract says need
--- not be trusted: the code is proved to meet it, and the demands are proved of every call that meets it.
+-- The public calls, each with what it leaves, and what it is that a call meets its function's contract. These definitions need no trust.
+-- The code is proved to meet the `ensures` of each function; proofs/Ensures proves that every call that meets the `ensures` meets the
+-- definition here; the demands are proved of every call that meets the definition. So the demands hold of the code. A definition that
+-- says more than the `ensures` is refused in proofs/Ensures, one that says too little for the demands in proofs/Demands.
 -- Assumes nothing.
 use mathlib.Core.Bool.{Bool}
 use mathlib.Core.List.{List}
 use mathlib.Core.Path.{_≡_}
 use Prim.Native.Nat.{ℕ}
 use Rattle.sender.specs.declared.Sender.{Sender}
+use Rattle.sender.specs.declared.Ready as SR
 use Rattle.sender.specs.declared.Sent.{Sent}
 use Rattle.sender.specs.Sender as S
 use Rattle.receiver.specs.declared.Receiver.{Receiver}
@@ -57,17 +60,18 @@ MeetsReceive c =
     (c .answer) (c .samples-after) (c .ancillary-after) (c .marks-after)
 
 -- `sender::opened` and `receiver::opened`
-abbrev pub MeetsOpenSender : ℕ → ℕ → ℕ → ℕ → Bool → ℕ → Sent → Type 0
+abbrev pub MeetsOpenSender : ℕ → ℕ → ℕ → ℕ → Bool → ℕ → SR.Ready → Type 0
 MeetsOpenSender octet channels order number wanted second r = r ≡ S.openedOf octet channels order number wanted second
 
 abbrev pub MeetsOpenReceiver : ℕ → ℕ → ℕ → Ready → Type 0
 MeetsOpenReceiver octet channels order r = r ≡ R.openedOf octet channels order
 
--- `status::step`, which the two calls on a lent block rest on
+-- `status::step`, and the two calls that bring a block forward by it: `bring_forward`, where it is lent, and `brought_forward`
 abbrev pub MeetsStep : Block → ℕ → ℕ → Stepped → Type 0
 MeetsStep block ancillary mark r = r ≡ stepOf block ancillary mark
 
--- reading a log: `read_number`, `read_header`, `read_record`, `read_cell`, `next_place`, which the reader's calls rest on
+-- reading a log: `read_number`, `read_header`, `read_record`, `read_cell`, `next_place`; the reader's `record_here` and `read` are as
+-- `read_record`, its `cell` as `read_cell`, its `past_record` as `next_place`
 abbrev pub MeetsReadNumber : List ℕ → ℕ → Number → Type 0
 MeetsReadNumber log place r = r ≡ numberAt log place
 

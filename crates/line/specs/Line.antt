@@ -15,9 +15,10 @@ use Rattle.sender.specs.Sender as S
 use Rattle.receiver.specs.declared.Receiver.{Receiver}
 use Rattle.receiver.specs.Receiver as R
 use Rattle.line.specs.Contracts.{SendCall, ReceiveCall}
-use Rattle.line.specs.Demands.{receiveTable}
+use Rattle.line.specs.Demands.{receiveTable, formatIn}
 
--- calls in a row from a state: each starts in the state that the one before it answered with, and is as the box promises
+-- calls in a row: the first starts in this state, each later one in the state that the one before it answered, and each is as the
+-- box promises
 unfoldable pub Row : {State Call : Type 0} → (Call → State) → (Call → State) → (Call → Type 0) → State → List Call → Type 0
 Row before after Box st [] = Unit {0}
 Row before after Box st (c ∷ cs) = (before c ≡ st) × Box c × Row before after Box (after c) cs
@@ -49,14 +50,14 @@ pub record Trip : Type 0 where
   pub sent : SendCall
   pub fate : Fate
 
--- it holds of each
+-- something holds of each in a list
 unfoldable pub Each : {A : Type 0} → (A → Type 0) → List A → Type 0
 Each Holds [] = Unit {0}
 Each Holds (x ∷ xs) = Holds x × Each Holds xs
 
--- how many of the first eight sequencing bits of a sent cell are others in what came
+-- how many of the first eight sequencing bits of a sent cell differ in the octets that came
 abbrev pub alteredIn : SendCall → List ℕ → ℕ
-alteredIn s came = ones (bitXor (eightIn (formatOf (s .state .format)) (s .written)) (eightIn (formatOf (s .state .format)) came))
+alteredIn s came = ones (bitXor (eightIn (formatIn s) (s .written)) (eightIn (formatIn s) came))
 
 -- "one, two or three of the first eight sequencing bits and perhaps anything else"; `most` is the three
 abbrev pub Fair : ℕ → SendCall → Fate → Type 0
@@ -69,7 +70,7 @@ unfoldable pub longest : ℕ → List Trip → ℕ
 longest k [] = k
 longest k (t ∷ ts) = cond (isLost (t .fate)) (longest (suc k) ts) (max k (longest 0 ts))
 
--- what arrives of a cell
+-- what arrives: octets and an indication
 pub record Arrival : Type 0 where
   pub cell : List ℕ
   pub indication : Bool
@@ -98,7 +99,7 @@ Place = ℕ × (ℕ × ℕ)
 abbrev pub places : List ℕ → List ℕ → List ℕ → List Place
 places samples ancillary marks = zip samples (zip ancillary marks)
 
--- what one call hands out: as many entries as its answer tells, C×T for each missing cell and for the cell itself
+-- what one call hands out: nothing where it is refused, else C×T entries for each cell told missing and for the cell itself
 abbrev pub handedBy : ReceiveCall → List Place
 handedBy c =
     take (cond (eqb (c .answer .refusal) 0) ((c .answer .missing + 1) * R.usedNow (c .state)) 0)

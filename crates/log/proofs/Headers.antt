@@ -11,7 +11,8 @@ use lib.ListN.{length, set}
 use Rattle.runs.specs.Refusals.{orElse}
 use Rattle.runs.specs.Test.{every}
 use Rattle.runs.proofs.Laws.{every-at, split, past, past-both}
-use Rattle.formats.specs.Formats.{eleven, isAmong, isBase, settingsRefusal, settingsOf}
+use Rattle.formats.specs.Formats.{eleven, isAmong, isBase, settingsRefusal}
+use Rattle.formats.specs.Settings.{settingsOf}
 use Rattle.formats.proofs.Laws.{beyond, Settles, settles-all, sound-fields, refusal-of, given-refusal}
 use Rattle.formats.specs.declared.Settled.{Settled}
 use Rattle.log.specs.declared.Header.{Header}

@@ -13,8 +13,11 @@ use Rattle.runs.specs.Refusals.{orElse}
 use Rattle.runs.proofs.Laws.{split}
 use Rattle.formats.specs.Formats.{formatOf, isBase, slotsOf, settingsRefusal}
 use Rattle.formats.proofs.Laws.{sound-format}
+use Rattle.numbers.specs.declared.Found.{Found}
+use Rattle.numbers.specs.declared.Found.the-variants.{Number, Nothing}
+use Rattle.numbers.specs.Numbers.{refusalOf}
 use Rattle.receiver.specs.declared.Receiver.{Receiver}
-use Rattle.receiver.specs.Receiver.{gapOf, usedNow, numberNow, lastRefused, lengthsRefused, stateRefusal, receiveRefusal}
+use Rattle.receiver.specs.Receiver.{gapOf, usedNow, foundNow, lastRefused, lengthsRefused, stateRefusal, receiveRefusal}
 use Rattle.receiver.proofs.Laws.{gap-to}
 
 not-so : (test : Bool) {n rest : ℕ} → (n ≡ 10 → ⊥) → (rest ≡ 10 → ⊥) → cond test n rest ≡ 10 → ⊥
@@ -32,20 +35,26 @@ state-not-10 : (st : Receiver) → stateRefusal st ≡ 10 → ⊥
 unfolding stateRefusal orElse
 state-not-10 st =
     not-so (eqb (settingsRefusal (st .format) (st .channels) (st .order)) 0)
-    (not-so (lastRefused (formatOf (st .format)) (st .started) (st .last)) (λ e. omega arith) (λ e. omega arith))
+    (not-so (lastRefused st) (λ e. omega arith) (λ e. omega arith))
     (settings-not-10 (st .format) (st .channels) (st .order))
+
+found-not-10 : (found : Found) → refusalOf found ≡ 10 → ⊥
+unfolding refusalOf
+found-not-10 (Number n) e = omega arith
+found-not-10 Nothing e = omega arith
 
 pub always-room : (st : Receiver) (cell : List ℕ) (samples ancillary marks : ℕ) → 15 * usedNow st ≤ samples
     → receiveRefusal st cell samples ancillary marks ≡ 10 → ⊥
 unfolding receiveRefusal orElse
 always-room st cell samples ancillary marks enough =
     let room : gapOf st cell * usedNow st ≤ samples
-    = le-trans (mul-le-mul-right (usedNow st) (gap-to (formatOf (st .format)) (st .started) (st .last) _)) enough in
+    = le-trans (mul-le-mul-right (usedNow st) (gap-to st cell)) enough in
     rw (le-ltb samples _ room)
     (not-so (eqb (stateRefusal st) 0)
     (not-so (lengthsRefused (length cell) samples ancillary marks) (λ e. omega arith)
-    (not-so (ltb 15 (numberNow (formatOf (st .format)) cell)) (λ e. omega arith)
-    (not-so (eqb (gapOf st cell) 0) (λ e. omega arith) (λ e. omega arith))))
+    (not-so (eqb (refusalOf (foundNow st cell)) 0)
+    (not-so (eqb (gapOf st cell) 0) (λ e. omega arith) (λ e. omega arith))
+    (found-not-10 (foundNow st cell))))
     (state-not-10 st))
 
 slots-few : (octet : ℕ) → formatOf octet .slots ≤ 48

@@ -12,7 +12,7 @@ use Rattle.runs.specs.Runs.{tab, joined, octetsOf, readOn, over}
 use Rattle.runs.proofs.Wrong.{Never, Place, lent}
 use Rattle.formats.specs.Formats.{formatOf}
 use Rattle.formats.proofs.Wrong as formats
-use Rattle.numbers.specs.Numbers.{entryOf}
+use Rattle.numbers.specs.Numbers.{refusalOf, valueOf, entryOf}
 use Rattle.numbers.proofs.Wrong as numbers
 use Rattle.guards.proofs.Wrong as guards
 use Rattle.cells.specs.Cells.{
@@ -38,14 +38,14 @@ use Rattle.receiver.specs.Receiver.{
   lastRefused,
   stateRefusal,
   lengthsRefused,
-  numberNow,
-  gapNow,
+  foundNow,
+  gapOf,
   receiveRefusal,
   entriesNow,
   secondNow,
   after,
   receivedOf,
-  given,
+  entriesGiven,
 }
 use Rattle.receiver.proofs.opened.Kinds as opened-kinds
 use Rattle.receiver.proofs.opened.Reads as opened-reads
@@ -53,8 +53,16 @@ use Rattle.receiver.proofs.receive.Kinds as receive-kinds
 use Rattle.receiver.proofs.receive.Reads as receive-reads
 
 -- every definition on the way down to the numbers
+unfoldable cells-unfolded : Unit {0}
+unfolding tab joined octetsOf readOn overheadOf subframeOf slotOctets cellOf subframeAt sampleIn ancillaryIn markIn bitIn eightIn secondIn
+cells-unfolded = tt
+
+unfoldable placed-unfolded : Unit {0}
+unfolding entriesOf slotOf slotOfEntry entryOfSlot carried over orElse refusalOf valueOf openedOf lastRefused stateRefusal lengthsRefused after
+placed-unfolded = tt
+
 unfoldable pub unfolded : Unit {0}
-unfolding orElse tab joined octetsOf readOn over formats.unfolded numbers.unfolded guards.unfolded overheadOf subframeOf slotOctets cellOf subframeAt sampleIn ancillaryIn markIn bitIn eightIn secondIn entriesOf slotOf slotOfEntry entryOfSlot carried openedOf lastRefused stateRefusal lengthsRefused numberNow gapNow receiveRefusal entriesNow secondNow after receivedOf given
+unfolding formats.unfolded numbers.unfolded guards.unfolded cells-unfolded placed-unfolded foundNow gapOf receiveRefusal entriesNow secondNow receivedOf entriesGiven
 unfolded = tt
 
 -- openings: format, C, order
