@@ -75,31 +75,42 @@ abbrev pub fromThree : ℕ → ℕ
 fromThree n = bitXor (fromFour n) (fromFour n / 4 % 2 * 52)
 
 abbrev pub leftLow : ℕ → ℕ
-leftLow n = bitXor (fromThree n) (fromThree n / 8 % 2 * 104) / 16
+leftLow n = bitXor (fromThree n) (fromThree n / 8 % 2 * 104)
 
--- what it leaves is the paper's remainder, turned round
+-- what it leaves is the paper's remainder, turned round, in bits 5 to 7
 abbrev pub turnedRemainder : ℕ → ℕ
-turnedRemainder number = turned (remainder 3 0b1011 7 (turned number * 8) * 2)
+turnedRemainder number = turned (remainder 3 0b1011 7 (turned number * 8) * 2) * 16
 
 pub left-right : (number : ℕ) → number < 16 → leftLow number ≡ turnedRemainder number
 unfolding every turned coefficients divided takenDown
 left-right number h = eqb→eq _ _ (every-at (λ n. eqb (leftLow n) (turnedRemainder n)) 16 tt number h)
 
-pub remainder-lt : (number : ℕ) → number < 16 → turnedRemainder number < 8
-unfolding every turned coefficients divided takenDown
-remainder-lt number h = leb→le _ _ (every-at (λ n. ltb (turnedRemainder n) 8) 16 tt number h)
-
 -- with the number's own bits before its complement and the parity after it, that is the table's entry, the first bit lowest
-sevenLow : ℕ → ℕ
-sevenLow number = number + (7 - turnedRemainder number) * 16
+abbrev pub sevenLow : ℕ → ℕ → ℕ
+sevenLow number rest = (number + bitXor rest 112) % 256
+
+abbrev pub complemented : ℕ → ℕ
+complemented number = bitXor (turnedRemainder number) 112
+
+pub complement-lt : (number : ℕ) → number < 16 → complemented number < 128
+unfolding every turned coefficients divided takenDown
+complement-lt number h = leb→le _ _ (every-at (λ n. ltb (complemented n) 128) 16 tt number h)
+
+eightLow : ℕ → ℕ
+eightLow number =
+    sevenLow number (turnedRemainder number) + ones (sevenLow number (turnedRemainder number)) % 2 * 128
 
 pub eight-right : (number : ℕ) {rest : ℕ} → number < 16 → rest ≡ turnedRemainder number
-    → number + (7 - rest) * 16 + ones (number + (7 - rest) * 16) % 2 * 128 ≡ sequenceOf (entryOf number) 0
-unfolding every sevenLow tableA1 turned sequenceOf coefficients divided takenDown ones onesIn
+    → sevenLow number rest + ones (sevenLow number rest) % 2 * 128 ≡ sequenceOf (entryOf number) 0
+unfolding every eightLow tableA1 turned sequenceOf coefficients divided takenDown ones onesIn
 eight-right number h e =
-    ap (λ (r : ℕ). number + (7 - r) * 16 + ones (number + (7 - r) * 16) % 2 * 128) e
-    ∙ eqb→eq _ _
-    (every-at (λ n. eqb (sevenLow n + ones (sevenLow n) % 2 * 128) (sequenceOf (entryOf n) 0)) 16 tt number h)
+    ap (λ (r : ℕ). sevenLow number r + ones (sevenLow number r) % 2 * 128) e
+    ∙ eqb→eq _ _ (every-at (λ n. eqb (eightLow n) (sequenceOf (entryOf n) 0)) 16 tt number h)
+
+pub seven-lt : (number : ℕ) {rest : ℕ} → number < 16 → rest ≡ turnedRemainder number → sevenLow number rest < 128
+unfolding every turned coefficients divided takenDown
+seven-lt number {rest} h e =
+    rw e (leb→le _ _ (every-at (λ n. ltb (sevenLow n (turnedRemainder n)) 128) 16 tt number h))
 
 -- turned round it is the entry
 pub entry-right : (number : ℕ) {eight : ℕ} → number < 16 → eight ≡ sequenceOf (entryOf number) 0

@@ -25,24 +25,24 @@ fn turned_round(bits: u8) -> u8
 // terms below x^3 only.
 //
 // Bits stand as they are sent, the first one lowest: bit 0 is the term x^6, bit 6 the term 1. So the divisor, which is 1011 from
-// x^3 down, is written 1101 here, and moves up by one bit from line to line.
-fn remainder_of(number: u8) -> u8
-    ensures { λ r. ⌜ r ≡ turned (remainder 3 0b1011 7 (turned (number % 16) * 8) * 2) ⌝ }
+// x^3 down, is written 1101 here, and moves up by one bit from line to line. The rest stands in bits 4 to 6, where the cell has it.
+fn remainder_of(number: u64) -> u64
+    ensures { λ r. ⌜ r ≡ turned (remainder 3 0b1011 7 (turned (number % 16) * 8) * 2) * 16 ⌝ }
 {
     let from_six = number % 16;
     let from_five = from_six ^ (from_six % 2 * 0b1101);
     let from_four = from_five ^ (from_five / 2 % 2 * 0b11010);
     let from_three = from_four ^ (from_four / 4 % 2 * 0b110100);
-    let left = from_three ^ (from_three / 8 % 2 * 0b1101000);
-    left / 16
+    from_three ^ (from_three / 8 % 2 * 0b1101000)
 }
 
 // The first eight sequencing bits of a cell with this number, taken modulo 16, the first bit sent lowest: the number's four bits, the
-// complement of the remainder in three, and the bit that makes the count of ones even.
+// remainder's three complemented, and the bit that makes the count of ones even.
 fn first_eight(number: u8) -> u8
     ensures { λ r. ⌜ r ≡ sequenceOf (entryOf (number % 16)) 0 ⌝ }
 {
-    let seven = number % 16 + (7 - remainder_of(number)) * 16;
+    let four = (number % 16) as u64;
+    let seven = ((four + (remainder_of(four) ^ 0b111_0000)) % 256) as u8;
     seven + (u8::count_ones(seven) % 2) as u8 * 128
 }
 
