@@ -20,9 +20,11 @@ import tempfile
 
 CELLS = 16  # calls in a batch, as in bench.c
 
-# What is asked, in instructions: a number for the usual call, and for every other row a part of plain C's.
-USUAL = {'pack': 395, 'unpack': 348}
-PART_OF_PLAIN = {'0': 0.60, '1': 0.65}
+# What is asked, in instructions: a number for the usual call, and for every other row a part of plain C's. Before request 8 it was
+# 395 and 348, 0.60 and 0.65; the division in place of the number table may take 32 and 20 more than the 379 and 338 before it, and
+# 0.04.
+USUAL = {'pack': 411, 'unpack': 358}
+PART_OF_PLAIN = {'0': 0.64, '1': 0.69}
 
 # How far a guarded row may be from its number.
 MARGIN = 0.03
