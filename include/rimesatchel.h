@@ -107,7 +107,7 @@ enum { RIME_REPORT_MISSING = 0, RIME_REPORT_NUMBER = 1, RIME_REPORT_SECOND = 2, 
 enum { RIME_BLOCK_BITS = 0, RIME_BLOCK_OCTETS = 1, RIME_OUT_ANSWER = 0, RIME_OUT_OCTETS = 1 };
 
 /* The answers of rime_status_step. */
-enum { RIME_STATUS_NONE = 0, RIME_STATUS_DOES_NOT_FIT = 1, RIME_STATUS_FITS = 2 };
+enum { RIME_STATUS_NONE = 0, RIME_STATUS_DOES_NOT_FIT = 1, RIME_STATUS_FITS = 2, RIME_STATUS_NONE_CARRIED = 3 };
 
 /* Places in what is read of a log. */
 enum { RIME_HEADER_PLACE = 0, RIME_HEADER_FORMAT = 1, RIME_HEADER_CHANNELS = 2, RIME_HEADER_ORDER = 3 };
@@ -168,7 +168,8 @@ uint8_t rime_receive(uint8_t state[RIME_RECEIVER_STATE], const uint8_t *cell, si
  * an unfinished one; B = 0 adds the C bit to a begun block and otherwise changes nothing; mark 2 drops the block,
  * whatever B. Bit k is bit k mod 8 of octet k / 8, the lowest being bit 0.
  * Leaves in `out` an answer and 24 octets: RIME_STATUS_NONE and zeros, unless this was the 192nd bit. Then the octets
- * are the finished block and the answer says whether octet 23 is the check character of octets 0 to 22. Dropping or
+ * are the finished block and the answer says whether octet 23 is the check character of octets 0 to 22; it is
+ * RIME_STATUS_NONE_CARRIED where bit 0 of octet 0 is 0, since such a block, of consumer use, carries none. Dropping or
  * finishing leaves `block` as 25 zeros.
  * Refused, with `block` untouched and `out` zeros: 14, `mark` above 2, `ancillary` above 15 or more than 191 bits
  * begun.

@@ -13,6 +13,7 @@ ROOM = 15 * ENTRIES
 CELLS, LOST, SPOILED = 4, 1, 3
 ON_THE_LINE = {LOST: " The line loses it.", SPOILED: " The line turns over its first bit."}
 MARKS = ["sound", "doubtful", "missing"]
+ANSWERS = ["neither", "doesn't fit", "fits", "none carried"]  # of a channel status block
 REASONS = [
     "done",
     "the format is none of the eleven",
@@ -34,6 +35,7 @@ ARGUMENTS = {
     "rime_receiver_open": [c_uint32, c_uint32, c_uint32, OCTETS],
     "rime_receive": [OCTETS, OCTETS, c_size_t, c_bool, POINTER(c_uint64), c_size_t, OCTETS, c_size_t, OCTETS, c_size_t,
                      OCTETS],
+    "rime_status_step": [OCTETS, c_uint8, c_uint8, OCTETS],
 }
 
 
@@ -81,6 +83,13 @@ class Boxes:
         missing, number = report[0], report[1]
         return number, missing, list(zip(samples, marks))[:(missing + 1) * ENTRIES]
 
+    def block(self, bits):
+        """What is answered of a channel status block that comes bit by bit, B in its first entry."""
+        block, out = (c_uint8 * 25)(), (c_uint8 * 25)()
+        for at, bit in enumerate(bits):
+            self.call("rime_status_step", block, (8 if at == 0 else 0) + 4 * bit, 0, out)
+        return ANSWERS[out[0]]
+
 
 def receive(boxes, receiver, octets):
     try:
@@ -119,6 +128,7 @@ def main():
         print(f"Opening a sender of 13 channels: {refused}")
     try:
         reading(boxes)
+        print(f"A block of consumer use: {boxes.block([0] * 192)}.")
     except Refused as refused:
         sys.exit(f"The reading: {refused}")
 

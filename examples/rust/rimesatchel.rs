@@ -105,3 +105,16 @@ impl Receiver {
         unless_refused(refusal, Handed { number, missing, entries })
     }
 }
+
+/// What is answered of a channel status block.
+pub const ANSWERS: [&str; 4] = ["neither", "doesn't fit", "fits", "none carried"];
+
+/// The answer of a channel status block that comes bit by bit, B in its first entry.
+pub fn block(bits: &[u8]) -> Result<&'static str, Refusal> {
+    let (mut block, mut out) = ([0; 25], [0; 25]);
+    for (at, bit) in bits.iter().enumerate() {
+        let b = if at == 0 { 8 } else { 0 };
+        unless_refused(face::status_step(&mut block, b + 4 * bit, 0, &mut out), ())?;
+    }
+    Ok(ANSWERS[usize::from(out[0])])
+}

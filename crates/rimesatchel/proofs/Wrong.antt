@@ -237,7 +237,12 @@ module _ (κs : Lfts 2) (l k : Place) where
   -- a finished block's answer lost
   pub answer-not-lost : Stepping 191 0 (λ x block out. getD out 0 0 ≡ 0)
   unfolding unfolded
-  answer-not-lost x v wrong p = let right : getD (v .1 .1 .1 .0) 0 0 ≡ 1 = ap (λ (l : List ℕ). getD l 0 0) (p .hands) in omega arith
+  answer-not-lost x v wrong p = let right : getD (v .1 .1 .1 .0) 0 0 ≡ 3 = ap (λ (l : List ℕ). getD l 0 0) (p .hands) in omega arith
+
+  -- a block of consumer use answered "doesn't fit"
+  pub consumer-not-judged : Stepping 191 0 (λ x block out. getD out 0 0 ≡ 1)
+  unfolding unfolded
+  consumer-not-judged x v wrong p = let right : getD (v .1 .1 .1 .0) 0 0 ≡ 3 = ap (λ (l : List ℕ). getD l 0 0) (p .hands) in omega arith
 
   -- an ancillary number above 15 taken
   pub refused-step-not-taken : Stepping 3 16 (λ x block out. x ≡ 0)

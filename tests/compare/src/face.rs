@@ -8,6 +8,15 @@ pub type Report = [u8; 4];
 pub type StatusBlock = [u8; 25];
 pub type StatusOut = [u8; 25];
 
+/// What `status_step` answers in the first octet of `out`.
+#[allow(dead_code)] // the comparison has its own words for them
+pub mod status_answer {
+    pub const NEITHER: u8 = 0;
+    pub const DOES_NOT_FIT: u8 = 1;
+    pub const FITS: u8 = 2;
+    pub const NONE_CARRIED: u8 = 3;
+}
+
 mod raw {
     use super::{ReceiverState, Report, SenderState, StatusBlock, StatusOut};
 

@@ -12,7 +12,7 @@ mod status;
 pub use boxes::{Receiver, Sender};
 pub use cells::Shape;
 pub use log::{header, listing, record, Record};
-pub use status::{check_character, step, Block};
+pub use status::{check_character, step, Block, Character};
 
 /// The paper's number for a no.
 pub type Refusal = u8;

@@ -95,7 +95,11 @@ fn status_step(case: &Case) -> Answer {
     match plain::step(&block, case.number(2), case.number(3)) {
         Ok((after, None)) => values![0, after.bits, &after.octets[..], 0, &[0u8; 24][..]],
         Ok((after, Some(handed))) => {
-            let answer = if handed.fits { 2 } else { 1 };
+            let answer = match handed.character {
+                plain::Character::DoesNotFit => 1,
+                plain::Character::Fits => 2,
+                plain::Character::NoneCarried => 3,
+            };
             values![0, after.bits, &after.octets[..], answer, &handed.octets[..]]
         }
         Err(refusal) => values![u64::from(refusal), block.bits, &block.octets[..], 0, &[0u8; 24][..]],
