@@ -15,9 +15,9 @@ use Rattle.formats.specs.Formats.{formatOf, isBase, slotsOf, settingsRefusal}
 use Rattle.formats.proofs.Laws.{sound-format}
 use Rattle.numbers.specs.declared.Found.{Found}
 use Rattle.numbers.specs.declared.Found.the-variants.{Number, Nothing}
-use Rattle.numbers.specs.Numbers.{refusalOf}
+use Rattle.numbers.specs.Numbers.{refusalOf, indicationRefused}
 use Rattle.receiver.specs.declared.Receiver.{Receiver}
-use Rattle.receiver.specs.Receiver.{gapOf, usedNow, foundNow, lastRefused, lengthsRefused, stateRefusal, receiveRefusal}
+use Rattle.receiver.specs.Receiver.{gapOf, usedNow, foundNow, numberNow, lastRefused, lengthsRefused, stateRefusal, receiveRefusal}
 use Rattle.receiver.proofs.Laws.{gap-to}
 
 not-so : (test : Bool) {n rest : ℕ} → (n ≡ 10 → ⊥) → (rest ≡ 10 → ⊥) → cond test n rest ≡ 10 → ⊥
@@ -43,17 +43,18 @@ unfolding refusalOf
 found-not-10 (Number n) e = omega arith
 found-not-10 Nothing e = omega arith
 
-pub always-room : (st : Receiver) (cell : List ℕ) (samples ancillary marks : ℕ) → 15 * usedNow st ≤ samples
-    → receiveRefusal st cell samples ancillary marks ≡ 10 → ⊥
+pub always-room : (st : Receiver) (cell : List ℕ) (indication : Bool) (samples ancillary marks : ℕ) → 15 * usedNow st ≤ samples
+    → receiveRefusal st cell indication samples ancillary marks ≡ 10 → ⊥
 unfolding receiveRefusal orElse
-always-room st cell samples ancillary marks enough =
+always-room st cell indication samples ancillary marks enough =
     let room : gapOf st cell * usedNow st ≤ samples
     = le-trans (mul-le-mul-right (usedNow st) (gap-to st cell)) enough in
     rw (le-ltb samples _ room)
     (not-so (eqb (stateRefusal st) 0)
     (not-so (lengthsRefused (length cell) samples ancillary marks) (λ e. omega arith)
     (not-so (eqb (refusalOf (foundNow st cell)) 0)
-    (not-so (eqb (gapOf st cell) 0) (λ e. omega arith) (λ e. omega arith))
+    (not-so (indicationRefused (numberNow st cell) indication) (λ e. omega arith)
+    (not-so (eqb (gapOf st cell) 0) (λ e. omega arith) (λ e. omega arith)))
     (found-not-10 (foundNow st cell))))
     (state-not-10 st))
 
@@ -64,7 +65,7 @@ slots-few octet = split (isBase octet) (λ e. sound-format octet e .slots-to) (�
 used-few : (st : Receiver) → usedNow st ≤ 48
 used-few st = omega (arith, mul-div-le (formatOf (st .format) .slots) (st .channels), slots-few (st .format))
 
-pub room-in-720 : (st : Receiver) (cell : List ℕ) (samples ancillary marks : ℕ) → 720 ≤ samples
-    → receiveRefusal st cell samples ancillary marks ≡ 10 → ⊥
-room-in-720 st cell samples ancillary marks enough =
-    always-room st cell samples ancillary marks (omega (arith, used-few st))
+pub room-in-720 : (st : Receiver) (cell : List ℕ) (indication : Bool) (samples ancillary marks : ℕ) → 720 ≤ samples
+    → receiveRefusal st cell indication samples ancillary marks ≡ 10 → ⊥
+room-in-720 st cell indication samples ancillary marks enough =
+    always-room st cell indication samples ancillary marks (omega (arith, used-few st))
