@@ -137,6 +137,8 @@ pub(crate) fn judged(
     if numbers::indication_refused(number, indication) {
         return refused(15, state);
     }
+    // read before the last two checks, which takes fewer instructions
+    let second = bits::second_now(set.format, cell);
     let gap = gap_now(set.format, state, number);
     if gap == 0 {
         return refused(9, state);
@@ -144,6 +146,5 @@ pub(crate) fn judged(
     if samples < gap as usize * (set.channels * set.times) {
         return refused(10, state);
     }
-    let second = bits::second_now(set.format, cell);
     taken(state, gap - 1, number, second, indication)
 }

@@ -50,12 +50,17 @@ returns-2 c =
     ∙ judged-15 (s .args .state) (now (s .args .cell)) (s .args .indication) (s .args .samples) (s .pre .0) (s .pre .1)
     (sym (i .before .before .found .given .1) ∙ s .pre .2) (sym (c .before .if1 .taken) ∙ i .indication-refused .ensures)
 
+second-now-requires : tie.Need-second-now-requires
+second-now-requires c κs =
+    let s = start (c .before) in
+    (limits s .sound, judged-whole (s .args .state) (now (s .args .cell)) (s .args .indication) (s .args .samples) (s .pre .0) (s .pre .1))
+
 gap-now-requires : tie.Need-gap-now-requires
-gap-now-requires c κs = format-is (start (c .before))
+gap-now-requires c κs = format-is (start (c .before .before))
 
 -- the way back from the gap
 abbrev judged : tie.After-gap-now → tie.After-indication-refused
-judged g = g .before .before
+judged g = g .before .before .before
 
 gap-is : (g : tie.After-gap-now) → g .gap-now .result ≡ gapOf (start (judged g) .args .state) (now (start (judged g) .args .cell))
 gap-is g =
@@ -70,8 +75,8 @@ returns-3 c =
     let s = start i in
     c .refused3 .ensures
     ∙ judged-9 (s .args .state) (now (s .args .cell)) (s .args .indication) (s .args .samples) (s .pre .0) (s .pre .1)
-    (sym (i .before .before .found .given .1) ∙ s .pre .2) (sym (g .before .if1 .left) ∙ i .indication-refused .ensures) (gap-is g)
-    (c .before .if2 .taken)
+    (sym (i .before .before .found .given .1) ∙ s .pre .2) (sym (g .before .before .if1 .left) ∙ i .indication-refused .ensures)
+    (gap-is g) (c .before .if2 .taken)
 
 mul-if3 : tie.Need-mul-if3
 mul-if3 c = omega (arith, limits (start (judged (c .before .before))) .used-to)
@@ -94,27 +99,23 @@ returns-4 c =
     let s = start i in
     c .refused4 .ensures
     ∙ judged-10 (s .args .state) (now (s .args .cell)) (s .args .indication) (s .args .samples) (s .pre .0) (s .pre .1)
-    (sym (i .before .before .found .given .1) ∙ s .pre .2) (sym (g .before .if1 .left) ∙ i .indication-refused .ensures) (gap-is g)
-    (c .before .before .before .if2 .left) (c .before .if3 .taken)
-
-second-now-requires : tie.Need-second-now-requires
-second-now-requires c κs =
-    let s = start (judged (c .before .before .before)) in
-    (limits s .sound, judged-whole (s .args .state) (now (s .args .cell)) (s .args .indication) (s .args .samples) (s .pre .0) (s .pre .1))
+    (sym (i .before .before .found .given .1) ∙ s .pre .2) (sym (g .before .before .if1 .left) ∙ i .indication-refused .ensures)
+    (gap-is g) (c .before .before .before .if2 .left) (c .before .if3 .taken)
 
 returns-5 : tie.Need-returns-5
 returns-5 c =
-    let g = c .before .before .before .before .before in
+    let g = c .before .before .before .before in
     let i = judged g in
     let s = start i in
     c .taken .ensures
     ∙ judged-0 (s .args .state) (now (s .args .cell)) (s .args .indication) (s .args .samples) (s .pre .0) (s .pre .1)
-    (sym (i .before .before .found .given .1) ∙ s .pre .2) (sym (g .before .if1 .left) ∙ i .indication-refused .ensures) (gap-is g)
-    (c .before .before .before .before .if2 .left) (c .before .before .if3 .left)
-    (c .before .second-now .ensures (s .args .state) (format-is s))
+    (sym (i .before .before .found .given .1) ∙ s .pre .2) (sym (g .before .before .if1 .left) ∙ i .indication-refused .ensures)
+    (gap-is g) (c .before .before .before .if2 .left) (c .before .if3 .left)
+    (g .before .second-now .ensures (s .args .state) (format-is s))
 
 pub judged-spec : {M : Type 1} → statement M
 judged-spec =
     tie.close
-    (tie.spec (search needs) (search needs) (search needs) returns (search needs) (search needs) returns-2 gap-now-requires (search needs) returns-3
-    (search needs) mul-if3 mul-if3-2 (search needs) returns-4 second-now-requires (search needs) (search needs) returns-5)
+    (tie.spec (search needs) (search needs) (search needs) returns (search needs) (search needs) returns-2 second-now-requires
+    gap-now-requires (search needs) returns-3 (search needs) mul-if3 mul-if3-2 (search needs) returns-4 (search needs) (search needs)
+    returns-5)
