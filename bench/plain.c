@@ -1,6 +1,6 @@
 /*
  * Packing and unpacking as a good embedded engineer writes them: one generic loop over the slots for every format, a
- * protection table of 512 octets, all of document 01's refusals. The proved functions are measured against these.
+ * protection table of 512 octets, all of the refusals. The proved functions are measured against these.
  */
 #include "plain.h"
 
