@@ -68,7 +68,7 @@ gapOf st cell =
     cond (not (st .started) || eqb (formatOf (st .format) .«overhead_bits») 0) 1 (differenceOf (numberNow st cell) (st .last))
 
 -- checks 1 to 4, then 5, then 8, 15, 9, 10; the runs are told by their lengths. 15 is "for indication 1 with a number not a multiple
--- of 8, checked after 8 and before 9", "where the format carries overhead": without it the number is 0, which is one
+-- of 8", and only "where the format carries overhead": without overhead the number is 0, a multiple of 8
 unfoldable pub receiveRefusal : Receiver → List ℕ → Bool → ℕ → ℕ → ℕ → ℕ
 receiveRefusal st cell indication samples ancillary marks =
     orElse (stateRefusal st)
