@@ -1,6 +1,6 @@
 /*
  * Packing and unpacking as a good embedded engineer writes them: one generic loop over the slots for every format, a
- * protection table of 512 octets, all of document 01's refusals. The proved functions are measured against these.
+ * protection table of 512 octets, all of the refusals. The proved functions are measured against these.
  */
 #include "plain.h"
 
@@ -206,6 +206,7 @@ MEASURED uint8_t plain_receive(uint8_t state[5], const uint8_t *cell, size_t cel
         number = turned[word >> 8];
         second = turned[word & 15];
         if (number_words[number] != word >> 4) return RIME_REFUSED_NUMBER;
+        if (indication && number % 8 != 0) return RIME_REFUSED_INDICATED;
     }
     bool counts = layout.format.overhead && state[RIME_RECEIVER_STARTED] != 0;
     size_t steps = counts ? (size_t)(number - state[RIME_RECEIVER_LAST]) % 16 : 1;

@@ -77,7 +77,8 @@ enum {
     RIME_REFUSED_LOG_NUMBER = 11, /* a log number not in its shortest form, too long or cut; an indication above 1 */
     RIME_REFUSED_LOG_RECORD = 12, /* a record cut before its 48 octets end */
     RIME_REFUSED_LOG_LENGTH = 13, /* given by the program linelist alone */
-    RIME_REFUSED_STATUS = 14      /* a channel status input that cannot be */
+    RIME_REFUSED_STATUS = 14,     /* a channel status input that cannot be */
+    RIME_REFUSED_INDICATED = 15   /* a cell that comes with indication 1 where its number isn't a multiple of 8 */
 };
 
 /* Places in a sender's state. The three yes-or-no octets here and below: 0 is no, any other octet is yes. */
@@ -155,8 +156,13 @@ uint8_t rime_receiver_open(uint32_t format, uint32_t channels, uint32_t order, u
  * format has none), and `indication` as it came.
  * Refused, with `state` and the runs untouched: 1, 2 and 3 of what stands in `state`; 4, a last number above 15, or not
  * 0 in a state not started or without overhead; 5, `cell` isn't 48 octets or the runs aren't equally long; 8, with
- * overhead, the eight number bits are in no entry of Table A.1; 9, d is 0; 10, the runs are shorter than d * C * T
- * (C * T at the first cell): the same cell may be given again with more room.
+ * overhead, the eight number bits are in no entry of Table A.1; 15, with overhead, `indication` is true and the number
+ * isn't a multiple of 8, at the first cell too; 9, d is 0; 10, the runs are shorter than d * C * T (C * T at the first
+ * cell): the same cell may be given again with more room.
+ *
+ * Before you connect another maker's sender: by clause 4.5.3 of the standard it sets the indication in the last cell of
+ * every block, which has number 7 or 15. This receiver refuses those cells, 15: every eighth cell of such a sender is
+ * turned down and stands in the reading as missing. The senders here set it in the first cell of a block, 0 or 8.
  */
 uint8_t rime_receive(uint8_t state[RIME_RECEIVER_STATE], const uint8_t *cell, size_t cell_len, bool indication,
                      uint64_t *samples, size_t samples_len, uint8_t *ancillary, size_t ancillary_len,

@@ -23,6 +23,11 @@ static const char *const reasons[] = {
     "the cell's number is damaged",
     "the cell has the number of the last one",
     "the runs have too little room",
+    "a number or an indication in the log is wrong",
+    "a record of the log is cut",
+    "the log is too long",
+    "a channel status input cannot be",
+    "the cell came with indication 1, and its number isn't a multiple of 8",
 };
 
 /* What is answered of a channel status block, by RIME_STATUS_NONE, _DOES_NOT_FIT, _FITS and _NONE_CARRIED. */

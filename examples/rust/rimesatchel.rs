@@ -7,7 +7,7 @@ mod face;
 use std::fmt;
 
 /// What each refusal number means.
-const REASONS: [&str; 11] = [
+const REASONS: [&str; 16] = [
     "done",
     "the format is none of the eleven",
     "there are no channels, or more than slots",
@@ -19,6 +19,11 @@ const REASONS: [&str; 11] = [
     "the cell's number is damaged",
     "the cell has the number of the last one",
     "the runs have too little room",
+    "a number or an indication in the log is wrong",
+    "a record of the log is cut",
+    "the log is too long",
+    "a channel status input cannot be",
+    "the cell came with indication 1, and its number isn't a multiple of 8",
 ];
 
 #[derive(Debug, Clone, Copy)]

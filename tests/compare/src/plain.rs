@@ -1,7 +1,7 @@
-//! A second, plain implementation of document 01, written from the paper alone.
+//! A second, plain implementation of documents 01 and 02, written from the papers alone.
 //!
 //! It is here to be compared with, so it is clear rather than fast: a cell is a list of bits, a number is judged as it
-//! stands in 64 bits, and each refusal is one line in the paper's order. Nothing is shared with the proved library.
+//! stands in 64 bits, and each refusal is one line in the papers' order. Nothing is shared with the proved library.
 
 mod bits;
 mod boxes;

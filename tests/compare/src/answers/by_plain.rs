@@ -72,7 +72,7 @@ fn receive(case: &Case) -> Answer {
     let (state, indication) = (case.run(0), case.yes(2));
     let mut runs = [3, 4, 5].map(|field| case.run(field).to_vec());
     let (refusal, after, report) =
-        match receiver_of(state).receive(case.octets(1), [0, 1, 2].map(|run| runs[run].len())) {
+        match receiver_of(state).receive(case.octets(1), indication, [0, 1, 2].map(|run| runs[run].len())) {
             Ok((after, received)) => {
                 for (at, entry) in received.entries.iter().enumerate() {
                     runs[0][at] = entry.sample;
