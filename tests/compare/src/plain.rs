@@ -7,11 +7,13 @@ mod bits;
 mod boxes;
 mod cells;
 mod log;
+mod management;
 mod status;
 
 pub use boxes::{Receiver, Sender};
 pub use cells::Shape;
 pub use log::{header, listing, record, Record};
+pub use management::{controller, equipment};
 pub use status::{check_character, step, Block, Character};
 
 /// The paper's number for a no.
