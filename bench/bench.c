@@ -1,5 +1,5 @@
 /*
- * The proved sender and receiver beside the baseline of plain.c, in one process.
+ * The proved sender and receiver, and the AES3 cable's calls (frames.c), beside the baseline of plain.c, in one process.
  *
  *   bench rows                the rows' names, one a line
  *   bench times [ROWS]        ns per cell of each row: the least of many batches, the two taking turns
@@ -15,6 +15,7 @@
 #include <string.h>
 #include <time.h>
 
+#include "frames.h"
 #include "plain.h"
 #include "rimesatchel.h"
 
@@ -261,5 +262,6 @@ int main(int argc, char **argv) {
         if (function != name_row) check_agreement(&rows[at]);
         function(&rows[at]);
     }
+    frames_rows(argv[1], &pattern);
     return 0;
 }

@@ -1,4 +1,4 @@
-/* The baseline of the benchmark: rime_send and rime_receive once more, in plain C. */
+/* The baseline of the benchmark: rime_send, rime_receive and the AES3 cable's calls once more, in plain C. */
 #ifndef PLAIN_H
 #define PLAIN_H
 
@@ -11,5 +11,9 @@ uint8_t plain_send(uint8_t state[7], bool indication, const uint64_t *samples, s
 uint8_t plain_receive(uint8_t state[5], const uint8_t *cell, size_t cell_len, bool indication,
                       uint64_t *samples, size_t samples_len, uint8_t *ancillary, size_t ancillary_len,
                       uint8_t *marks, size_t marks_len, uint8_t report[4]);
+uint8_t plain_aes3_import(const uint8_t preambles[2], const uint32_t subframes[2], uint64_t samples[2],
+                          uint8_t ancillary[2]);
+uint8_t plain_aes3_export(const uint64_t samples[2], const uint8_t ancillary[2], uint8_t preambles[2],
+                          uint32_t subframes[2]);
 
 #endif

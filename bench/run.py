@@ -25,6 +25,7 @@ CELLS = 16  # calls in a batch, as in bench.c
 # 0.04.
 USUAL = {'pack': 411, 'unpack': 358}
 PART_OF_PLAIN = {'0': 0.64, '1': 0.69}
+PART_OF_PLAIN_FRAMES = 1.2  # rows of an AES3 cable: a frame in and a frame out
 
 # How far a guarded row may be from its number.
 MARGIN = 0.03
@@ -40,7 +41,9 @@ class Row:
         parts = re.fullmatch(r'(\w+)-(\w\w)-C(\d+)-order(\d)(-gap14)?', name).groups()
         self.way, self.octet, self.channels, self.order, self.gap = parts
         self.asked = PART_OF_PLAIN[self.order] * plain
-        if self.octet == '56' and self.channels in ('1', '2') and self.order == '0' and not self.gap:
+        if self.way in ('aes3_import', 'aes3_export'):
+            self.asked = PART_OF_PLAIN_FRAMES * plain
+        elif self.octet == '56' and self.channels in ('1', '2') and self.order == '0' and not self.gap:
             self.asked = USUAL[self.way]
 
     @property
@@ -81,7 +84,8 @@ def add_times(rows, bench, pattern):
 
 def print_table(rows):
     timed = rows[0].times is not None
-    print('Per cell. Instructions are the same at every run, nanoseconds are not. ratio: proved / plain C.')
+    print('Per cell or, of an AES3 cable, per frame. Instructions are the same at every run, nanoseconds are not.')
+    print('ratio: proved / plain C.')
     print(f'{"":26} {"instructions":>24}' + (f' {"nanoseconds":>26}' if timed else ''))
     print(f'{"row":26} {"proved":>8} {"plain C":>8} {"ratio":>6}'
           + (f' {"proved":>10} {"plain C":>8} {"ratio":>6} {"memcpy":>8}' if timed else ''))
@@ -94,16 +98,18 @@ def print_table(rows):
 
 
 def tables(rows):
-    """A table for packing, one for unpacking, one for gaps: a line for each format and order, a column for each C."""
+    """Tables for packing, unpacking, gaps and frames: a line for each format and order, a column for each C."""
     written = []
     for heading, wanted in (('packed', lambda row: row.way == 'pack'),
                             ('unpacked', lambda row: row.way == 'unpack' and not row.gap),
-                            ('unpacked, 14 cells missing', lambda row: row.gap)):
+                            ('unpacked, 14 cells missing', lambda row: row.gap),
+                            ('a frame of an AES3 cable imported', lambda row: row.way == 'aes3_import'),
+                            ('a frame of an AES3 cable exported', lambda row: row.way == 'aes3_export')):
         lines = {}
         for row in filter(wanted, rows):
             text = f'{row.proved:.0f} ({row.ratio:.2f})'
             lines.setdefault((row.octet, row.order), []).append(f'**{text}**' if row.proved > row.asked else text)
-        columns = ('C = 2',) if 'missing' in heading else ('C = 1', 'C = 2', 'C = 5', 'C = S')
+        columns = ('C = 2',) if 'missing' in heading or 'frame' in heading else ('C = 1', 'C = 2', 'C = 5', 'C = S')
         written += ['', '| ' + ' | '.join((heading, 'order') + columns) + ' |', '|---|---|' + '---|' * len(columns)]
         for (octet, order), texts in lines.items():
             written.append(f'| {octet} hex | {order} | ' + ' | '.join(texts) + ' |')

@@ -7,8 +7,9 @@
  *
  * Every function but rime_check_character returns a refusal number, RIME_DONE (0) where there is none. A call never
  * does half of its work. A refusal leaves every lent run and the state as they were, and fills `report`, `out`,
- * `header` or `record` with zeros; an opening that is refused fills `state` with zeros, which is itself refused 1.
- * Where several refusals apply, the first in the order of the list at each function is given.
+ * `header`, `record` or the two entries or halves of a frame with zeros; an opening that is refused fills `state` with
+ * zeros, which is itself refused 1. Where several refusals apply, the first in the order of the list at each function is
+ * given.
  *
  * Lent memory: a run is a pointer and the number of its entries. A pointer is never NULL (a run of no entries may
  * point anywhere else), and no two arguments of one call overlap.
@@ -78,7 +79,10 @@ enum {
     RIME_REFUSED_LOG_RECORD = 12, /* a record cut before its 48 octets end */
     RIME_REFUSED_LOG_LENGTH = 13, /* given by the program linelist alone */
     RIME_REFUSED_STATUS = 14,     /* a channel status input that cannot be */
-    RIME_REFUSED_INDICATED = 15   /* a cell that comes with indication 1 where its number isn't a multiple of 8 */
+    RIME_REFUSED_INDICATED = 15,  /* a cell that comes with indication 1 where its number isn't a multiple of 8 */
+    RIME_REFUSED_PREAMBLES = 16,  /* the preambles of a frame aren't X then Y, or Z then Y */
+    RIME_REFUSED_PARITY = 17,     /* odd parity over slots 4 to 31 in either half of a frame */
+    RIME_REFUSED_BLOCKS = 29      /* the B bits of a frame's halves differ */
 };
 
 /* Places in a sender's state. The three yes-or-no octets here and below: 0 is no, any other octet is yes. */
@@ -206,6 +210,29 @@ uint8_t rime_log_header(const uint8_t *log, size_t log_len, uint32_t header[RIME
  * before the 48 octets do.
  */
 uint8_t rime_log_record(const uint8_t *log, size_t log_len, size_t place, uint64_t record[RIME_RECORD]);
+
+/* The preambles of an AES3 frame's halves, by their letters. */
+enum { RIME_PREAMBLE_X = 0x58, RIME_PREAMBLE_Y = 0x59, RIME_PREAMBLE_Z = 0x5A };
+
+/*
+ * Takes one frame off an AES3 cable into two entries of format 56 hex: the first half into entry 0, the second into
+ * entry 1. In a subframe slot k is the bit worth 2^k: the sample in slots 4 to 27, low bit first, V in 28, U in 29, C in
+ * 30, and in 31 what makes the count of ones in slots 4 to 31 even. Slots 0 to 3 aren't read. Z then Y begins a block for
+ * both channels: B is 1 in both entries; X then Y leaves it 0 in both.
+ * Refused, with `samples` and `ancillary` zeros: 16, the preambles are neither X then Y nor Z then Y; 17, the count of
+ * ones in slots 4 to 31 is odd in either half.
+ */
+uint8_t rime_aes3_import(const uint8_t preambles[2], const uint32_t subframes[2], uint64_t samples[2],
+                         uint8_t ancillary[2]);
+
+/*
+ * Makes one frame for an AES3 cable of two entries of format 56 hex: Z then Y where B is 1 in both, X then Y where it is
+ * 0 in both. Slots 0 to 3 are 0. An imported frame goes out with the slots 4 to 31 and the preambles that it came with.
+ * Refused, with `preambles` and `subframes` zeros: 6, a sample of more than 24 bits or an ancillary number above 15 in
+ * either half; 29, the two B bits differ: blocks that begin at different times in the two channels can't leave by AES3.
+ */
+uint8_t rime_aes3_export(const uint64_t samples[2], const uint8_t ancillary[2], uint8_t preambles[2],
+                         uint32_t subframes[2]);
 
 #ifdef __cplusplus
 }

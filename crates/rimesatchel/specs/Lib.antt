@@ -1,3 +1,4 @@
 pub mod Boxes
+pub mod Frames
 pub mod Logs
 pub mod Statuses

@@ -15,6 +15,8 @@ pub enum Kind {
     ReadHeader,
     ReadRecord,
     Linelist,
+    Aes3Import,
+    Aes3Export,
     Equipment,
     Controller,
 }
@@ -36,6 +38,8 @@ const KINDS: [(Kind, &str, &str, &str); 11] = [
     (Kind::ReadHeader, "read_header", "o", "nnnnn"),
     (Kind::ReadRecord, "read_record", "on", "nnnnn"),
     (Kind::Linelist, "linelist", "o", "o"),
+    (Kind::Aes3Import, "aes3_import", "or", "nrr"),
+    (Kind::Aes3Export, "aes3_export", "rr", "nor"),
     (Kind::Equipment, "equipment", "ooo", "noonnnn"),
     (Kind::Controller, "controller", "oo", "no"),
 ];

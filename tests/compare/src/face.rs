@@ -58,6 +58,18 @@ mod raw {
         pub fn rime_check_character(block: *const [u8; 24]) -> u8;
         pub fn rime_log_header(log: *const u8, log_len: usize, header: *mut [u32; 4]) -> u8;
         pub fn rime_log_record(log: *const u8, log_len: usize, place: usize, record: *mut [u64; 4]) -> u8;
+        pub fn rime_aes3_import(
+            preambles: *const [u8; 2],
+            subframes: *const [u32; 2],
+            samples: *mut [u64; 2],
+            ancillary: *mut [u8; 2],
+        ) -> u8;
+        pub fn rime_aes3_export(
+            samples: *const [u64; 2],
+            ancillary: *const [u8; 2],
+            preambles: *mut [u8; 2],
+            subframes: *mut [u32; 2],
+        ) -> u8;
     }
 }
 
@@ -124,4 +136,12 @@ pub fn log_header(log: &[u8], header: &mut [u32; 4]) -> u8 {
 
 pub fn log_record(log: &[u8], place: usize, record: &mut [u64; 4]) -> u8 {
     unsafe { raw::rime_log_record(log.as_ptr(), log.len(), place, record) }
+}
+
+pub fn aes3_import(preambles: &[u8; 2], subframes: &[u32; 2], samples: &mut [u64; 2], ancillary: &mut [u8; 2]) -> u8 {
+    unsafe { raw::rime_aes3_import(preambles, subframes, samples, ancillary) }
+}
+
+pub fn aes3_export(samples: &[u64; 2], ancillary: &[u8; 2], preambles: &mut [u8; 2], subframes: &mut [u32; 2]) -> u8 {
+    unsafe { raw::rime_aes3_export(samples, ancillary, preambles, subframes) }
 }

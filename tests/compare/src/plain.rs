@@ -5,12 +5,14 @@
 
 mod bits;
 mod boxes;
+mod cable;
 mod cells;
 mod log;
 mod management;
 mod status;
 
 pub use boxes::{Receiver, Sender};
+pub use cable::{export_frame, import_frame};
 pub use cells::Shape;
 pub use log::{header, listing, record, Record};
 pub use management::{controller, equipment};

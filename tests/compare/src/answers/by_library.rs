@@ -15,6 +15,8 @@ pub fn by_library(case: &Case) -> Option<Answer> {
         Kind::CheckCharacter if cfg!(feature = "status") => check_character(case),
         Kind::ReadHeader if cfg!(feature = "log") => read_header(case),
         Kind::ReadRecord if cfg!(feature = "log") => read_record(case),
+        Kind::Aes3Import if cfg!(feature = "cable") => aes3_import(case),
+        Kind::Aes3Export if cfg!(feature = "cable") => aes3_export(case),
         Kind::Equipment => management::equipment_by_library(case),
         Kind::Controller => management::controller_by_library(case),
         _ => None,
@@ -134,4 +136,18 @@ fn read_record(case: &Case) -> Option<Answer> {
     let mut answer = values![u64::from(refusal)];
     answer.extend(record.map(Value::Number));
     Some(answer)
+}
+
+fn aes3_import(case: &Case) -> Option<Answer> {
+    let preambles = case.octets(0).try_into().ok()?;
+    let (mut samples, mut ancillary) = ([u64::MAX; 2], [LEFT_OVER; 2]);
+    let refusal = face::aes3_import(preambles, &narrow_array(case.run(1))?, &mut samples, &mut ancillary);
+    Some(values![u64::from(refusal), &samples[..], &wide(&ancillary)[..]])
+}
+
+fn aes3_export(case: &Case) -> Option<Answer> {
+    let samples = case.run(0).try_into().ok()?;
+    let (mut preambles, mut subframes) = ([LEFT_OVER; 2], [u32::MAX; 2]);
+    let refusal = face::aes3_export(samples, &narrow_array(case.run(1))?, &mut preambles, &mut subframes);
+    Some(values![u64::from(refusal), &preambles[..], &wide(&subframes)[..]])
 }

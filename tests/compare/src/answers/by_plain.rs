@@ -18,6 +18,8 @@ pub fn by_plain(case: &Case) -> Answer {
         Kind::Equipment => management::equipment_by_plain(case),
         Kind::Controller => management::controller_by_plain(case),
         Kind::Linelist => values![plain::listing(case.octets(0)).as_bytes()],
+        Kind::Aes3Import => aes3_import(case),
+        Kind::Aes3Export => aes3_export(case),
     }
 }
 
@@ -122,5 +124,21 @@ fn read_record(case: &Case) -> Answer {
         Ok(Record::Cell { indication, start, next }) => values![0, 1, indication, start as u64, next as u64],
         Ok(Record::End) => values![0, 0, 0, 0, place],
         Err(refusal) => values![u64::from(refusal), 0, 0, 0, 0],
+    }
+}
+
+fn aes3_import(case: &Case) -> Answer {
+    match plain::import_frame(case.octets(0), case.run(1)) {
+        Ok([first, second]) => {
+            values![0, &[first.sample, second.sample][..], &[first.ancillary, second.ancillary][..]]
+        }
+        Err(refusal) => values![u64::from(refusal), &[0u64; 2][..], &[0u64; 2][..]],
+    }
+}
+
+fn aes3_export(case: &Case) -> Answer {
+    match plain::export_frame(case.run(0), case.run(1)) {
+        Ok((preambles, subframes)) => values![0, &preambles[..], &subframes[..]],
+        Err(refusal) => values![u64::from(refusal), &[0u8; 2][..], &[0u64; 2][..]],
     }
 }
