@@ -17,6 +17,8 @@ pub enum Kind {
     Linelist,
     Aes3Import,
     Aes3Export,
+    Equipment,
+    Controller,
 }
 
 impl Kind {
@@ -26,7 +28,7 @@ impl Kind {
 }
 
 /// Kind, name, and the fields in and out: n a number, r a run of numbers or a state, o octets.
-const KINDS: [(Kind, &str, &str, &str); 11] = [
+const KINDS: [(Kind, &str, &str, &str); 13] = [
     (Kind::SenderOpen, "sender_open", "nnnnnn", "nr"),
     (Kind::ReceiverOpen, "receiver_open", "nnn", "nr"),
     (Kind::Send, "send", "rnrro", "nro"),
@@ -38,6 +40,8 @@ const KINDS: [(Kind, &str, &str, &str); 11] = [
     (Kind::Linelist, "linelist", "o", "o"),
     (Kind::Aes3Import, "aes3_import", "or", "nrr"),
     (Kind::Aes3Export, "aes3_export", "rr", "nor"),
+    (Kind::Equipment, "equipment", "ooo", "noonnnn"),
+    (Kind::Controller, "controller", "oo", "no"),
 ];
 
 #[derive(Clone, Debug, PartialEq)]

@@ -8,6 +8,7 @@ mod cable;
 mod inputs;
 mod line;
 mod log;
+mod management;
 mod status;
 
 use std::collections::BTreeMap;
@@ -72,7 +73,7 @@ impl Referee<'_> {
 
 fn play(scenario: u64, seed: u64, referee: &mut Referee) -> Played {
     let mut random = Random::for_scenario(seed, scenario);
-    match random.below(68) {
+    match random.below(76) {
         0..=3 => boxes::open_sender(&mut random, referee),
         4..=6 => boxes::open_receiver(&mut random, referee),
         7..=22 => boxes::one_send(&mut random, referee),
@@ -84,6 +85,9 @@ fn play(scenario: u64, seed: u64, referee: &mut Referee) -> Played {
         62 if scenario.is_multiple_of(8) => log::list(&mut random, referee),
         64..=66 => cable::import(&mut random, referee),
         67 => cable::export(&mut random, referee),
+        68..=70 => management::one_message(&mut random, referee),
+        71..=72 => management::one_status(&mut random, referee),
+        73..=75 => management::conversation(&mut random, referee),
         _ => status::check(&mut random, referee),
     }
 }

@@ -1,6 +1,7 @@
 //! A case put to the proved library through the face: nothing where a number is wider than the face's type for it, or
 //! where the part of the library isn't linked.
 
+use super::management;
 use crate::case::{values, Answer, Case, Kind, Value};
 use crate::face::{self, Runs};
 
@@ -16,12 +17,14 @@ pub fn by_library(case: &Case) -> Option<Answer> {
         Kind::ReadRecord if cfg!(feature = "log") => read_record(case),
         Kind::Aes3Import if cfg!(feature = "cable") => aes3_import(case),
         Kind::Aes3Export if cfg!(feature = "cable") => aes3_export(case),
+        Kind::Equipment => management::equipment_by_library(case),
+        Kind::Controller => management::controller_by_library(case),
         _ => None,
     }
 }
 
 /// A lent run between entries that must stay: a box that writes past a run's ends breaks the fence.
-struct Fenced<T> {
+pub(super) struct Fenced<T> {
     entries: Vec<T>,
     fence: T,
 }
@@ -29,18 +32,18 @@ struct Fenced<T> {
 const FENCE_ENTRIES: usize = 3;
 
 impl<T: Copy + PartialEq> Fenced<T> {
-    fn around(content: &[T], fence: T) -> Fenced<T> {
+    pub(super) fn around(content: &[T], fence: T) -> Fenced<T> {
         let side = [fence; FENCE_ENTRIES];
         Fenced { entries: [&side, content, &side].concat(), fence }
     }
 
-    fn lent(&mut self) -> &mut [T] {
+    pub(super) fn lent(&mut self) -> &mut [T] {
         let end = self.entries.len() - FENCE_ENTRIES;
         &mut self.entries[FENCE_ENTRIES..end]
     }
 
     /// The run afterwards. A broken fence comes along with it, so that the comparison shows it.
-    fn back(self) -> Vec<T> {
+    pub(super) fn back(self) -> Vec<T> {
         let end = self.entries.len() - FENCE_ENTRIES;
         let fences = [&self.entries[..FENCE_ENTRIES], &self.entries[end..]].concat();
         if fences.iter().all(|&entry| entry == self.fence) {
@@ -52,7 +55,7 @@ impl<T: Copy + PartialEq> Fenced<T> {
 }
 
 /// What arrays that a call fills hold before it: it must not show afterwards.
-const LEFT_OVER: u8 = 0xA5;
+pub(super) const LEFT_OVER: u8 = 0xA5;
 
 fn narrow<T: TryFrom<u64>>(numbers: &[u64]) -> Option<Vec<T>> {
     numbers.iter().map(|&number| T::try_from(number).ok()).collect()

@@ -1,6 +1,7 @@
 //! A case put to the plain implementation, under the rules of the face: a yes or no in a state is 0 or anything else,
 //! it comes back as 0 or 1, and a refusal leaves all that was lent as it was.
 
+use super::management;
 use crate::case::{values, Answer, Case, Kind, Value};
 use crate::plain::{self, Block, Receiver, Record, Refusal, Sender};
 
@@ -14,6 +15,8 @@ pub fn by_plain(case: &Case) -> Answer {
         Kind::CheckCharacter => values![u64::from(plain::check_character(&case.octets(0)[..23]))],
         Kind::ReadHeader => read_header(case),
         Kind::ReadRecord => read_record(case),
+        Kind::Equipment => management::equipment_by_plain(case),
+        Kind::Controller => management::controller_by_plain(case),
         Kind::Linelist => values![plain::listing(case.octets(0)).as_bytes()],
         Kind::Aes3Import => aes3_import(case),
         Kind::Aes3Export => aes3_export(case),
