@@ -7,6 +7,7 @@ pub mod Frames
 pub mod Opened
 pub mod Places
 pub mod Refused
+pub mod Repeats
 pub mod Rows
 pub mod Sharp
 pub mod Steps

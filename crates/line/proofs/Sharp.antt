@@ -156,7 +156,7 @@ honest-hands most row meets xs none-refused fair few =
 
 -- Fifteen lost cells in a row: the next cell's number is the last one's again, and it is refused.
 lost-fifteen : List (ℕ × Fate)
-lost-fifteen = ((1, unaltered) ∷ replicate 15 (0, dropped)) ++ ((2, unaltered) ∷ [])
+lost-fifteen = ((1, unaltered 0) ∷ replicate 15 (0, dropped)) ++ ((2, unaltered 0) ∷ [])
 
 pub not-fifteen : Demand3 3 15 MeetsSend MeetsReceive → ⊥
 unfolding opened trips receives lost-fifteen
@@ -172,7 +172,7 @@ studioAt n = record { format = 0x5A; channels = 5; order = 0; number = n; wanted
 
 -- Four altered bits may make another entry: number 1's eight bits and number 3's differ in four, and the cell is taken for number 3's.
 four-altered : List (ℕ × Fate)
-four-altered = (1, unaltered) ∷ (2, spoiled (sending (studioAt 3) 2 .written) false) ∷ []
+four-altered = (1, unaltered 0) ∷ (2, spoiled (sending (studioAt 3) 2 .written) false 0) ∷ []
 
 pub not-four-bits : Demand3 4 14 MeetsSend MeetsReceive → ⊥
 unfolding opened trips receives four-altered
@@ -202,7 +202,7 @@ pub not-zero-cell : Demand3 3 14 ZeroCell MeetsReceive → ⊥
 unfolding opened receives
 not-zero-cell meets =
     let came : List Arrival = record { cell = replicate 48 0; indication = false } ∷ [] in
-    let kept = meets studio (zeros ∷ []) (record { sent = zeros; fate = unaltered } ∷ []) (receives fresh came) (λ e. suc-ne-zero 3 e)
+    let kept = meets studio (zeros ∷ []) (record { sent = zeros; fate = unaltered 0 } ∷ []) (receives fresh came) (λ e. suc-ne-zero 3 e)
     (refl, record { answer-right = refl; always-zero = refl }, tt) refl (tt, tt) (omega arith)
     (receives-in-a-row fresh came) (receives-these fresh came) (receives-with-room fresh came (omega arith)) in
     let lengths : _≡_ {A = ℕ} 0 5 = ap length kept in
@@ -223,7 +223,7 @@ abbrev pub Nods : ReceiveCall → Type 0
 Nods c = NodsWhen (c .state .started) c
 
 both-sent : List (ℕ × Fate)
-both-sent = (1, unaltered) ∷ (2, unaltered) ∷ []
+both-sent = (1, unaltered 0) ∷ (2, unaltered 0) ∷ []
 
 -- what arrives of a cell that was sent
 abbrev sent : Sender → ℕ → Arrival
@@ -271,7 +271,7 @@ pub record Misreports (c : ReceiveCall) : Type 0 where
   pub marks-right : c .marks-after ≡ over (R.marksNow (c .state) (c .cell)) (c .marks)
 
 only-one : List (ℕ × Fate)
-only-one = (1, unaltered) ∷ []
+only-one = (1, unaltered 0) ∷ []
 
 abbrev one : Arrival
 one = sent studio 1
@@ -305,13 +305,13 @@ altered n octet = set (sending (studioAt n) n .written) 5 octet
 
 unfoldable pub lossy : List (ℕ × Fate)
 lossy =
-    (0, spoiled (altered 0 15) true)
-    ∷ (1, unaltered)
+    (0, spoiled (altered 0 15) true 0)
+    ∷ (1, unaltered 0)
     ∷ (2, dropped)
-    ∷ (3, spoiled (altered 3 7) false)
-    ∷ (4, unaltered)
+    ∷ (3, spoiled (altered 3 7) false 0)
+    ∷ (4, unaltered 0)
     ∷ (5, dropped)
-    ∷ (6, spoiled (altered 6 15) false)
+    ∷ (6, spoiled (altered 6 15) false 0)
     ∷ []
 
 -- five samples are asked, and one was too large
