@@ -1,8 +1,10 @@
 pub mod Calls
 pub mod Cases
 pub mod Cells
+pub mod Copies
 pub mod Demands
 pub mod Ensures
+pub mod Examples
 pub mod Frames
 pub mod Opened
 pub mod Places

@@ -1,6 +1,6 @@
 -- What is due is what must be shown from the first unaltered cell to the last, and how long rows of lost cells bound it.
 -- Assumes nothing.
-use mathlib.Core.Bool.{true, false, true≢false, cond}
+use mathlib.Core.Bool.{true, true≢false, cond}
 use mathlib.Core.List.{List, [], _∷_, _++_, map, flatMap, append-assoc}
 use mathlib.Core.Path.{_≡_, refl, sym, _∙_, ap, subst}
 use Prim.Native.Nat.{ℕ, suc, _≤_, max}

@@ -1,9 +1,9 @@
 -- The same cell once more: what a receiver says to it that has just taken it.
 -- Assumes nothing.
-use mathlib.Core.Bool.{Bool, true, false, cond, not, _&&_, _||_}
+use mathlib.Core.Bool.{Bool, true, false, cond, not, _&&_}
 use mathlib.Core.List.{List, [], _∷_}
 use mathlib.Core.Path.{_≡_, refl, sym, _∙_, ap, subst}
-use Prim.Native.Nat.{ℕ, suc, _+_, _*_, _%_, _-_, _≤_, _<_}
+use Prim.Native.Nat.{ℕ, _+_, _*_, _%_, _-_, _≤_, _<_}
 use native.Mathlib.Nat.{mod-eq-of-lt, suc-ne-zero}
 use native.Mathlib.Omega.{arith}
 use borrow.Author.Tests.{ne-eqb, eq-eqb, le-ltb}
@@ -19,7 +19,7 @@ use Rattle.receiver.specs.Receiver as R
 use Rattle.receiver.proofs.Laws as RL
 use Rattle.line.specs.Contracts.{SendCall, ReceiveCall, MeetsReceive}
 use Rattle.line.specs.Demands.{receiveTable}
-use Rattle.line.specs.Line.{Arrival, unaltered, spoiled, arrivalOf, taken}
+use Rattle.line.specs.Line.{unaltered, spoiled, arrivalOf, taken}
 use Rattle.line.proofs.Calls.{receives-or-nothing}
 use Rattle.line.proofs.Cells.{received-refusal}
 

@@ -23,7 +23,6 @@ use Rattle.numbers.proofs.Laws.{table-apart, no-entry-refused}
 use Rattle.cells.specs.Cells.{eightIn}
 use Rattle.sender.specs.Sender as S
 use Rattle.receiver.specs.Receiver as R
-use Rattle.receiver.proofs.Laws as RL
 use Rattle.receiver.proofs.Indication.{never-15, bare-never-15}
 use Rattle.line.specs.Contracts.{SendCall, MeetsSend, ReceiveCall, MeetsReceive}
 use Rattle.line.specs.Demands.{receiveTable, InSettings, formatIn, GivesBack}
