@@ -17,8 +17,8 @@ use Rattle.line.specs.Line.{Fate, unaltered, Arrival, handed, Demand3}
 use Rattle.line.proofs.Examples.{always-room, studio, studioAt, fresh, sent, trips, call, receiving, promised, receives, hands}
 use Rattle.line.proofs.Opened.{opened}
 
--- A receiver that takes a repeat, where it should refuse it by 9, for a cell after this many missing ones. With fifteen it takes it for the
--- cell that is sixteen on; with none it writes the copy a second time.
+-- A receiver that takes a repeat, where it should refuse it by 9, for a cell after this many missing ones. With fifteen it takes it
+-- for the cell that is sixteen on; with none it writes the copy a second time.
 abbrev takenAfter : ℕ → Receiver → List ℕ → Bool → Received
 takenAfter missing st cell indication =
     record {
@@ -86,15 +86,17 @@ pub not-written-twice : Demand3 3 14 MeetsSend (TakesRepeats 0) → ⊥
 unfolding opened
 not-written-twice meets = let places : _≡_ {A = ℕ} 10 5 = only-five 0 meets in omega arith
 
--- A copy that comes after the next sent cell is no copy of demand 3. Cells 0 and 1, cell 0 again, then cell 2: the late copy's number is
--- fifteen on from cell 1's, so that it is taken and fourteen cells are told missing; cell 2's is two on from there, and one more is.
+-- A copy that comes after the next sent cell is no copy of demand 3. Cells 0 and 1, cell 0 again, then cell 2: the late copy's
+-- number is fifteen on from cell 1's, so that it is taken and fourteen cells are told missing; cell 2's is two on from there, and
+-- one cell more is told missing.
 abbrev late : List ReceiveCall
 late = receives fresh (one ∷ sent (studioAt 1) 2 ∷ one ∷ sent (studioAt 2) 3 ∷ [])
 
 pub record TakenLate (calls : List ReceiveCall) : Type 0 where
   pub all-taken : map (λ c. c .answer .refusal) calls ≡ 0 ∷ 0 ∷ 0 ∷ 0 ∷ []
   pub told-missing : map (λ c. c .answer .missing) calls ≡ 0 ∷ 0 ∷ 14 ∷ 1 ∷ []
-  pub marks : map (λ p. p .1 .1) (handed calls) ≡ replicate 10 0 ++ replicate 70 2 ++ replicate 5 0 ++ replicate 5 2 ++ replicate 5 0
+  pub marks : map (λ p. p .1 .1) (handed calls)
+      ≡ replicate 10 0 ++ replicate 70 2 ++ replicate 5 0 ++ replicate 5 2 ++ replicate 5 0
 
 pub late-copy : TakenLate late
 unfolding opened receives

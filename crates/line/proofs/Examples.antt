@@ -1,4 +1,4 @@
--- Calls of both boxes to try demand 3 on: of a sender of five channels in 5A hex, and of a receiver with three runs of eighty entries.
+-- Calls of both boxes to try demand 3 on: a sender of five channels in 5A hex, and a receiver with three runs of eighty entries.
 -- Assumes nothing.
 use mathlib.Core.Bool.{true, false}
 use mathlib.Core.List.{List, [], _∷_, map, flatMap}

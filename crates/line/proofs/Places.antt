@@ -134,8 +134,8 @@ longest-from-first (t ∷ ts) =
 pub longest-inside : (ts : List Trip) → longest 0 (toLast (fromFirst ts)) ≤ longest 0 ts
 longest-inside ts = le-trans (longest-to-last 0 (fromFirst ts)) (longest-from-first ts)
 
--- What the calls come to, and a little more than demand 3 asks: cells lost before the first unaltered one and after the last may be more
--- than fourteen.
+-- What the calls come to, and a little more than demand 3 asks: cells lost before the first unaltered one and after the last may be
+-- more than fourteen.
 pub record ComesOut (trips : List Trip) (receives : List ReceiveCall) : Type 0 where
   pub handed-out : handed receives ≡ flatMap placesOf (toLast (fromFirst trips))
   pub refused-so : refusals receives ≡ flatMap (λ t. refusalsOf (t .fate)) trips

@@ -51,7 +51,8 @@ no-difference {n} low =
 module _ (st : Receiver) (cell : List ℕ) (with-overhead : formatOf (st .format) .«overhead_bits» ≡ 0 → ⊥) where
   number-lt : R.numberNow st cell < 16
   number-lt =
-      subst (λ found. valueOf found < 16) (sym (RL.found-over st cell refl with-overhead)) (value-lt (eightIn (formatOf (st .format)) cell))
+      subst (λ found. valueOf found < 16) (sym (RL.found-over st cell refl with-overhead))
+      (value-lt (eightIn (formatOf (st .format)) cell))
 
   and-false : (b : Bool) → b && false ≡ false
   and-false true = refl
@@ -68,7 +69,8 @@ module _ (st : Receiver) (cell : List ℕ) (with-overhead : formatOf (st .format
   no-gap = RL.gap-by (R.after st cell) cell refl (ne-eqb _ 0 with-overhead) refl ∙ no-difference number-lt
 
   -- it refuses that cell, with the indication that it had, by 9
-  again-9 : (indication : Bool) (samples ancillary marks room : ℕ) → R.receiveRefusal st cell indication samples ancillary marks ≡ 0
+  again-9 : (indication : Bool) (samples ancillary marks room : ℕ)
+      → R.receiveRefusal st cell indication samples ancillary marks ≡ 0
       → R.receiveRefusal (R.after st cell) cell indication room room room ≡ 9
   unfolding R.after R.foundNow R.stateRefusal
   again-9 indication samples ancillary marks room none =
@@ -81,8 +83,8 @@ module _ (st : Receiver) (cell : List ℕ) (with-overhead : formatOf (st .format
       late (R.after st cell) cell indication room room room state (early .whole) refl refl (passed .found)
       ∙ rw (rightly, eq-eqb _ 0 no-gap)
 
--- Two calls in a row on one cell with one indication, in a format with overhead: where the first takes it, the second refuses it by 9 and
--- leaves the state as it was. It needs no room.
+-- Two calls in a row on one cell with one indication, in a format with overhead: where the first takes it, the second refuses it
+-- by 9 and leaves the state as it was. It needs no room.
 pub repeat-gets-9 : (c d : ReceiveCall) → MeetsReceive c → c .answer .refusal ≡ 0
     → (formatOf (c .state .format) .«overhead_bits» ≡ 0 → ⊥)
     → d .state ≡ c .answer .state → taken d ≡ taken c
@@ -94,6 +96,7 @@ repeat-gets-9 c d takes none with-overhead next same ancillary-equal marks-equal
     let state : c .answer .state ≡ R.after (c .state) (c .cell) = ap (λ x. x .state) (takes .answered) ∙ rw table in
     let nine : d .answer .refusal ≡ 9
     = received-refusal d receives
-    ∙ (λ i. R.receiveRefusal ((next ∙ state) i) (same i .cell) (same i .indication) (length (d .samples)) (ancillary-equal i) (marks-equal i))
+    ∙ (λ i.
+    R.receiveRefusal ((next ∙ state) i) (same i .cell) (same i .indication) (length (d .samples)) (ancillary-equal i) (marks-equal i))
     ∙ again-9 (c .state) (c .cell) with-overhead (c .indication) _ _ _ (length (d .samples)) table in
     (nine, receives-or-nothing d receives .then-nothing (λ e. suc-ne-zero 8 (sym nine ∙ e)) .state-as-given ∙ next)

@@ -156,8 +156,8 @@ Demand3 most row SendBox ReceiveBox =
 abbrev pub refusals : List ReceiveCall → List ℕ
 refusals calls = map (λ c. c .answer .refusal) calls
 
--- those that one cell's deliveries get: "Extra copies of an unaltered cell are refused 9"; a spoiled cell is refused each time alike, 8,
--- or 5 where it came with another number of octets than 48
+-- those that one cell's deliveries get: "Extra copies of an unaltered cell are refused 9"; a spoiled cell is refused each time
+-- alike, 8, or 5 where it came with another number of octets than 48
 abbrev pub refusalsOf : Fate → List ℕ
 refusalsOf dropped = []
 refusalsOf (spoiled came indication again) = replicate (suc again) (cond (eqb (length came) 48) 8 5)
