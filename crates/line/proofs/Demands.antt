@@ -1,7 +1,7 @@
 -- The demands on one page: each statement beside the minutes' sentence, each proof a citation.
 -- Assumes nothing.
 use mathlib.Core.Bool.{Bool, cond, _||_}
-use mathlib.Core.List.{List, [], _∷_}
+use mathlib.Core.List.{List, [], _∷_, flatMap}
 use mathlib.Core.Path.{_≡_}
 use Prim.Native.Nat.{ℕ}
 use native.Mathlib.Nat.{le-trans}
@@ -64,7 +64,7 @@ use Rattle.line.specs.Demands.{
   GivesBack,
   Tells,
 }
-use Rattle.line.specs.Line.{Demand3}
+use Rattle.line.specs.Line.{OverTheLine, Demand3, refusals, refusalsOf}
 use Rattle.line.proofs.Calls.{sends-or-nothing, receives-or-nothing, gives-back, tells}
 use Rattle.line.proofs.Cells.{is-document-01's}
 use Rattle.line.proofs.Places.{longest-inside, demand-3-inside}
@@ -171,7 +171,16 @@ demand-2-numbers = tells
 -- first eight sequencing bits and perhaps anything else), at most fourteen in a row, a fresh receiver in the sender's settings with
 -- room: from the first unaltered cell to the last each sample and its ancillary bits stand in their sent place, exact and marked
 -- sound; each place of a dropped or spoiled cell holds zero and is marked missing; nothing else is handed out."
+--
+-- Request 10: "Demand 3 also holds where a cell, as it first came, is delivered again any number of times before the next sent cell
+-- arrives." A cell's fate has that number.
 pub demand-3 : Demand3 3 14 MeetsSend MeetsReceive
 unfolding Demand3
-demand-3 st sends trips receives with-overhead row these fair few =
-    demand-3-inside st sends trips receives with-overhead row these fair (le-trans (longest-inside trips) few)
+demand-3 st sends trips receives with-overhead row these fair few meets came room =
+    demand-3-inside st sends trips receives with-overhead row these fair (le-trans (longest-inside trips) few) meets came room .handed-out
+
+-- "Extra copies of an unaltered cell are refused 9 and leave nothing behind": the latter is demand 1's.
+pub demand-3-copies : OverTheLine 3 14 MeetsSend MeetsReceive
+    (λ trips receives. refusals receives ≡ flatMap (λ t. refusalsOf (t .fate)) trips)
+demand-3-copies st sends trips receives with-overhead row these fair few meets came room =
+    demand-3-inside st sends trips receives with-overhead row these fair (le-trans (longest-inside trips) few) meets came room .refused-so

@@ -1,12 +1,15 @@
 pub mod Calls
 pub mod Cases
 pub mod Cells
+pub mod Copies
 pub mod Demands
 pub mod Ensures
+pub mod Examples
 pub mod Frames
 pub mod Opened
 pub mod Places
 pub mod Refused
+pub mod Repeats
 pub mod Rows
 pub mod Sharp
 pub mod Steps

@@ -1,6 +1,6 @@
 -- What is due is what must be shown from the first unaltered cell to the last, and how long rows of lost cells bound it.
 -- Assumes nothing.
-use mathlib.Core.Bool.{true, false, true≢false, cond}
+use mathlib.Core.Bool.{true, true≢false, cond}
 use mathlib.Core.List.{List, [], _∷_, _++_, map, flatMap, append-assoc}
 use mathlib.Core.Path.{_≡_, refl, sym, _∙_, ap, subst}
 use Prim.Native.Nat.{ℕ, suc, _≤_, max}
@@ -29,8 +29,10 @@ use Rattle.line.specs.Line.{
   fromFirst,
   allLost,
   toLast,
+  refusals,
+  refusalsOf,
 }
-use Rattle.line.proofs.Rows.{Since, never, after, oneMore, due, Between, Wrote, only-written, hands-out}
+use Rattle.line.proofs.Rows.{Since, never, after, oneMore, due, Between, Wrote, only-written, comes}
 
 none-to-last : (ts : List Trip) → allLost ts ≡ true → toLast ts ≡ []
 unfolding allLost toLast
@@ -132,7 +134,12 @@ longest-from-first (t ∷ ts) =
 pub longest-inside : (ts : List Trip) → longest 0 (toLast (fromFirst ts)) ≤ longest 0 ts
 longest-inside ts = le-trans (longest-to-last 0 (fromFirst ts)) (longest-from-first ts)
 
--- What demand 3 says and a little more: cells lost before the first unaltered one and after the last may be more than fourteen.
+-- What the calls come to, and a little more than demand 3 asks: cells lost before the first unaltered one and after the last may be
+-- more than fourteen.
+pub record ComesOut (trips : List Trip) (receives : List ReceiveCall) : Type 0 where
+  pub handed-out : handed receives ≡ flatMap placesOf (toLast (fromFirst trips))
+  pub refused-so : refusals receives ≡ flatMap (λ t. refusalsOf (t .fate)) trips
+
 pub demand-3-inside : (st : Sender) (sends : List SendCall) (trips : List Trip) (receives : List ReceiveCall)
     → (formatOf (st .format) .«overhead_bits» ≡ 0 → ⊥)
     → Sending MeetsSend st sends
@@ -142,10 +149,10 @@ pub demand-3-inside : (st : Sender) (sends : List SendCall) (trips : List Trip) 
     → Receiving MeetsReceive (R.openState (st .format) (st .channels) (st .order)) receives
     → map taken receives ≡ arrivals trips
     → Each WithRoom receives
-    → handed receives ≡ flatMap placesOf (toLast (fromFirst trips))
+    → ComesOut trips receives
 demand-3-inside st sends trips receives with-overhead row these fair few meets came room =
-    hands-out trips st (R.openState (st .format) (st .channels) (st .order)) never receives
+    let all = comes trips st (R.openState (st .format) (st .channels) (st .order)) never receives
     (subst (Sending Wrote st) (sym these) (only-written sends st row)) fair
     (record { with-overhead = with-overhead; same = record { format = refl; channels = refl; order = refl }; stands = (refl, refl) })
-    (between 14 trips few) (record { meets = meets; these = came; room = room })
-    ∙ due-places trips
+    (between 14 trips few) (record { meets = meets; these = came; room = room }) in
+    record { handed-out = all .hands ∙ due-places trips; refused-so = all .answers }

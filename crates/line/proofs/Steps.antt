@@ -1,6 +1,6 @@
 -- One cell on the line: an unaltered one is taken and gives back what was sent, a spoiled one is refused.
 -- Assumes nothing.
-use mathlib.Core.Bool.{true, false, cond}
+use mathlib.Core.Bool.{Bool, true, false, cond, not, _||_}
 use mathlib.Core.List.{List, [], _∷_, _++_, zip, zipWith}
 use mathlib.Core.Path.{_≡_, refl, sym, _∙_, ap, ap₂}
 use Prim.Native.Nat.{ℕ, zero, suc, _+_, _*_, _%_, _-_, _≤_, _<_}
@@ -23,12 +23,12 @@ use Rattle.numbers.proofs.Laws.{table-apart, no-entry-refused}
 use Rattle.cells.specs.Cells.{eightIn}
 use Rattle.sender.specs.Sender as S
 use Rattle.receiver.specs.Receiver as R
-use Rattle.receiver.proofs.Laws as RL
 use Rattle.receiver.proofs.Indication.{never-15, bare-never-15}
 use Rattle.line.specs.Contracts.{SendCall, MeetsSend, ReceiveCall, MeetsReceive}
 use Rattle.line.specs.Demands.{receiveTable, InSettings, formatIn, GivesBack}
 use Rattle.line.specs.Line.{alteredIn, WithRoom, Place, places, handedBy}
 use Rattle.line.proofs.Calls.{gives-back}
+use Rattle.line.proofs.Repeats.{late}
 use Rattle.line.proofs.Cells.{
   received-refusal,
   settings-none,
@@ -79,6 +79,7 @@ number-after last k =
 -- a receiver that took an unaltered cell after a gap: it is in the settings of the sender that goes on, has the cell's number, and
 -- has handed out the places of the missing cells and of this one
 pub record Took (s : SendCall) (c : ReceiveCall) (gap : ℕ) : Type 0 where
+  pub refused-not : c .answer .refusal ≡ 0
   pub settings : InSettings (s .answer .state) (c .answer .state)
   pub started : c .answer .state .started ≡ true
   pub last : c .answer .state .last ≡ s .state .number
@@ -95,6 +96,11 @@ honest-never-15 s r sends sent same arrived indicated receives fifteen =
     bare-never-15 (r .state) (r .cell) (r .indication) _ _ _
     (ap (λ (x : ℕ). formatOf x .«overhead_bits») (same .format) ∙ eqb-true _ 0 e) table)
     (λ e. never-15 (r .state) (r .cell) (r .indication) _ _ _ (rightly-there s sends sent (eqb-false _ 0 e) r same arrived indicated) table)
+
+-- check 5, then 8
+by-length : (whole : Bool) {found : ℕ} (later : ℕ) → found ≡ 8 → cond (not whole || false) 5 (orElse found later) ≡ cond whole 8 5
+by-length true later e = first-refuses _ (λ none. suc-ne-zero 7 (sym e ∙ none)) ∙ e
+by-length false later e = refl
 
 -- a cell with overhead that a call wrote
 module _ (s : SendCall) (sends : MeetsSend s) (sent : s .answer .refusal ≡ 0) (with-overhead : formatIn s .«overhead_bits» ≡ 0 → ⊥) where
@@ -119,6 +125,14 @@ module _ (s : SendCall) (sends : MeetsSend s) (sent : s .answer .refusal ≡ 0) 
 
   -- a call on it by a receiver in the sender's settings
   module _ (c : ReceiveCall) (receives : MeetsReceive c) (same : InSettings (s .state) (c .state)) where
+    -- checks 1 to 4 pass where the last number does
+    state-none : R.lastRefused (c .state) ≡ false → R.stateRefusal (c .state) ≡ 0
+    unfolding R.stateRefusal
+    state-none last-passes =
+        (λ i. orElse (settingsRefusal (same .format i) (same .channels i) (same .order i)) (cond (R.lastRefused (c .state)) 4 0))
+        ∙ then-later _ (settings-none s sends sent)
+        ∙ rw last-passes
+
     -- a spoiled cell
     module _ {came : List ℕ} (arrived : c .cell ≡ came) (some : 1 ≤ alteredIn s came) (few : alteredIn s came ≤ 3) where
       no-number : refusalOf (R.foundNow (c .state) (c .cell)) ≡ 8
@@ -130,53 +144,30 @@ module _ (s : SendCall) (sends : MeetsSend s) (sent : s .answer .refusal ≡ 0) 
           ∙ (rw (ne-eqb (formatIn s .«overhead_bits») 0 with-overhead))
           ∙ off-table came some few
 
-      -- it is refused
-      pub spoiled-refused : c .answer .refusal ≡ 0 → ⊥
-      spoiled-refused taken =
-          let passed = RL.passes (c .state) (c .cell) (c .indication) _ _ _ (sym (received-refusal c receives) ∙ taken) in
-          suc-ne-zero 7 (sym no-number ∙ passed .found)
-
-      -- one of 48 octets is refused 8, where checks 1 to 4 pass and the runs have room
-      pub spoiled-gets-8 : length came ≡ 48 → R.stateRefusal (c .state) ≡ 0 → WithRoom c → c .answer .refusal ≡ 8
+      -- it is refused 8, or 5 where it came with another number of octets, where the last number passes and the runs have room
+      pub spoiled-gets : R.lastRefused (c .state) ≡ false → WithRoom c → c .answer .refusal ≡ cond (eqb (length came) 48) 8 5
       unfolding R.receiveRefusal R.lengthsRefused
-      spoiled-gets-8 whole state-passes room =
+      spoiled-gets last-passes room =
           received-refusal c receives
-          ∙ then-later _ state-passes
-          ∙ rw (
-            eq-eqb _ _ (ap length arrived ∙ whole),
-            eq-eqb _ _ (room .ancillary-equal),
-            eq-eqb _ _ (room .marks-equal),
-          )
-          (first-refuses _ (λ e. suc-ne-zero 7 (sym no-number ∙ e)) ∙ no-number)
+          ∙ then-later _ (state-none last-passes)
+          ∙ rw (eq-eqb _ _ (room .ancillary-equal), eq-eqb _ _ (room .marks-equal))
+          (by-length (eqb (length (c .cell)) 48) _ no-number ∙ ap (λ (l : List ℕ). cond (eqb (length l) 48) 8 5) arrived)
 
     -- an unaltered one is taken where the state passes and the gap is some
     module _ (arrived : c .cell ≡ s .written) (indicated : c .indication ≡ s .indication) (room : WithRoom c)
         (last-passes : R.lastRefused (c .state) ≡ false) {gap : ℕ} (gap-is : R.gapOf (c .state) (c .cell) ≡ suc gap)
       where
-        -- checks 1 to 4 pass
-        state-none : R.stateRefusal (c .state) ≡ 0
-        unfolding R.stateRefusal
-        state-none =
-            (λ i. orElse (settingsRefusal (same .format i) (same .channels i) (same .order i)) (cond (R.lastRefused (c .state)) 4 0))
-            ∙ then-later _ (settings-none s sends sent)
-            ∙ rw last-passes
-
         found-here : R.foundNow (c .state) (c .cell) ≡ Number (s .state .number)
         found-here = found-there s sends sent with-overhead c same arrived
 
         pub unaltered-taken : c .answer .refusal ≡ 0
-        unfolding R.receiveRefusal R.lengthsRefused refusalOf
+        unfolding refusalOf
         unaltered-taken =
             let some : R.gapOf (c .state) (c .cell) ≡ 0 → ⊥ = λ e. suc-ne-zero gap (sym gap-is ∙ e) in
             let by-room : receiveTable c ≡ cond (ltb (length (c .samples)) (R.gapOf (c .state) (c .cell) * R.usedNow (c .state))) 10 0
-            = then-later _ state-none
-            ∙ rw (
-              eq-eqb _ _ (ap length arrived ∙ cell-48 s sends sent),
-              eq-eqb _ _ (room .ancillary-equal),
-              eq-eqb _ _ (room .marks-equal),
-            )
-            (then-later _ (ap refusalOf found-here)
-            ∙ rw (rightly-there s sends sent with-overhead c same arrived indicated, ne-eqb _ 0 some)) in
+            = late (c .state) (c .cell) (c .indication) _ _ _ (state-none last-passes) (ap length arrived ∙ cell-48 s sends sent)
+            (room .ancillary-equal) (room .marks-equal) (ap refusalOf found-here)
+            ∙ rw (rightly-there s sends sent with-overhead c same arrived indicated, ne-eqb _ 0 some) in
             received-refusal c receives
             ∙ split (ltb (length (c .samples)) (R.gapOf (c .state) (c .cell) * R.usedNow (c .state)))
             (λ e. absurd (room .long-enough (by-room ∙ rw e)))
@@ -233,6 +224,7 @@ module _ (s : SendCall) (sends : MeetsSend s) (sent : s .answer .refusal ≡ 0) 
         unfolding R.after valueOf
         took =
             record {
+              refused-not = unaltered-taken;
               settings =
                   settings-on s sends sent
                   (record {

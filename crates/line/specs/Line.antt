@@ -34,16 +34,18 @@ unfoldable pub wrote : List SendCall → List SendCall
 wrote [] = []
 wrote (s ∷ ss) = cond (eqb (s .answer .refusal) 0) (s ∷ wrote ss) (wrote ss)
 
--- what became of a cell: "a line that drops some and spoils others"; a spoiled one comes as these octets with this indication
+-- what became of a cell: "a line that drops some and spoils others"; a spoiled one comes as these octets with this indication. The
+-- number of a cell that came is how many more times it came: "a cell, as it first came, is delivered again any number of times before
+-- the next sent cell arrives"
 pub data Fate : Type 0 where
   dropped : Fate
-  spoiled : List ℕ → Bool → Fate
-  unaltered : Fate
+  spoiled : List ℕ → Bool → ℕ → Fate
+  unaltered : ℕ → Fate
 
 abbrev pub isLost : Fate → Bool
 isLost dropped = true
-isLost (spoiled came indication) = true
-isLost unaltered = false
+isLost (spoiled came indication again) = true
+isLost (unaltered again) = false
 
 -- one cell's trip: the call that wrote it, and its fate
 pub record Trip : Type 0 where
@@ -62,10 +64,10 @@ alteredIn s came = ones (bitXor (eightIn (formatIn s) (s .written)) (eightIn (fo
 -- "one, two or three of the first eight sequencing bits and perhaps anything else"; `most` is the three
 abbrev pub Fair : ℕ → SendCall → Fate → Type 0
 Fair most s dropped = Unit {0}
-Fair most s (spoiled came indication) = (1 ≤ alteredIn s came) × (alteredIn s came ≤ most)
-Fair most s unaltered = Unit {0}
+Fair most s (spoiled came indication again) = (1 ≤ alteredIn s came) × (alteredIn s came ≤ most)
+Fair most s (unaltered again) = Unit {0}
 
--- the longest row of lost cells, k being lost already
+-- the longest row of lost cells, k being lost already; "The limit of fourteen still counts sent cells"
 unfoldable pub longest : ℕ → List Trip → ℕ
 longest k [] = k
 longest k (t ∷ ts) = cond (isLost (t .fate)) (longest (suc k) ts) (max k (longest 0 ts))
@@ -77,8 +79,8 @@ pub record Arrival : Type 0 where
 
 abbrev pub arrivalOf : SendCall → Fate → List Arrival
 arrivalOf s dropped = []
-arrivalOf s (spoiled came indication) = record { cell = came; indication = indication } ∷ []
-arrivalOf s unaltered = record { cell = s .written; indication = s .indication } ∷ []
+arrivalOf s (spoiled came indication again) = replicate (suc again) (record { cell = came; indication = indication })
+arrivalOf s (unaltered again) = replicate (suc again) (record { cell = s .written; indication = s .indication })
 
 abbrev pub arrivals : List Trip → List Arrival
 arrivals trips = flatMap (λ t. arrivalOf (t .sent) (t .fate)) trips
@@ -131,9 +133,9 @@ unfoldable pub toLast : List Trip → List Trip
 toLast [] = []
 toLast (t ∷ ts) = cond (allLost (t ∷ ts)) [] (t ∷ toLast ts)
 
--- Demand 3 of two boxes: the line may alter `most` bits of a cell and lose `row` cells in a row
-unfoldable pub Demand3 : ℕ → ℕ → (SendCall → Type 0) → (ReceiveCall → Type 0) → Type 0
-Demand3 most row SendBox ReceiveBox =
+-- what holds between two boxes of whatever the line carries; it may alter `most` bits of a cell and lose `row` cells in a row
+abbrev pub OverTheLine : ℕ → ℕ → (SendCall → Type 0) → (ReceiveCall → Type 0) → (List Trip → List ReceiveCall → Type 0) → Type 0
+OverTheLine most row SendBox ReceiveBox Holds =
     (st : Sender) (sends : List SendCall) (trips : List Trip) (receives : List ReceiveCall)
     → (formatOf (st .format) .«overhead_bits» ≡ 0 → ⊥)
     → Sending SendBox st sends
@@ -143,4 +145,20 @@ Demand3 most row SendBox ReceiveBox =
     → Receiving ReceiveBox (R.openState (st .format) (st .channels) (st .order)) receives
     → map taken receives ≡ arrivals trips
     → Each WithRoom receives
-    → handed receives ≡ flatMap placesOf (toLast (fromFirst trips))
+    → Holds trips receives
+
+-- Demand 3 of two boxes
+unfoldable pub Demand3 : ℕ → ℕ → (SendCall → Type 0) → (ReceiveCall → Type 0) → Type 0
+Demand3 most row SendBox ReceiveBox =
+    OverTheLine most row SendBox ReceiveBox (λ trips receives. handed receives ≡ flatMap placesOf (toLast (fromFirst trips)))
+
+-- beside it: the refusals that calls answered, 0 where a cell was taken
+abbrev pub refusals : List ReceiveCall → List ℕ
+refusals calls = map (λ c. c .answer .refusal) calls
+
+-- those that one cell's deliveries get: "Extra copies of an unaltered cell are refused 9"; a spoiled cell is refused each time
+-- alike, 8, or 5 where it came with another number of octets than 48
+abbrev pub refusalsOf : Fate → List ℕ
+refusalsOf dropped = []
+refusalsOf (spoiled came indication again) = replicate (suc again) (cond (eqb (length came) 48) 8 5)
+refusalsOf (unaltered again) = 0 ∷ replicate again 9

@@ -10,6 +10,7 @@ pub enum Kind {
     ReceiverOpen,
     Send,
     Receive,
+    Line,
     StatusStep,
     CheckCharacter,
     ReadHeader,
@@ -28,11 +29,12 @@ impl Kind {
 }
 
 /// Kind, name, and the fields in and out: n a number, r a run of numbers or a state, o octets.
-const KINDS: [(Kind, &str, &str, &str); 13] = [
+const KINDS: [(Kind, &str, &str, &str); 14] = [
     (Kind::SenderOpen, "sender_open", "nnnnnn", "nr"),
     (Kind::ReceiverOpen, "receiver_open", "nnn", "nr"),
     (Kind::Send, "send", "rnrro", "nro"),
     (Kind::Receive, "receive", "ronrrr", "nrrrrnnnn"),
+    (Kind::Line, "line", "nnno", "rrrrr"),
     (Kind::StatusStep, "status_step", "nonn", "nnono"),
     (Kind::CheckCharacter, "check_character", "o", "n"),
     (Kind::ReadHeader, "read_header", "o", "nnnnn"),

@@ -22,7 +22,7 @@ compare fuzz COUNT [SEED [LINELIST]]
                                  compare COUNT pseudo-random calls, and listings with those of LINELIST
 compare replay SEED SCENARIO [LINELIST]
                                  play one scenario of a fuzz run again
-compare story                    play demand 3: a sender, a line that drops and spoils, a receiver";
+compare story                    play demand 3: a sender, a line that drops, spoils and repeats, a receiver";
 
 /// The program, if it stands there: while the crates grow it may not be built yet.
 fn built(program: &str) -> Option<&Path> {

@@ -1,6 +1,7 @@
 //! A case put to the proved library through the face: nothing where a number is wider than the face's type for it, or
 //! where the part of the library isn't linked.
 
+use super::line::line;
 use super::management;
 use crate::case::{values, Answer, Case, Kind, Value};
 use crate::face::{self, Runs};
@@ -11,6 +12,7 @@ pub fn by_library(case: &Case) -> Option<Answer> {
         Kind::ReceiverOpen if cfg!(feature = "boxes") => receiver_open(case),
         Kind::Send if cfg!(feature = "boxes") => send(case),
         Kind::Receive if cfg!(feature = "boxes") => receive(case),
+        Kind::Line => line(case, by_library),
         Kind::StatusStep if cfg!(feature = "status") => status_step(case),
         Kind::CheckCharacter if cfg!(feature = "status") => check_character(case),
         Kind::ReadHeader if cfg!(feature = "log") => read_header(case),

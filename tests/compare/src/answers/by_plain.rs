@@ -1,6 +1,7 @@
 //! A case put to the plain implementation, under the rules of the face: a yes or no in a state is 0 or anything else,
 //! it comes back as 0 or 1, and a refusal leaves all that was lent as it was.
 
+use super::line::line;
 use super::management;
 use crate::case::{values, Answer, Case, Kind, Value};
 use crate::plain::{self, Block, Receiver, Record, Refusal, Sender};
@@ -11,6 +12,7 @@ pub fn by_plain(case: &Case) -> Answer {
         Kind::ReceiverOpen => receiver_open(case),
         Kind::Send => send(case),
         Kind::Receive => receive(case),
+        Kind::Line => line(case, |call| Some(by_plain(call))).expect("every call is answered"),
         Kind::StatusStep => status_step(case),
         Kind::CheckCharacter => values![u64::from(plain::check_character(&case.octets(0)[..23]))],
         Kind::ReadHeader => read_header(case),
