@@ -1,5 +1,5 @@
 /*
- * The proved sender and receiver beside the baseline of plain.c, in one process.
+ * The proved sender and receiver, and the data units' calls (units.c), beside the baseline of plain.c, in one process.
  *
  *   bench rows                the rows' names, one a line
  *   bench times [ROWS]        ns per cell of each row: the least of many batches, the two taking turns
@@ -17,6 +17,7 @@
 
 #include "plain.h"
 #include "rimesatchel.h"
+#include "units.h"
 
 enum { CELLS = 16, BATCH = 10 * CELLS, REPEATS = 1000, MOST_ENTRIES = 15 * RIME_MOST_SLOTS };
 
@@ -261,5 +262,6 @@ int main(int argc, char **argv) {
         if (function != name_row) check_agreement(&rows[at]);
         function(&rows[at]);
     }
+    units_rows(argv[1], &pattern);
     return 0;
 }

@@ -23,6 +23,7 @@ CELLS = 16  # calls in a batch, as in bench.c
 # What is asked, in instructions: a number for the usual call, and for every other row a part of plain C's.
 USUAL = {'pack': 395, 'unpack': 348}
 PART_OF_PLAIN = {'0': 0.60, '1': 0.65}
+PART_OF_PLAIN_UNITS = 0.55  # rows of data units: export and read
 
 # How far a guarded row may be from its number.
 MARGIN = 0.03
@@ -40,6 +41,8 @@ class Row:
         self.asked = PART_OF_PLAIN[self.order] * plain
         if self.octet == '56' and self.channels in ('1', '2') and self.order == '0' and not self.gap:
             self.asked = USUAL[self.way]
+        if self.way in ('export', 'read'):
+            self.asked = PART_OF_PLAIN_UNITS * plain
 
     @property
     def ratio(self):
@@ -79,7 +82,7 @@ def add_times(rows, bench, pattern):
 
 def print_table(rows):
     timed = rows[0].times is not None
-    print('Per cell. Instructions are the same at every run, nanoseconds are not. ratio: proved / plain C.')
+    print('Per cell, of data units per call of 240 frames. Instructions are the same at every run, nanoseconds are not. ratio: proved / plain C.')
     print(f'{"":26} {"instructions":>24}' + (f' {"nanoseconds":>26}' if timed else ''))
     print(f'{"row":26} {"proved":>8} {"plain C":>8} {"ratio":>6}'
           + (f' {"proved":>10} {"plain C":>8} {"ratio":>6} {"memcpy":>8}' if timed else ''))
@@ -96,12 +99,14 @@ def tables(rows):
     written = []
     for heading, wanted in (('packed', lambda row: row.way == 'pack'),
                             ('unpacked', lambda row: row.way == 'unpack' and not row.gap),
-                            ('unpacked, 14 cells missing', lambda row: row.gap)):
+                            ('unpacked, 14 cells missing', lambda row: row.gap),
+                            ('240 frames exported', lambda row: row.way == 'export'),
+                            ('240 frames read back', lambda row: row.way == 'read')):
         lines = {}
         for row in filter(wanted, rows):
             text = f'{row.proved:.0f} ({row.ratio:.2f})'
             lines.setdefault((row.octet, row.order), []).append(f'**{text}**' if row.proved > row.asked else text)
-        columns = ('C = 2',) if 'missing' in heading else ('C = 1', 'C = 2', 'C = 5', 'C = S')
+        columns = ('C = 2',) if 'missing' in heading or 'frames' in heading else ('C = 1', 'C = 2', 'C = 5', 'C = S')
         written += ['', '| ' + ' | '.join((heading, 'order') + columns) + ' |', '|---|---|' + '---|' * len(columns)]
         for (octet, order), texts in lines.items():
             written.append(f'| {octet} hex | {order} | ' + ' | '.join(texts) + ' |')

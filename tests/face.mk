@@ -7,7 +7,7 @@
 # ROWS         a pattern that picks the benchmark's rows
 
 RIME_LIB ?= $(CURDIR)/target/staticlib
-RIME_PARTS ?= boxes,status,log
+RIME_PARTS ?= boxes,status,log,units
 N ?= 1000000
 SEED ?= 2
 ROWS ?= .
@@ -80,9 +80,11 @@ fuzz: face-archive
 	$(MEMCHECK) $(COMPARE) fuzz $(MEMCHECK_CALLS) $(SEED)
 	$(COMPARE) fuzz $(N) $(SEED) $(LINELIST)
 
-target/bench/bench: bench/bench.c bench/plain.c bench/plain.h include/rimesatchel.h $(ARCHIVE)
+BENCH_SOURCES := bench/bench.c bench/plain.c bench/units.c
+
+target/bench/bench: $(BENCH_SOURCES) bench/plain.h bench/units.h include/rimesatchel.h $(ARCHIVE)
 	mkdir -p target/bench
-	gcc $(BENCH_FLAGS) -Iinclude -Ibench bench/bench.c bench/plain.c $(ARCHIVE) -o $@
+	gcc $(BENCH_FLAGS) -Iinclude -Ibench $(BENCH_SOURCES) $(ARCHIVE) -o $@
 
 bench-build: face-archive
 	$(MAKE) --no-print-directory -f tests/face.mk target/bench/bench

@@ -34,6 +34,10 @@ ARGUMENTS = {
     "rime_receiver_open": [c_uint32, c_uint32, c_uint32, OCTETS],
     "rime_receive": [OCTETS, OCTETS, c_size_t, c_bool, POINTER(c_uint64), c_size_t, OCTETS, c_size_t, OCTETS, c_size_t,
                      OCTETS],
+    "rime_units_export": [c_uint32, c_uint32, c_size_t, POINTER(c_uint64), c_size_t, OCTETS, c_size_t, OCTETS, c_size_t,
+                          POINTER(c_uint64)],
+    "rime_unit_read": [c_uint32, c_uint32, OCTETS, c_size_t, POINTER(c_uint64), c_size_t, OCTETS, c_size_t,
+                       POINTER(c_uint64)],
 }
 
 

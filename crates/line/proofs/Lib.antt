@@ -9,3 +9,4 @@ pub mod Refused
 pub mod Rows
 pub mod Sharp
 pub mod Steps
+pub mod Units

@@ -8,11 +8,13 @@ mod boxes;
 mod cells;
 mod log;
 mod status;
+mod units;
 
 pub use boxes::{Receiver, Sender};
 pub use cells::Shape;
 pub use log::{header, listing, record, Record};
 pub use status::{check_character, step, Block};
+pub use units::{export_units, read_unit};
 
 /// The paper's number for a no.
 pub type Refusal = u8;

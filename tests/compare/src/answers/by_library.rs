@@ -14,6 +14,8 @@ pub fn by_library(case: &Case) -> Option<Answer> {
         Kind::CheckCharacter if cfg!(feature = "status") => check_character(case),
         Kind::ReadHeader if cfg!(feature = "log") => read_header(case),
         Kind::ReadRecord if cfg!(feature = "log") => read_record(case),
+        Kind::UnitsExport if cfg!(feature = "units") => units_export(case),
+        Kind::UnitRead if cfg!(feature = "units") => unit_read(case),
         _ => None,
     }
 }
@@ -131,4 +133,25 @@ fn read_record(case: &Case) -> Option<Answer> {
     let mut answer = values![u64::from(refusal)];
     answer.extend(record.map(Value::Number));
     Some(answer)
+}
+
+fn units_export(case: &Case) -> Option<Answer> {
+    let settings = narrow_array(&[case.number(0), case.number(1)])?;
+    let size = usize::try_from(case.number(2)).ok()?;
+    let ancillary: Vec<u8> = narrow(case.run(4))?;
+    let mut out = Fenced::around(case.octets(5), LEFT_OVER);
+    let mut units = [u64::MAX; 3];
+    let refusal = face::units_export(settings, size, case.run(3), &ancillary, out.lent(), &mut units);
+    let mut answer = values![u64::from(refusal), &out.back()[..]];
+    answer.extend(units.map(Value::Number));
+    Some(answer)
+}
+
+fn unit_read(case: &Case) -> Option<Answer> {
+    let settings = narrow_array(&[case.number(0), case.number(1)])?;
+    let mut samples = Fenced::around(case.run(3), u64::MAX);
+    let mut ancillary = Fenced::around(&narrow(case.run(4))?, LEFT_OVER);
+    let mut entries = u64::MAX;
+    let refusal = face::unit_read(settings, case.octets(2), samples.lent(), ancillary.lent(), &mut entries);
+    Some(values![u64::from(refusal), &samples.back()[..], &wide(&ancillary.back())[..], entries])
 }

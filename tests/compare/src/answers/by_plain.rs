@@ -15,6 +15,8 @@ pub fn by_plain(case: &Case) -> Answer {
         Kind::ReadHeader => read_header(case),
         Kind::ReadRecord => read_record(case),
         Kind::Linelist => values![plain::listing(case.octets(0)).as_bytes()],
+        Kind::UnitsExport => units_export(case),
+        Kind::UnitRead => unit_read(case),
     }
 }
 
@@ -115,5 +117,33 @@ fn read_record(case: &Case) -> Answer {
         Ok(Record::Cell { indication, start, next }) => values![0, 1, indication, start as u64, next as u64],
         Ok(Record::End) => values![0, 0, 0, 0, place],
         Err(refusal) => values![u64::from(refusal), 0, 0, 0, 0],
+    }
+}
+
+fn units_export(case: &Case) -> Answer {
+    let settings = [case.number(0), case.number(1)];
+    let mut out = case.octets(5).to_vec();
+    match plain::export_units(settings, case.number(2), case.run(3), case.run(4), out.len()) {
+        Ok(units) => {
+            let octets = units.each.concat();
+            out[..octets.len()].copy_from_slice(&octets);
+            values![0, &out[..], octets.len() as u64, units.full, units.each.len() as u64]
+        }
+        Err(refusal) => values![u64::from(refusal), &out[..], 0, 0, 0],
+    }
+}
+
+fn unit_read(case: &Case) -> Answer {
+    let mut runs = [3, 4].map(|field| case.run(field).to_vec());
+    let lengths = [0, 1].map(|run| runs[run].len());
+    match plain::read_unit([case.number(0), case.number(1)], case.octets(2), lengths) {
+        Ok(entries) => {
+            for (at, entry) in entries.iter().enumerate() {
+                runs[0][at] = entry.sample;
+                runs[1][at] = entry.ancillary;
+            }
+            values![0, &runs[0][..], &runs[1][..], entries.len() as u64]
+        }
+        Err(refusal) => values![u64::from(refusal), &runs[0][..], &runs[1][..], 0],
     }
 }
