@@ -1,5 +1,6 @@
 /*
- * The proved sender and receiver, and the data units' calls (units.c), beside the baseline of plain.c, in one process.
+ * The proved sender and receiver, the AES3 cable's calls (frames.c) and the data units' calls (units.c), beside the baseline of
+ * plain.c, in one process.
  *
  *   bench rows                the rows' names, one a line
  *   bench times [ROWS]        ns per cell of each row: the least of many batches, the two taking turns
@@ -15,6 +16,7 @@
 #include <string.h>
 #include <time.h>
 
+#include "frames.h"
 #include "plain.h"
 #include "rimesatchel.h"
 #include "units.h"
@@ -262,6 +264,7 @@ int main(int argc, char **argv) {
         if (function != name_row) check_agreement(&rows[at]);
         function(&rows[at]);
     }
+    frames_rows(argv[1], &pattern);
     units_rows(argv[1], &pattern);
     return 0;
 }

@@ -1,6 +1,6 @@
 /*
  * Packing and unpacking as a good embedded engineer writes them: one generic loop over the slots for every format, a
- * protection table of 512 octets, all of document 01's refusals. The proved functions are measured against these.
+ * protection table of 512 octets, all of the refusals. The proved functions are measured against these.
  */
 #include "plain.h"
 
@@ -206,6 +206,7 @@ MEASURED uint8_t plain_receive(uint8_t state[5], const uint8_t *cell, size_t cel
         number = turned[word >> 8];
         second = turned[word & 15];
         if (number_words[number] != word >> 4) return RIME_REFUSED_NUMBER;
+        if (indication && number % 8 != 0) return RIME_REFUSED_INDICATED;
     }
     bool counts = layout.format.overhead && state[RIME_RECEIVER_STARTED] != 0;
     size_t steps = counts ? (size_t)(number - state[RIME_RECEIVER_LAST]) % 16 : 1;
@@ -222,6 +223,35 @@ MEASURED uint8_t plain_receive(uint8_t state[5], const uint8_t *cell, size_t cel
     report[RIME_REPORT_NUMBER] = number;
     report[RIME_REPORT_SECOND] = second;
     report[RIME_REPORT_INDICATION] = indication;
+    return RIME_DONE;
+}
+
+/* Slots 4 to 31 of a subframe hold sample, V, U, C and what makes their count of ones even. */
+MEASURED uint8_t plain_aes3_import(const uint8_t preambles[2], const uint32_t subframes[2], uint64_t samples[2],
+                                   uint8_t ancillary[2]) {
+    samples[0] = samples[1] = ancillary[0] = ancillary[1] = 0;
+    bool begins = preambles[0] == 'Z';
+    if ((preambles[0] != 'X' && !begins) || preambles[1] != 'Y') return RIME_REFUSED_PREAMBLES;
+    if (__builtin_parity(subframes[0] >> 4) || __builtin_parity(subframes[1] >> 4)) return RIME_REFUSED_PARITY;
+    for (size_t half = 0; half < 2; half++) {
+        samples[half] = subframes[half] >> 4 & 0xFFFFFF;
+        ancillary[half] = (uint8_t)(begins << 3 | (subframes[half] >> 28 & 7));
+    }
+    return RIME_DONE;
+}
+
+MEASURED uint8_t plain_aes3_export(const uint64_t samples[2], const uint8_t ancillary[2], uint8_t preambles[2],
+                                   uint32_t subframes[2]) {
+    preambles[0] = preambles[1] = 0;
+    subframes[0] = subframes[1] = 0;
+    if ((samples[0] | samples[1]) >> 24 || (ancillary[0] | ancillary[1]) >> 4) return RIME_REFUSED_SAMPLE;
+    if ((ancillary[0] ^ ancillary[1]) >> 3) return RIME_REFUSED_BLOCKS;
+    preambles[0] = ancillary[0] >> 3 ? 'Z' : 'X';
+    preambles[1] = 'Y';
+    for (size_t half = 0; half < 2; half++) {
+        uint32_t word = (uint32_t)samples[half] << 4 | (uint32_t)(ancillary[half] & 7) << 28;
+        subframes[half] = word | (uint32_t)__builtin_parity(word) << 31;
+    }
     return RIME_DONE;
 }
 

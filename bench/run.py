@@ -20,9 +20,12 @@ import tempfile
 
 CELLS = 16  # calls in a batch, as in bench.c
 
-# What is asked, in instructions: a number for the usual call, and for every other row a part of plain C's.
-USUAL = {'pack': 395, 'unpack': 348}
-PART_OF_PLAIN = {'0': 0.60, '1': 0.65}
+# What is asked, in instructions: a number for the usual call, and for every other row a part of plain C's. Before request 8 it was
+# 395 and 348, 0.60 and 0.65; the division in place of the number table may take 32 and 20 more than the 379 and 338 before it, and
+# 0.04.
+USUAL = {'pack': 411, 'unpack': 358}
+PART_OF_PLAIN = {'0': 0.64, '1': 0.69}
+PART_OF_PLAIN_FRAMES = 1.2  # rows of an AES3 cable: a frame in and a frame out
 PART_OF_PLAIN_UNITS = 0.55  # rows of data units: export and read
 
 # How far a guarded row may be from its number.
@@ -39,10 +42,12 @@ class Row:
         parts = re.fullmatch(r'(\w+)-(\w\w)-C(\d+)-order(\d)(-gap14)?', name).groups()
         self.way, self.octet, self.channels, self.order, self.gap = parts
         self.asked = PART_OF_PLAIN[self.order] * plain
-        if self.octet == '56' and self.channels in ('1', '2') and self.order == '0' and not self.gap:
-            self.asked = USUAL[self.way]
-        if self.way in ('export', 'read'):
+        if self.way in ('aes3_import', 'aes3_export'):
+            self.asked = PART_OF_PLAIN_FRAMES * plain
+        elif self.way in ('export', 'read'):
             self.asked = PART_OF_PLAIN_UNITS * plain
+        elif self.octet == '56' and self.channels in ('1', '2') and self.order == '0' and not self.gap:
+            self.asked = USUAL[self.way]
 
     @property
     def ratio(self):
@@ -82,7 +87,8 @@ def add_times(rows, bench, pattern):
 
 def print_table(rows):
     timed = rows[0].times is not None
-    print('Per cell, of data units per call of 240 frames. Instructions are the same at every run, nanoseconds are not. ratio: proved / plain C.')
+    print('Per cell; of an AES3 cable per frame, of data units per call of 240 frames. Instructions are the same at every run,')
+    print('nanoseconds are not. ratio: proved / plain C.')
     print(f'{"":26} {"instructions":>24}' + (f' {"nanoseconds":>26}' if timed else ''))
     print(f'{"row":26} {"proved":>8} {"plain C":>8} {"ratio":>6}'
           + (f' {"proved":>10} {"plain C":>8} {"ratio":>6} {"memcpy":>8}' if timed else ''))
@@ -95,18 +101,20 @@ def print_table(rows):
 
 
 def tables(rows):
-    """A table for packing, one for unpacking, one for gaps: a line for each format and order, a column for each C."""
+    """Tables for packing, unpacking, gaps and frames: a line for each format and order, a column for each C."""
     written = []
     for heading, wanted in (('packed', lambda row: row.way == 'pack'),
                             ('unpacked', lambda row: row.way == 'unpack' and not row.gap),
                             ('unpacked, 14 cells missing', lambda row: row.gap),
+                            ('a frame of an AES3 cable imported', lambda row: row.way == 'aes3_import'),
+                            ('a frame of an AES3 cable exported', lambda row: row.way == 'aes3_export'),
                             ('240 frames exported', lambda row: row.way == 'export'),
                             ('240 frames read back', lambda row: row.way == 'read')):
         lines = {}
         for row in filter(wanted, rows):
             text = f'{row.proved:.0f} ({row.ratio:.2f})'
             lines.setdefault((row.octet, row.order), []).append(f'**{text}**' if row.proved > row.asked else text)
-        columns = ('C = 2',) if 'missing' in heading or 'frames' in heading else ('C = 1', 'C = 2', 'C = 5', 'C = S')
+        columns = ('C = 2',) if 'missing' in heading or 'frame' in heading else ('C = 1', 'C = 2', 'C = 5', 'C = S')
         written += ['', '| ' + ' | '.join((heading, 'order') + columns) + ' |', '|---|---|' + '---|' * len(columns)]
         for (octet, order), texts in lines.items():
             written.append(f'| {octet} hex | {order} | ' + ' | '.join(texts) + ' |')

@@ -7,9 +7,9 @@
  *
  * Every function but rime_check_character returns a refusal number, RIME_DONE (0) where there is none. A call never
  * does half of its work. A refusal leaves every lent run and the state as they were, and fills `report`, `out` of
- * rime_status_step, `header`, `record`, `units` or `*entries` with zeros; an opening that is refused fills `state` with
- * zeros, which is itself refused 1.
- * Where several refusals apply, the first in the order of the list at each function is given.
+ * rime_status_step, `header`, `record`, `units`, `*entries` or the two entries or halves of a frame with zeros; an opening
+ * that is refused fills `state` with zeros, which is itself refused 1. Where several refusals apply, the first in the
+ * order of the list at each function is given.
  *
  * Lent memory: a run is a pointer and the number of its entries. A pointer is never NULL (a run of no entries may
  * point anywhere else), and no two arguments of one call overlap.
@@ -80,9 +80,13 @@ enum {
     RIME_REFUSED_LOG_RECORD = 12, /* a record cut before its 48 octets end */
     RIME_REFUSED_LOG_LENGTH = 13, /* given by the program linelist alone */
     RIME_REFUSED_STATUS = 14,     /* a channel status input that cannot be */
+    RIME_REFUSED_INDICATED = 15,  /* a cell that comes with indication 1 where its number isn't a multiple of 8 */
+    RIME_REFUSED_PREAMBLES = 16,  /* the preambles of a frame aren't X then Y, or Z then Y */
+    RIME_REFUSED_PARITY = 17,     /* odd parity over slots 4 to 31 in either half of a frame */
     RIME_REFUSED_OVERHEAD = 26,   /* data units: a format with overhead */
     RIME_REFUSED_UNIT_SIZE = 27,  /* data units: a size below one frame */
-    RIME_REFUSED_UNIT_ROOM = 28   /* data units: too little room */
+    RIME_REFUSED_UNIT_ROOM = 28,  /* data units: too little room */
+    RIME_REFUSED_BLOCKS = 29      /* the B bits of a frame's halves differ */
 };
 
 /* Places in a sender's state. The three yes-or-no octets here and below: 0 is no, any other octet is yes. */
@@ -112,7 +116,7 @@ enum { RIME_REPORT_MISSING = 0, RIME_REPORT_NUMBER = 1, RIME_REPORT_SECOND = 2, 
 enum { RIME_BLOCK_BITS = 0, RIME_BLOCK_OCTETS = 1, RIME_OUT_ANSWER = 0, RIME_OUT_OCTETS = 1 };
 
 /* The answers of rime_status_step. */
-enum { RIME_STATUS_NONE = 0, RIME_STATUS_DOES_NOT_FIT = 1, RIME_STATUS_FITS = 2 };
+enum { RIME_STATUS_NONE = 0, RIME_STATUS_DOES_NOT_FIT = 1, RIME_STATUS_FITS = 2, RIME_STATUS_NONE_CARRIED = 3 };
 
 /* Places in what is read of a log. */
 enum { RIME_HEADER_PLACE = 0, RIME_HEADER_FORMAT = 1, RIME_HEADER_CHANNELS = 2, RIME_HEADER_ORDER = 3 };
@@ -163,8 +167,13 @@ uint8_t rime_receiver_open(uint32_t format, uint32_t channels, uint32_t order, u
  * format has none), and `indication` as it came.
  * Refused, with `state` and the runs untouched: 1, 2 and 3 of what stands in `state`; 4, a last number above 15, or not
  * 0 in a state not started or without overhead; 5, `cell` isn't 48 octets or the runs aren't equally long; 8, with
- * overhead, the eight number bits are in no entry of Table A.1; 9, d is 0; 10, the runs are shorter than d * C * T
- * (C * T at the first cell): the same cell may be given again with more room.
+ * overhead, the eight number bits are in no entry of Table A.1; 15, with overhead, `indication` is true and the number
+ * isn't a multiple of 8, at the first cell too; 9, d is 0; 10, the runs are shorter than d * C * T (C * T at the first
+ * cell): the same cell may be given again with more room.
+ *
+ * Before you connect another maker's sender: by clause 4.5.3 of the standard it sets the indication in the last cell of
+ * every block, which has number 7 or 15. This receiver refuses those cells, 15: every eighth cell of such a sender is
+ * turned down and stands in the reading as missing. The senders here set it in the first cell of a block, 0 or 8.
  */
 uint8_t rime_receive(uint8_t state[RIME_RECEIVER_STATE], const uint8_t *cell, size_t cell_len, bool indication,
                      uint64_t *samples, size_t samples_len, uint8_t *ancillary, size_t ancillary_len,
@@ -176,7 +185,8 @@ uint8_t rime_receive(uint8_t state[RIME_RECEIVER_STATE], const uint8_t *cell, si
  * an unfinished one; B = 0 adds the C bit to a begun block and otherwise changes nothing; mark 2 drops the block,
  * whatever B. Bit k is bit k mod 8 of octet k / 8, the lowest being bit 0.
  * Leaves in `out` an answer and 24 octets: RIME_STATUS_NONE and zeros, unless this was the 192nd bit. Then the octets
- * are the finished block and the answer says whether octet 23 is the check character of octets 0 to 22. Dropping or
+ * are the finished block and the answer says whether octet 23 is the check character of octets 0 to 22; it is
+ * RIME_STATUS_NONE_CARRIED where bit 0 of octet 0 is 0, since such a block, of consumer use, carries none. Dropping or
  * finishing leaves `block` as 25 zeros.
  * Refused, with `block` untouched and `out` zeros: 14, `mark` above 2, `ancillary` above 15 or more than 191 bits
  * begun.
@@ -207,6 +217,29 @@ uint8_t rime_log_header(const uint8_t *log, size_t log_len, uint32_t header[RIME
  * before the 48 octets do.
  */
 uint8_t rime_log_record(const uint8_t *log, size_t log_len, size_t place, uint64_t record[RIME_RECORD]);
+
+/* The preambles of an AES3 frame's halves, by their letters. */
+enum { RIME_PREAMBLE_X = 0x58, RIME_PREAMBLE_Y = 0x59, RIME_PREAMBLE_Z = 0x5A };
+
+/*
+ * Takes one frame off an AES3 cable into two entries of format 56 hex: the first half into entry 0, the second into
+ * entry 1. In a subframe slot k is the bit worth 2^k: the sample in slots 4 to 27, low bit first, V in 28, U in 29, C in
+ * 30, and in 31 what makes the count of ones in slots 4 to 31 even. Slots 0 to 3 aren't read. Z then Y begins a block for
+ * both channels: B is 1 in both entries; X then Y leaves it 0 in both.
+ * Refused, with `samples` and `ancillary` zeros: 16, the preambles are neither X then Y nor Z then Y; 17, the count of
+ * ones in slots 4 to 31 is odd in either half.
+ */
+uint8_t rime_aes3_import(const uint8_t preambles[2], const uint32_t subframes[2], uint64_t samples[2],
+                         uint8_t ancillary[2]);
+
+/*
+ * Makes one frame for an AES3 cable of two entries of format 56 hex: Z then Y where B is 1 in both, X then Y where it is
+ * 0 in both. Slots 0 to 3 are 0. An imported frame goes out with the slots 4 to 31 and the preambles that it came with.
+ * Refused, with `preambles` and `subframes` zeros: 6, a sample of more than 24 bits or an ancillary number above 15 in
+ * either half; 29, the two B bits differ: blocks that begin at different times in the two channels can't leave by AES3.
+ */
+uint8_t rime_aes3_export(const uint64_t samples[2], const uint8_t ancillary[2], uint8_t preambles[2],
+                         uint32_t subframes[2]);
 
 /*
  * Writes entries that the receiver wrote as data units of IEC 62379-5-2 (7.3), with synchronisation information absent, for

@@ -9,7 +9,8 @@ is proved to meet the `ensures` of each public function; crates/line/proofs/Ensu
 `ensures` meets the contract; the demands are proved of every call that meets the contract. So the demands hold of the code. How
 many lines stand behind the contracts is told last.
 
-It fails where a definition reached lies in a file of the code's words, or where more lines are reached than MOST.
+It fails where a definition reached lies in a file of the code's words, or where more lines are reached than MOST. MOST was 750
+for the base. A request raises it by the lines that its own sentences need: request 1 by 51 (import and export of a frame).
 
     python3 tools/reading.py [-v]      -v prints each definition with its lines
 """
@@ -22,7 +23,7 @@ ROOT = pathlib.Path(__file__).resolve().parent.parent / "crates"
 START = ROOT / "line/proofs/Demands.antt"
 CODE = {"Code", "Packing", "Unpacking", "Marks", "Settings", "Sound"}
 CONTRACTS = ("line", "Contracts")
-MOST = 750
+MOST = 801
 
 NAME = r"[^\s(){}\[\],;.:λ∷→«»\"]+"
 DECLARES = re.compile(rf"^(?:unfoldable |abbrev )?(?:pub )?(?:record |data )?({NAME})\s*(?:[:({{]|$)")

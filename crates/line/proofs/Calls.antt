@@ -55,7 +55,7 @@ receives-or-nothing r meets =
 
 -- what a call that is taken gives a run
 given-there : (r : ReceiveCall) (run : List ℕ) {entries there after : List ℕ} → receiveTable r ≡ 0
-    → after ≡ over (R.entriesGiven (r .state) (r .cell) (length (r .samples)) (length (r .ancillary)) (length (r .marks)) entries) run
+    → after ≡ over (R.entriesGiven (r .state) (r .cell) (r .indication) (length (r .samples)) (length (r .ancillary)) (length (r .marks)) entries) run
     → entries ≡ there → after ≡ over there run
 unfolding R.entriesGiven
 given-there r run taken left e = left ∙ rw taken (ap (λ new. over new run) e)

@@ -9,12 +9,12 @@ use native.Mathlib.Omega.{arith}
 use borrow.Author.Tests.{ne-eqb, eqb-true}
 use lib.Dec.{eqb}
 use lib.ListN.{length, replicate}
-use Rattle.runs.proofs.Laws.{split}
+use Rattle.runs.proofs.Laws.{split, past, past-both}
 use Rattle.formats.specs.declared.Format.{Format}
 use Rattle.formats.specs.Formats.{formatOf, timesOf, settingsRefusal}
 use Rattle.formats.specs.Settings.{settled}
 use Rattle.numbers.specs.declared.Found.the-variants.{Number}
-use Rattle.numbers.specs.Numbers.{entryOf, foundOf}
+use Rattle.numbers.specs.Numbers.{entryOf, foundOf, valueOf, indicationRefused}
 use Rattle.numbers.proofs.Laws.{entry-lt, entry-found}
 use Rattle.cells.specs.Cells.{sampleIn, ancillaryIn, markIn, eightIn, secondIn, entriesOf}
 use Rattle.cells.specs.Placement.{usedOf}
@@ -60,6 +60,14 @@ module _ (s : SendCall) (meets : MeetsSend s) (sent : s .answer .refusal ≡ 0) 
 
   pub fits : Packable (settled (s .state .format) (s .state .channels) (s .state .order)) (s .samples) (s .ancillary)
   fits = SL.packable (s .state) (s .indication) (s .samples) (s .ancillary) (length (s .cell)) none
+
+  -- its indication passed check 7
+  pub rightly-indicated : indicationRefused (s .state .number) (s .indication) ≡ false
+  unfolding S.sendRefusal
+  rightly-indicated =
+      let fifth = past (S.lengthsRefused (s .state) (s .samples) (s .ancillary) (length (s .cell))) 4 _ (past-both (S.stateRefusal (s .state)) _ none .1) in
+      let sixth = past (S.valuesRefused (s .state) (s .samples) (s .ancillary)) 5 _ (fifth .1) in
+      past (indicationRefused (s .state .number) (s .indication)) 6 0 (sixth .1) .0
 
   pub next-state : s .answer .state ≡ S.after (s .state) (s .indication)
   unfolding S.sentOf
@@ -125,6 +133,10 @@ module _ (s : SendCall) (meets : MeetsSend s) (sent : s .answer .refusal ≡ 0) 
           (λ i.
           cond (eqb (formatOf (same .format i) .«overhead_bits») 0) (Number 0) (foundOf (eightIn (formatOf (same .format i)) (arrived i))))
           ∙ rw (ne-eqb _ 0 with-overhead) (ap foundOf eight-sent ∙ entry-found number-lt)
+
+      pub rightly-there : r .indication ≡ s .indication → indicationRefused (R.numberNow (r .state) (r .cell)) (r .indication) ≡ false
+      unfolding valueOf
+      rightly-there indicated = ap₂ indicationRefused (ap valueOf found-there) indicated ∙ rightly-indicated
 
       second-here : R.secondNow (r .state) (r .cell) ≡ secondIn (formatIn s) (s .written)
       unfolding R.secondNow

@@ -1,7 +1,7 @@
 -- The demands on one page: each statement beside the minutes' sentence, each proof a citation.
 -- Assumes nothing.
 use mathlib.Core.Bool.{Bool, cond, _||_}
-use mathlib.Core.List.{List, []}
+use mathlib.Core.List.{List, [], _∷_}
 use mathlib.Core.Path.{_≡_}
 use Prim.Native.Nat.{ℕ}
 use native.Mathlib.Nat.{le-trans}
@@ -26,6 +26,9 @@ use Rattle.listing.specs.declared.Listed.{Listed}
 use Rattle.listing.specs.Lines.{logRefusedLine}
 use Rattle.listing.specs.List.{listRefusal}
 use Rattle.listing.specs.Text.{listed}
+use Rattle.cable.specs.declared.Imported.{Imported}
+use Rattle.cable.specs.declared.Exported.{Exported}
+use Rattle.cable.specs.Frames.{importRefusal, exportRefusal}
 use Rattle.line.specs.Contracts.{
   SendCall,
   MeetsSend,
@@ -43,6 +46,8 @@ use Rattle.line.specs.Contracts.{
   MeetsWriteHeader,
   MeetsWriteRecord,
   MeetsList,
+  MeetsImport,
+  MeetsExport,
 }
 use Rattle.line.specs.Demands.{
   Refuses,
@@ -63,7 +68,20 @@ use Rattle.line.specs.Line.{Demand3}
 use Rattle.line.proofs.Calls.{sends-or-nothing, receives-or-nothing, gives-back, tells}
 use Rattle.line.proofs.Cells.{is-document-01's}
 use Rattle.line.proofs.Places.{longest-inside, demand-3-inside}
-use Rattle.line.proofs.Refused.{opens-sender, opens-receiver, steps, reads-number, reads-header, reads-record, reads-cell, next-stays, keeps, lists}
+use Rattle.line.proofs.Refused.{
+  opens-sender,
+  opens-receiver,
+  steps,
+  reads-number,
+  reads-header,
+  reads-record,
+  reads-cell,
+  next-stays,
+  keeps,
+  lists,
+  imports,
+  exports,
+}
 
 -- 1. "Each public call takes arbitrary octets, numbers, run lengths and states, and ends with an answer. It refuses exactly where
 -- document 01's table says so, under that number; the state then comes back as it went in and nothing lent changes."
@@ -125,6 +143,14 @@ pub demand-1-list : (log run : List ℕ) (r : Listed) (after : List ℕ) → Mee
     → (r ≡ listed (length run) (logRefusedLine (listRefusal log)))
     × (after ≡ over (take (length run) (logRefusedLine (listRefusal log))) run)
 demand-1-list = lists
+
+pub demand-1-import : (preambles subframes : List ℕ) (r : Imported) → MeetsImport preambles subframes r
+    → Refuses (r .refusal) (importRefusal preambles subframes) ((r .samples ≡ 0 ∷ 0 ∷ []) × (r .ancillary ≡ 0 ∷ 0 ∷ []))
+demand-1-import = imports
+
+pub demand-1-export : (samples ancillary : List ℕ) (r : Exported) → MeetsExport samples ancillary r
+    → Refuses (r .refusal) (exportRefusal samples ancillary) ((r .preambles ≡ 0 ∷ 0 ∷ []) × (r .subframes ≡ 0 ∷ 0 ∷ []))
+demand-1-export = exports
 
 -- 2. "Cells, number protection, data protection and placement are document 01's for every format listed."
 pub demand-2-cell : (s : SendCall) → MeetsSend s → s .answer .refusal ≡ 0 → IsDocument01's s

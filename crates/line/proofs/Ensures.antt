@@ -57,6 +57,10 @@ use Rattle.log.proofs.reader.read as read
 use Rattle.log.proofs.One.{RecordEnsures, CellEnsures, PastEnsures, ReadEnsures}
 use Rattle.listing.proofs.list.Kinds as list-kinds
 use Rattle.listing.proofs.list.Reads as list-reads
+use Rattle.cable.proofs.import_frame.Kinds as import-kinds
+use Rattle.cable.proofs.import_frame.Reads as import-reads
+use Rattle.cable.proofs.export_frame.Kinds as export-kinds
+use Rattle.cable.proofs.export_frame.Reads as export-reads
 use Rattle.line.specs.Contracts.{
   MeetsSend,
   MeetsReceive,
@@ -72,6 +76,8 @@ use Rattle.line.specs.Contracts.{
   MeetsWriteHeader,
   MeetsWriteRecord,
   MeetsList,
+  MeetsImport,
+  MeetsExport,
 }
 
 -- Whatever a function is called with (a), answers (x) and leaves in what was lent to it (v): where its `ensures` holds, so does
@@ -160,6 +166,12 @@ write-record-ensures κs a x v p = p
 
 pub list-ensures : Ensured list-kinds.ps list-kinds.r list-reads.Post (λ κs a x v. MeetsList (now (a .0)) (now (a .1 .0)) x (v .1 .0))
 list-ensures κs a x v p = p
+
+pub import-ensures : Ensured import-kinds.ps import-kinds.r import-reads.Post (λ κs a x v. MeetsImport (a .0) (a .1 .0) x)
+import-ensures κs a x v p = p
+
+pub export-ensures : Ensured export-kinds.ps export-kinds.r export-reads.Post (λ κs a x v. MeetsExport (a .0) (a .1 .0) x)
+export-ensures κs a x v p = p
 
 -- The functions proved by hand have no Kinds and Reads. Their `ensures` are stated over the clauses.
 module _ {M : Type 1} (𝓤 : URA M) (H : Heap 𝓤) (A : Atoms 𝓤) (mem : Memory → SProp 𝓤) (run : Routine → Fun 𝓤) (κs : Lfts 1) where

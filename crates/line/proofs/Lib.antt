@@ -3,6 +3,7 @@ pub mod Cases
 pub mod Cells
 pub mod Demands
 pub mod Ensures
+pub mod Frames
 pub mod Opened
 pub mod Places
 pub mod Refused

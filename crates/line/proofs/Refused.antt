@@ -1,7 +1,7 @@
 -- A refusal is the table's, and then nothing was changed and nothing else is told: each public call beside `send` and `receive`.
 -- Assumes nothing.
 use mathlib.Core.Bool.{Bool, cond, _||_}
-use mathlib.Core.List.{List, []}
+use mathlib.Core.List.{List, [], _∷_}
 use mathlib.Core.Path.{_≡_, refl, sym, _∙_, ap}
 use Prim.Native.Nat.{ℕ, _+_}
 use borrow.Author.Tests.{eqb-true}
@@ -31,6 +31,10 @@ use Rattle.listing.specs.Lines.{logRefusedLine}
 use Rattle.listing.specs.List.{listRefusal}
 use Rattle.listing.specs.Text.{listed}
 use Rattle.listing.proofs.Refused.{refused-list}
+use Rattle.cable.specs.declared.Imported.{Imported}
+use Rattle.cable.specs.declared.Exported.{Exported}
+use Rattle.cable.specs.Frames.{importRefusal, exportRefusal}
+use Rattle.cable.proofs.Demand1 as cable
 use Rattle.line.specs.Contracts.{
   MeetsOpenSender,
   MeetsOpenReceiver,
@@ -41,6 +45,8 @@ use Rattle.line.specs.Contracts.{
   MeetsReadCell,
   MeetsNextPlace,
   MeetsList,
+  MeetsImport,
+  MeetsExport,
 }
 use Rattle.line.specs.Demands.{Refuses, SteppedNothing, recordTable, ReadNothing}
 
@@ -147,3 +153,23 @@ pub lists : (log run : List ℕ) (r : Listed) (after : List ℕ) → MeetsList l
 lists log run r after meets some =
     let line = refused-list log some in
     (meets .answered ∙ ap (listed (length run)) line, meets .left ∙ ap (λ (l : List ℕ). over (take (length run) l) run) line)
+
+pub imports : (preambles subframes : List ℕ) (r : Imported) → MeetsImport preambles subframes r
+    → Refuses (r .refusal) (importRefusal preambles subframes) ((r .samples ≡ 0 ∷ 0 ∷ []) × (r .ancillary ≡ 0 ∷ 0 ∷ []))
+imports preambles subframes r meets =
+    let one = cable.demand-1-import preambles subframes r meets in
+    record {
+      by-the-table = one .0;
+      then-nothing =
+          λ some. (ap (λ (x : Imported). x .samples) (one .1 some), ap (λ (x : Imported). x .ancillary) (one .1 some));
+    }
+
+pub exports : (samples ancillary : List ℕ) (r : Exported) → MeetsExport samples ancillary r
+    → Refuses (r .refusal) (exportRefusal samples ancillary) ((r .preambles ≡ 0 ∷ 0 ∷ []) × (r .subframes ≡ 0 ∷ 0 ∷ []))
+exports samples ancillary r meets =
+    let one = cable.demand-1-export samples ancillary r meets in
+    record {
+      by-the-table = one .0;
+      then-nothing =
+          λ some. (ap (λ (x : Exported). x .preambles) (one .1 some), ap (λ (x : Exported). x .subframes) (one .1 some));
+    }

@@ -227,7 +227,8 @@ module _ (t : Trip) (ts : List Trip) (sends : MeetsSend (t .sent)) (sent : t .se
           let here : Beside (s .state) (c .state) since
           = subst (λ (x : Receiver). Beside (s .state) x since) (sym (takes .meets .0)) beside in
           let arrived = ap (λ x. x .cell) (head-eq-of-cons-eq (takes .these)) in
-          let done = took s sends sent (here .with-overhead) c (takes .meets .1) (here .same) arrived (takes .room .0)
+          let indicated = ap (λ x. x .indication) (head-eq-of-cons-eq (takes .these)) in
+          let done = took s sends sent (here .with-overhead) c (takes .meets .1) (here .same) arrived indicated (takes .room .0)
           (last-passes since here) (gap-is since (c .cell) here (few .0) (found-there s sends sent (here .with-overhead) c (here .same) arrived)) in
           let next : Beside (s .answer .state) (c .answer .state) (after 0 [])
           = record {

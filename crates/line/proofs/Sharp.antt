@@ -47,7 +47,7 @@ use Rattle.line.proofs.Opened.{opened}
 pub always-room : {c : ReceiveCall} → length (c .ancillary) ≡ length (c .samples) → length (c .marks) ≡ length (c .samples)
     → 15 * R.usedNow (c .state) ≤ length (c .samples) → WithRoom c
 always-room {c} ancillary marks enough =
-    record { ancillary-equal = ancillary; marks-equal = marks; long-enough = Room.always-room (c .state) (c .cell) _ _ _ enough }
+    record { ancillary-equal = ancillary; marks-equal = marks; long-enough = Room.always-room (c .state) (c .cell) (c .indication) _ _ _ enough }
 
 -- a sender of five channels in 5A hex, one sample of each in a cell, its first cell to have number 0
 abbrev studio : Sender
@@ -104,9 +104,9 @@ answered rc a = R.receivedOf rc (a .cell) (a .indication) 80 80 80
 abbrev receiving : Receiver → Arrival → ReceiveCall
 receiving rc a =
     call rc a (answered rc a)
-    (R.entriesGiven rc (a .cell) 80 80 80 (R.samplesNow rc (a .cell)))
-    (R.entriesGiven rc (a .cell) 80 80 80 (R.ancillaryNow rc (a .cell)))
-    (R.entriesGiven rc (a .cell) 80 80 80 (R.marksNow rc (a .cell)))
+    (R.entriesGiven rc (a .cell) (a .indication) 80 80 80 (R.samplesNow rc (a .cell)))
+    (R.entriesGiven rc (a .cell) (a .indication) 80 80 80 (R.ancillaryNow rc (a .cell)))
+    (R.entriesGiven rc (a .cell) (a .indication) 80 80 80 (R.marksNow rc (a .cell)))
 
 promised : (rc : Receiver) (a : Arrival) → MeetsReceive (receiving rc a)
 promised rc a = record { answered = refl; samples-after = refl; ancillary-after = refl; marks-after = refl }
@@ -127,7 +127,7 @@ receives-these rc (a ∷ came) = ap (λ l. a ∷ l) (receives-these (receiving r
 
 used-stays : (rc : Receiver) (a : Arrival) → R.usedNow (answered rc a .state) ≡ R.usedNow rc
 unfolding R.receivedOf R.after
-used-stays rc a = split (eqb (R.receiveRefusal rc (a .cell) 80 80 80) 0) (λ e. rw e) (λ e. rw e)
+used-stays rc a = split (eqb (R.receiveRefusal rc (a .cell) (a .indication) 80 80 80) 0) (λ e. rw e) (λ e. rw e)
 
 receives-with-room : (rc : Receiver) (came : List Arrival) → R.usedNow rc ≤ 5 → Each WithRoom (receives rc came)
 unfolding Each receives

@@ -24,6 +24,7 @@ use Rattle.cells.specs.Cells.{eightIn}
 use Rattle.sender.specs.Sender as S
 use Rattle.receiver.specs.Receiver as R
 use Rattle.receiver.proofs.Laws as RL
+use Rattle.receiver.proofs.Indication.{never-15, bare-never-15}
 use Rattle.line.specs.Contracts.{SendCall, MeetsSend, ReceiveCall, MeetsReceive}
 use Rattle.line.specs.Demands.{receiveTable, InSettings, formatIn, GivesBack}
 use Rattle.line.specs.Line.{alteredIn, WithRoom, Place, places, handedBy}
@@ -36,6 +37,7 @@ use Rattle.line.proofs.Cells.{
   cell-48,
   eight-sent,
   found-there,
+  rightly-there,
   used-in,
   settings-on,
 }
@@ -83,6 +85,17 @@ pub record Took (s : SendCall) (c : ReceiveCall) (gap : ℕ) : Type 0 where
   pub hands : handedBy c
       ≡ replicate (gap * S.usedNow (s .state)) missing ++ places (s .samples) (s .ancillary) (replicate (S.usedNow (s .state)) 0)
 
+-- A cell that a sender wrote has an indication that no receiver in its settings refuses 15, where both come as they were sent.
+pub honest-never-15 : (s : SendCall) (r : ReceiveCall) → MeetsSend s → s .answer .refusal ≡ 0 → InSettings (s .state) (r .state)
+    → r .cell ≡ s .written → r .indication ≡ s .indication → MeetsReceive r → r .answer .refusal ≡ 15 → ⊥
+honest-never-15 s r sends sent same arrived indicated receives fifteen =
+    let table : receiveTable r ≡ 15 = sym (received-refusal r receives) ∙ fifteen in
+    split (eqb (formatIn s .«overhead_bits») 0)
+    (λ e.
+    bare-never-15 (r .state) (r .cell) (r .indication) _ _ _
+    (ap (λ (x : ℕ). formatOf x .«overhead_bits») (same .format) ∙ eqb-true _ 0 e) table)
+    (λ e. never-15 (r .state) (r .cell) (r .indication) _ _ _ (rightly-there s sends sent (eqb-false _ 0 e) r same arrived indicated) table)
+
 -- a cell with overhead that a call wrote
 module _ (s : SendCall) (sends : MeetsSend s) (sent : s .answer .refusal ≡ 0) (with-overhead : formatIn s .«overhead_bits» ≡ 0 → ⊥) where
   -- one, two or three altered bits lead off the table
@@ -120,7 +133,7 @@ module _ (s : SendCall) (sends : MeetsSend s) (sent : s .answer .refusal ≡ 0) 
       -- it is refused
       pub spoiled-refused : c .answer .refusal ≡ 0 → ⊥
       spoiled-refused taken =
-          let passed = RL.passes (c .state) (c .cell) _ _ _ (sym (received-refusal c receives) ∙ taken) in
+          let passed = RL.passes (c .state) (c .cell) (c .indication) _ _ _ (sym (received-refusal c receives) ∙ taken) in
           suc-ne-zero 7 (sym no-number ∙ passed .found)
 
       -- one of 48 octets is refused 8, where checks 1 to 4 pass and the runs have room
@@ -137,7 +150,7 @@ module _ (s : SendCall) (sends : MeetsSend s) (sent : s .answer .refusal ≡ 0) 
           (first-refuses _ (λ e. suc-ne-zero 7 (sym no-number ∙ e)) ∙ no-number)
 
     -- an unaltered one is taken where the state passes and the gap is some
-    module _ (arrived : c .cell ≡ s .written) (room : WithRoom c)
+    module _ (arrived : c .cell ≡ s .written) (indicated : c .indication ≡ s .indication) (room : WithRoom c)
         (last-passes : R.lastRefused (c .state) ≡ false) {gap : ℕ} (gap-is : R.gapOf (c .state) (c .cell) ≡ suc gap)
       where
         -- checks 1 to 4 pass
@@ -162,7 +175,8 @@ module _ (s : SendCall) (sends : MeetsSend s) (sent : s .answer .refusal ≡ 0) 
               eq-eqb _ _ (room .ancillary-equal),
               eq-eqb _ _ (room .marks-equal),
             )
-            (then-later _ (ap refusalOf found-here) ∙ rw (ne-eqb _ 0 some)) in
+            (then-later _ (ap refusalOf found-here)
+            ∙ rw (rightly-there s sends sent with-overhead c same arrived indicated, ne-eqb _ 0 some)) in
             received-refusal c receives
             ∙ split (ltb (length (c .samples)) (R.gapOf (c .state) (c .cell) * R.usedNow (c .state)))
             (λ e. absurd (room .long-enough (by-room ∙ rw e)))

@@ -27,6 +27,9 @@ use Rattle.log.specs.Records.{headerOf, recordAt, cellAt, placeAfter}
 use Rattle.log.specs.Written.{Keeps, numberRefusal, headerOctets, headerRefused, recordOctets, recordRefusal}
 use Rattle.listing.specs.declared.Listed.{Listed}
 use Rattle.listing.specs.List.{Lists}
+use Rattle.cable.specs.declared.Imported.{Imported}
+use Rattle.cable.specs.declared.Exported.{Exported}
+use Rattle.cable.specs.Frames.{importOf, exportOf}
 
 -- a call of `send` and what it left
 pub record SendCall : Type 0 where
@@ -101,3 +104,10 @@ MeetsWriteRecord log place indication cell r after = Keeps (recordRefusal log pl
 -- `list`
 abbrev pub MeetsList : List ℕ → List ℕ → Listed → List ℕ → Type 0
 MeetsList log run r after = Lists log run r after
+
+-- `import_frame` and `export_frame`
+abbrev pub MeetsImport : List ℕ → List ℕ → Imported → Type 0
+MeetsImport preambles subframes r = r ≡ importOf preambles subframes
+
+abbrev pub MeetsExport : List ℕ → List ℕ → Exported → Type 0
+MeetsExport samples ancillary r = r ≡ exportOf samples ancillary

@@ -30,7 +30,8 @@ abbrev pub sendTable : SendCall → ℕ
 sendTable c = S.sendRefusal (c .state) (c .indication) (c .samples) (c .ancillary) (length (c .cell))
 
 abbrev pub receiveTable : ReceiveCall → ℕ
-receiveTable c = R.receiveRefusal (c .state) (c .cell) (length (c .samples)) (length (c .ancillary)) (length (c .marks))
+receiveTable c =
+    R.receiveRefusal (c .state) (c .cell) (c .indication) (length (c .samples)) (length (c .ancillary)) (length (c .marks))
 
 -- "the state then comes back as it went in and nothing lent changes", "with any other reported number 0"
 pub record SentNothing (c : SendCall) : Type 0 where

@@ -23,6 +23,6 @@ refused-list log some = rw (ne-eqb (listRefusal log) 0 some)
 pub never-10 : (state : Receiver) (indication : Bool) (cell : List ℕ) → judgedOf state indication cell .refusal ≡ 10 → ⊥
 unfolding judgedOf receivedOf
 never-10 state indication cell =
-    split (eqb (receiveRefusal state cell 720 720 720) 0)
+    split (eqb (receiveRefusal state cell indication 720 720 720) 0)
     (λ e. rw e (λ z. omega arith))
-    (λ e. rw e (room-in-720 state cell 720 720 720 (omega arith)))
+    (λ e. rw e (room-in-720 state cell indication 720 720 720 (omega arith)))

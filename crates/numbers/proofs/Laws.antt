@@ -14,9 +14,8 @@ use lib.Count.{ones, onesIn}
 use lib.Dec.{T, eqb, leb, ltb, leb→le, eqb→eq}
 use lib.ListN.{length, getD}
 use lib.Pow.{pow-mono}
-use Rattle.runs.specs.Division.{coefficients, divided, takenDown}
+use Rattle.runs.specs.Division.{coefficients, divided, takenDown, remainder}
 use Rattle.runs.specs.Test.{every}
-use Rattle.runs.proofs.Arms.{NoneOf, orListed, others, singles}
 use Rattle.runs.proofs.Laws.{every-at, split, or-right}
 use Rattle.numbers.specs.declared.Found.{Found}
 use Rattle.numbers.specs.declared.Found.the-variants.{Number, Nothing}
@@ -65,14 +64,70 @@ pub turned-lt : (n : ℕ) → turned n < 16
 unfolding turned
 turned-lt n = omega arith
 
--- what parity and one look into the table find: the number, and 16 for none
+-- the division as the code does it, the first bit lowest: one term of four is taken off at each step
+abbrev pub fromFive : ℕ → ℕ
+fromFive n = bitXor n (n % 2 * 13)
+
+abbrev pub fromFour : ℕ → ℕ
+fromFour n = bitXor (fromFive n) (fromFive n / 2 % 2 * 26)
+
+abbrev pub fromThree : ℕ → ℕ
+fromThree n = bitXor (fromFour n) (fromFour n / 4 % 2 * 52)
+
+abbrev pub leftLow : ℕ → ℕ
+leftLow n = bitXor (fromThree n) (fromThree n / 8 % 2 * 104)
+
+-- what it leaves is the paper's remainder, turned round, in bits 5 to 7
+abbrev pub turnedRemainder : ℕ → ℕ
+turnedRemainder number = turned (remainder 3 0b1011 7 (turned number * 8) * 2) * 16
+
+pub left-right : (number : ℕ) → number < 16 → leftLow number ≡ turnedRemainder number
+unfolding every turned coefficients divided takenDown
+left-right number h = eqb→eq _ _ (every-at (λ n. eqb (leftLow n) (turnedRemainder n)) 16 tt number h)
+
+-- with the number's own bits before its complement and the parity after it, that is the table's entry, the first bit lowest
+abbrev pub sevenLow : ℕ → ℕ → ℕ
+sevenLow number rest = (number + bitXor rest 112) % 256
+
+abbrev pub complemented : ℕ → ℕ
+complemented number = bitXor (turnedRemainder number) 112
+
+pub complement-lt : (number : ℕ) → number < 16 → complemented number < 128
+unfolding every turned coefficients divided takenDown
+complement-lt number h = leb→le _ _ (every-at (λ n. ltb (complemented n) 128) 16 tt number h)
+
+eightLow : ℕ → ℕ
+eightLow number =
+    sevenLow number (turnedRemainder number) + ones (sevenLow number (turnedRemainder number)) % 2 * 128
+
+pub eight-right : (number : ℕ) {rest : ℕ} → number < 16 → rest ≡ turnedRemainder number
+    → sevenLow number rest + ones (sevenLow number rest) % 2 * 128 ≡ sequenceOf (entryOf number) 0
+unfolding every eightLow tableA1 turned sequenceOf coefficients divided takenDown ones onesIn
+eight-right number h e =
+    ap (λ (r : ℕ). sevenLow number r + ones (sevenLow number r) % 2 * 128) e
+    ∙ eqb→eq _ _ (every-at (λ n. eqb (eightLow n) (sequenceOf (entryOf n) 0)) 16 tt number h)
+
+pub seven-lt : (number : ℕ) {rest : ℕ} → number < 16 → rest ≡ turnedRemainder number → sevenLow number rest < 128
+unfolding every turned coefficients divided takenDown
+seven-lt number {rest} h e =
+    rw e (leb→le _ _ (every-at (λ n. ltb (sevenLow n (turnedRemainder n)) 128) 16 tt number h))
+
+-- turned round it is the entry
+pub entry-right : (number : ℕ) {eight : ℕ} → number < 16 → eight ≡ sequenceOf (entryOf number) 0
+    → turned eight * 16 + turned (eight / 16) ≡ entryOf number
+unfolding every tableA1 turned sequenceOf
+entry-right number h e =
+    ap (λ (n : ℕ). turned n * 16 + turned (n / 16)) e
+    ∙ eqb→eq _ _
+    (every-at (λ n. eqb (turned (sequenceOf (entryOf n) 0) * 16 + turned (sequenceOf (entryOf n) 0 / 16)) (entryOf n)) 16 tt number h)
+
+-- what the number in the first four bits asks of the other four finds: the number, and 16 for none
 looked : ℕ → ℕ
 looked word =
-    cond (eqb (ones word % 2) 1) 16
-    (cond (eqb (entryOf (turned (word / 16) % 16)) word) (turned (word / 16)) 16)
+    cond (eqb (sequenceOf (entryOf (turned (word / 16) % 16)) 0 / 16) (turned word)) (turned (word / 16)) 16
 
 looked-right : {word : ℕ} → word < 256 → looked word ≡ numberIn word
-unfolding every looked tableA1 turned placeIn ones onesIn
+unfolding every looked tableA1 turned placeIn sequenceOf
 looked-right {word} h =
     eqb→eq (looked word) (numberIn word) (every-at (λ w. eqb (looked w) (numberIn w)) 256 tt word h)
 
@@ -84,20 +139,18 @@ found-number : (word : ℕ) {n : ℕ} → numberIn word ≡ n → n < 16 → Num
 unfolding foundOf
 found-number word e h = rw (e, lt-ltb _ _ h)
 
+-- what the number in a word's first four bits asks of the other four
+abbrev pub otherFour : ℕ → ℕ
+otherFour word = sequenceOf (entryOf (turned (word / 16) % 16)) 0 / 16
+
 module _ {word : ℕ} (h : word < 256) where
-  pub odd-nothing : ones word % 2 ≡ 1 → Nothing ≡ foundOf word
+  pub four-number : otherFour word ≡ turned word → Number (turned (word / 16)) ≡ foundOf word
   unfolding looked
-  odd-nothing odd = found-none word (sym (looked-right h) ∙ rw (eq-eqb _ _ odd))
+  four-number e = found-number word (sym (looked-right h) ∙ rw (eq-eqb _ _ e)) (turned-lt (word / 16))
 
-  module _ (even : ones word % 2 ≡ 1 → ⊥) where
-    pub entry-number : entryOf (turned (word / 16) % 16) ≡ word → Number (turned (word / 16)) ≡ foundOf word
-    unfolding looked
-    entry-number e =
-        found-number word (sym (looked-right h) ∙ rw (ne-eqb _ _ even, eq-eqb _ _ e)) (turned-lt (word / 16))
-
-    pub other-nothing : (entryOf (turned (word / 16) % 16) ≡ word → ⊥) → Nothing ≡ foundOf word
-    unfolding looked
-    other-nothing e = found-none word (sym (looked-right h) ∙ rw (ne-eqb _ _ even, ne-eqb _ _ e))
+  pub four-nothing : (otherFour word ≡ turned word → ⊥) → Nothing ≡ foundOf word
+  unfolding looked
+  four-nothing e = found-none word (sym (looked-right h) ∙ rw (ne-eqb _ _ e))
 
 -- a number's entry is that number, and eight bits that are a number are its entry: sound and complete
 pub number-entry : {number : ℕ} → number < 16 → numberIn (entryOf number) ≡ number
@@ -155,11 +208,6 @@ pub eight-and-second : (number second : ℕ) {first : ℕ} → first ≡ sequenc
     → first + second * 256 ≡ sequenceOf (entryOf number) second
 unfolding sequenceOf
 eight-and-second number second e = omega (arith, e)
-
-pub last-eight : (X : Type 0) (number : ℕ) → number < 16 → NoneOf X (singles 15) number → 0x0F ≡ sequenceOf (entryOf number) 0
-unfolding every orListed tableA1 turned sequenceOf
-last-eight X number less none =
-    eqb→eq _ _ (others X (singles 15) (λ n. eqb 0x0F (sequenceOf (entryOf n) 0)) 16 tt number less none)
 
 pub bit-lt : (word second slot : ℕ) → wordBit word second slot < 2
 unfolding wordBit

@@ -44,7 +44,7 @@ use Rattle.formats.proofs.Laws.{
 }
 use Rattle.numbers.specs.declared.Found.{Found}
 use Rattle.numbers.specs.declared.Found.the-variants.{Number, Nothing}
-use Rattle.numbers.specs.Numbers.{foundOf, refusalOf, valueOf, differenceOf}
+use Rattle.numbers.specs.Numbers.{foundOf, refusalOf, valueOf, differenceOf, indicationRefused}
 use Rattle.cells.specs.Cells.{sampleIn, ancillaryIn, markIn, eightIn, secondIn}
 use Rattle.receiver.specs.declared.Receiver.{Receiver}
 use Rattle.receiver.specs.declared.Received.{Received}
@@ -156,14 +156,15 @@ pub record Passes (st : Receiver) (cell : List ℕ) (samples ancillary marks : �
   pub gap-from : 1 ≤ gapOf st cell
   pub room : gapOf st cell * usedNow st ≤ samples
 
-pub passes : (st : Receiver) (cell : List ℕ) (samples ancillary marks : ℕ) → receiveRefusal st cell samples ancillary marks ≡ 0
-    → Passes st cell samples ancillary marks
+pub passes : (st : Receiver) (cell : List ℕ) (indication : Bool) (samples ancillary marks : ℕ)
+    → receiveRefusal st cell indication samples ancillary marks ≡ 0 → Passes st cell samples ancillary marks
 unfolding receiveRefusal
-passes st cell samples ancillary marks e =
+passes st cell indication samples ancillary marks e =
     let state = past-both (stateRefusal st) _ e in
     let fifth = past (lengthsRefused (length cell) samples ancillary marks) 4 _ (state .1) in
     let eighth = past-both (refusalOf (foundNow st cell)) _ (fifth .1) in
-    let ninth = past (eqb (gapOf st cell) 0) 8 _ (eighth .1) in
+    let fifteenth = past (indicationRefused (numberNow st cell) indication) 14 _ (eighth .1) in
+    let ninth = past (eqb (gapOf st cell) 0) 8 _ (fifteenth .1) in
     let tenth = past (ltb samples (gapOf st cell * usedNow st)) 9 _ (ninth .1) in
     record {
       early = fits-lengths st (length cell) samples ancillary marks (state .0) (fifth .0);
@@ -180,36 +181,37 @@ as-first some state true rest is = is
 as-first some state false rest is =
     split (eqb state 0) (λ z. absurd (some (is ∙ rw z))) (λ z. is ∙ rw z)
 
-early-first : (st : Receiver) (cell : List ℕ) (samples ancillary marks : ℕ) {n : ℕ} → (n ≡ 0 → ⊥)
-    → n ≡ earlyRefusal st (length cell) samples ancillary marks → n ≡ receiveRefusal st cell samples ancillary marks
+early-first : (st : Receiver) (cell : List ℕ) (indication : Bool) (samples ancillary marks : ℕ) {n : ℕ} → (n ≡ 0 → ⊥)
+    → n ≡ earlyRefusal st (length cell) samples ancillary marks → n ≡ receiveRefusal st cell indication samples ancillary marks
 unfolding earlyRefusal receiveRefusal
-early-first st cell samples ancillary marks some e =
+early-first st cell indication samples ancillary marks some e =
     as-first some (stateRefusal st) (lengthsRefused (length cell) samples ancillary marks) _ e
 
 -- the answer, by the refusal
 module _ (st : Receiver) (cell : List ℕ) (indication : Bool) (samples ancillary marks : ℕ) where
-  pub answer-refused : {n : ℕ} → (n ≡ 0 → ⊥) → n ≡ receiveRefusal st cell samples ancillary marks
+  pub answer-refused : {n : ℕ} → (n ≡ 0 → ⊥) → n ≡ receiveRefusal st cell indication samples ancillary marks
       → refusedBy n st ≡ receivedOf st cell indication samples ancillary marks
   unfolding receivedOf
   answer-refused some e = rw (← e, ne-eqb _ _ some)
 
-  pub answer-taken : {missing number second : ℕ} → 0 ≡ receiveRefusal st cell samples ancillary marks → missing ≡ gapOf st cell - 1
-      → number ≡ numberNow st cell → second ≡ secondNow st cell
+  pub answer-taken : {missing number second : ℕ} → 0 ≡ receiveRefusal st cell indication samples ancillary marks
+      → missing ≡ gapOf st cell - 1 → number ≡ numberNow st cell → second ≡ secondNow st cell
       → takenAs st missing number second indication ≡ receivedOf st cell indication samples ancillary marks
   unfolding receivedOf after
   answer-taken none missing-is number-is second-is = rw (← none, missing-is, number-is, second-is)
 
-  pub answer-refusal : receivedOf st cell indication samples ancillary marks .refusal ≡ receiveRefusal st cell samples ancillary marks
+  pub answer-refusal : receivedOf st cell indication samples ancillary marks .refusal
+      ≡ receiveRefusal st cell indication samples ancillary marks
   unfolding receivedOf
   answer-refusal =
-      split (eqb (receiveRefusal st cell samples ancillary marks) 0) (λ e. rw e (sym (eqb-true _ 0 e))) (λ e. rw e)
+      split (eqb (receiveRefusal st cell indication samples ancillary marks) 0) (λ e. rw e (sym (eqb-true _ 0 e))) (λ e. rw e)
 
-  pub answer-missing : receiveRefusal st cell samples ancillary marks ≡ 0
+  pub answer-missing : receiveRefusal st cell indication samples ancillary marks ≡ 0
       → receivedOf st cell indication samples ancillary marks .missing ≡ gapOf st cell - 1
   unfolding receivedOf
   answer-missing none = rw none
 
--- checks 8, 9 and 10 in their turn, where the earlier ones refuse nothing; the runs are equally long
+-- checks 8, 15, 9 and 10 in their turn, where the earlier ones refuse nothing; the runs are equally long
 module _ {set : Settled} (st : Receiver) (cell : List ℕ) (indication : Bool) (samples : ℕ)
     (settles : set ≡ settingsOf (st .format) (st .channels) (st .order))
     (early : earlyRefusal st (length cell) samples samples samples ≡ 0)
@@ -232,42 +234,50 @@ module _ {set : Settled} (st : Receiver) (cell : List ℕ) (indication : Bool) (
     pub judged-whole : length cell ≡ 48
     judged-whole = whole-call .whole
 
-    later : (found : Found) → found ≡ foundNow st cell
-        → receiveRefusal st cell samples samples samples
-        ≡ orElse (refusalOf found) (cond (eqb (gapOf st cell) 0) 9 (cond (ltb samples (gapOf st cell * usedIn set)) 10 0))
+    -- what the later checks say of a cell found so, with these settings
+    abbrev later-of : Found → Settled → ℕ
+    later-of found s =
+        orElse (refusalOf found)
+        (cond (indicationRefused (valueOf found) indication) 15
+        (cond (eqb (gapOf st cell) 0) 9 (cond (ltb samples (gapOf st cell * usedIn s)) 10 0)))
+
+    later : (found : Found) → found ≡ foundNow st cell → receiveRefusal st cell indication samples samples samples ≡ later-of found set
     unfolding receiveRefusal
     later found e =
         then-later _ (whole-call .state-none)
-        ∙ rw (whole-call .lengths-none)
-        (ap₂
-        (λ (x : Found) (s : Settled).
-        orElse (refusalOf x) (cond (eqb (gapOf st cell) 0) 9 (cond (ltb samples (gapOf st cell * usedIn s)) 10 0)))
-        (sym e) (sym is))
+        ∙ rw (whole-call .lengths-none) (ap₂ (λ (x : Found) (s : Settled). later-of x s) (sym e) (sym is))
 
     pub judged-8 : Nothing ≡ foundNow st cell → refusedBy 8 st ≡ wanted
     unfolding orElse refusalOf
     judged-8 e = answer-refused st cell indication samples samples samples (suc-ne-zero 7) (sym (later Nothing e))
 
-    module _ {number gap : ℕ} (found : Number number ≡ foundNow st cell) (gap-is : gap ≡ gapOf st cell) where
-      from-9 : receiveRefusal st cell samples samples samples ≡ cond (eqb gap 0) 9 (cond (ltb samples (gap * usedIn set)) 10 0)
-      unfolding orElse refusalOf
-      from-9 = later (Number number) found ∙ rw (← gap-is)
+    module _ {number : ℕ} (found : Number number ≡ foundNow st cell) where
+      pub judged-15 : true ≡ indicationRefused number indication → refusedBy 15 st ≡ wanted
+      unfolding orElse refusalOf valueOf
+      judged-15 e =
+          answer-refused st cell indication samples samples samples (suc-ne-zero 14) (sym (later (Number number) found ∙ rw (← e)))
 
-      pub judged-9 : gap ≡ 0 → refusedBy 9 st ≡ wanted
-      judged-9 e = answer-refused st cell indication samples samples samples (suc-ne-zero 8) (sym (from-9 ∙ rw (eq-eqb _ _ e)))
+      module _ (rightly : false ≡ indicationRefused number indication) {gap : ℕ} (gap-is : gap ≡ gapOf st cell) where
+        from-9 : receiveRefusal st cell indication samples samples samples
+            ≡ cond (eqb gap 0) 9 (cond (ltb samples (gap * usedIn set)) 10 0)
+        unfolding orElse refusalOf valueOf
+        from-9 = later (Number number) found ∙ rw (← rightly, ← gap-is)
 
-      module _ (some : gap ≡ 0 → ⊥) where
-        pub judged-10 : samples < gap * usedIn set → refusedBy 10 st ≡ wanted
-        judged-10 short =
-            answer-refused st cell indication samples samples samples (suc-ne-zero 9)
-            (sym (from-9 ∙ rw (ne-eqb _ _ some, lt-ltb _ _ short)))
+        pub judged-9 : gap ≡ 0 → refusedBy 9 st ≡ wanted
+        judged-9 e = answer-refused st cell indication samples samples samples (suc-ne-zero 8) (sym (from-9 ∙ rw (eq-eqb _ _ e)))
 
-        pub judged-0 : gap * usedIn set ≤ samples → {second : ℕ} → second ≡ secondNow st cell
-            → takenAs st (gap - 1) number second indication ≡ wanted
-        unfolding valueOf
-        judged-0 room second-is =
-            answer-taken st cell indication samples samples samples
-            (sym (from-9 ∙ rw (ne-eqb _ _ some, le-ltb _ _ room))) (ap (λ (n : ℕ). n - 1) gap-is) (ap valueOf found) second-is
+        module _ (some : gap ≡ 0 → ⊥) where
+          pub judged-10 : samples < gap * usedIn set → refusedBy 10 st ≡ wanted
+          judged-10 short =
+              answer-refused st cell indication samples samples samples (suc-ne-zero 9)
+              (sym (from-9 ∙ rw (ne-eqb _ _ some, lt-ltb _ _ short)))
+
+          pub judged-0 : gap * usedIn set ≤ samples → {second : ℕ} → second ≡ secondNow st cell
+              → takenAs st (gap - 1) number second indication ≡ wanted
+          unfolding valueOf
+          judged-0 room second-is =
+              answer-taken st cell indication samples samples samples
+              (sym (from-9 ∙ rw (ne-eqb _ _ some, le-ltb _ _ room))) (ap (λ (n : ℕ). n - 1) gap-is) (ap valueOf found) second-is
 
 -- what is found and the second number where the format has overhead
 module _ {f : Format} (st : Receiver) (cell : List ℕ) (is : formatOf (st .format) ≡ f) (over : f .«overhead_bits» ≡ 0 → ⊥) where
@@ -330,7 +340,7 @@ answer-of k = receivedOf (k .state) (k .cell) (k .indication) (length (k .sample
 
 module _ (k : Call) where
   abbrev refusal : ℕ
-  refusal = receiveRefusal (k .state) (k .cell) (length (k .samples)) (length (k .ancillary)) (length (k .marks))
+  refusal = receiveRefusal (k .state) (k .cell) (k .indication) (length (k .samples)) (length (k .ancillary)) (length (k .marks))
 
   -- refused by whatever check: the runs stay
   stays : {answer : Received} → answer ≡ answer-of k → (refusal ≡ 0 → ⊥) → Answered k answer (k .samples) (k .ancillary) (k .marks)
@@ -346,7 +356,7 @@ module _ (k : Call) where
   -- refused by checks 1 to 5
   pub early-refused : {n : ℕ} → (n ≡ 0 → ⊥) → n ≡ early-of k → Answered k (refusedBy n (k .state)) (k .samples) (k .ancillary) (k .marks)
   early-refused {n} some e =
-      let all : n ≡ refusal = early-first (k .state) (k .cell) _ _ _ some e in
+      let all : n ≡ refusal = early-first (k .state) (k .cell) (k .indication) _ _ _ some e in
       stays (answer-refused (k .state) (k .cell) (k .indication) _ _ _ some all) (λ z. some (all ∙ z))
 
   -- checks 1 to 5 refuse nothing: the runs are equally long
@@ -382,7 +392,7 @@ module _ (k : Call) where
             taken = sym refusal-is ∙ took
 
             passed : Passes (k .state) (k .cell) (length (k .samples)) (length (k .ancillary)) (length (k .marks))
-            passed = passes (k .state) (k .cell) _ _ _ taken
+            passed = passes (k .state) (k .cell) (k .indication) _ _ _ taken
 
             set-is : set ≡ settled (k .state .format) (k .state .channels) (k .state .order)
             set-is = settles ∙ settled-of (k .state .format) (k .state .channels) (k .state .order) (fits .settings)
@@ -424,7 +434,7 @@ module _ (k : Call) where
 
             entries-are : (read : Format → ℕ → ℕ) (missing : ℕ)
                 → replicate (answer .missing * usedIn set) missing ++ ownEntries (read (set .format)) set (k .cell)
-                ≡ entriesGiven (k .state) (k .cell) (length (k .samples)) (length (k .ancillary)) (length (k .marks))
+                ≡ entriesGiven (k .state) (k .cell) (k .indication) (length (k .samples)) (length (k .ancillary)) (length (k .marks))
                 (entriesNow (read (formatOf (k .state .format))) missing (k .state) (k .cell))
             unfolding entriesGiven entriesNow
             entries-are read missing =

@@ -15,47 +15,53 @@ use Rattle.formats.specs.Formats.{formatOf, isBase, slotsOf, settingsRefusal}
 use Rattle.formats.proofs.Laws.{sound-format}
 use Rattle.numbers.specs.declared.Found.{Found}
 use Rattle.numbers.specs.declared.Found.the-variants.{Number, Nothing}
-use Rattle.numbers.specs.Numbers.{refusalOf}
+use Rattle.numbers.specs.Numbers.{refusalOf, indicationRefused}
 use Rattle.receiver.specs.declared.Receiver.{Receiver}
-use Rattle.receiver.specs.Receiver.{gapOf, usedNow, foundNow, lastRefused, lengthsRefused, stateRefusal, receiveRefusal}
+use Rattle.receiver.specs.Receiver.{gapOf, usedNow, foundNow, numberNow, lastRefused, lengthsRefused, stateRefusal, receiveRefusal}
 use Rattle.receiver.proofs.Laws.{gap-to}
 
-not-so : (test : Bool) {n rest : ℕ} → (n ≡ 10 → ⊥) → (rest ≡ 10 → ⊥) → cond test n rest ≡ 10 → ⊥
+-- a number that neither way of a test gives
+pub not-so : (test : Bool) {k n rest : ℕ} → (n ≡ k → ⊥) → (rest ≡ k → ⊥) → cond test n rest ≡ k → ⊥
 not-so true other later e = other e
 not-so false other later e = later e
 
-settings-not-10 : (octet channels order : ℕ) → settingsRefusal octet channels order ≡ 10 → ⊥
+-- no check refuses by a number above its own
+at-most : (test : Bool) {k n rest : ℕ} → n ≤ k → rest ≤ k → cond test n rest ≤ k
+at-most true here there = here
+at-most false here there = there
+
+settings-to : (octet channels order : ℕ) → settingsRefusal octet channels order ≤ 3
 unfolding settingsRefusal
-settings-not-10 octet channels order =
-    not-so (not (isBase octet)) (λ e. omega arith)
-    (not-so (eqb channels 0 || ltb (slotsOf octet) channels) (λ e. omega arith)
-    (not-so (ltb 1 order) (λ e. omega arith) (λ e. omega arith)))
+settings-to octet channels order =
+    at-most (not (isBase octet)) (omega arith)
+    (at-most (eqb channels 0 || ltb (slotsOf octet) channels) (omega arith) (at-most (ltb 1 order) (omega arith) (omega arith)))
 
-state-not-10 : (st : Receiver) → stateRefusal st ≡ 10 → ⊥
+pub state-to : (st : Receiver) → stateRefusal st ≤ 4
 unfolding stateRefusal orElse
-state-not-10 st =
-    not-so (eqb (settingsRefusal (st .format) (st .channels) (st .order)) 0)
-    (not-so (lastRefused st) (λ e. omega arith) (λ e. omega arith))
-    (settings-not-10 (st .format) (st .channels) (st .order))
+state-to st =
+    at-most (eqb (settingsRefusal (st .format) (st .channels) (st .order)) 0)
+    (at-most (lastRefused st) (omega arith) (omega arith))
+    (omega (arith, settings-to (st .format) (st .channels) (st .order)))
 
-found-not-10 : (found : Found) → refusalOf found ≡ 10 → ⊥
+pub found-to : (found : Found) → refusalOf found ≤ 8
 unfolding refusalOf
-found-not-10 (Number n) e = omega arith
-found-not-10 Nothing e = omega arith
+found-to (Number n) = omega arith
+found-to Nothing = omega arith
 
-pub always-room : (st : Receiver) (cell : List ℕ) (samples ancillary marks : ℕ) → 15 * usedNow st ≤ samples
-    → receiveRefusal st cell samples ancillary marks ≡ 10 → ⊥
+pub always-room : (st : Receiver) (cell : List ℕ) (indication : Bool) (samples ancillary marks : ℕ) → 15 * usedNow st ≤ samples
+    → receiveRefusal st cell indication samples ancillary marks ≡ 10 → ⊥
 unfolding receiveRefusal orElse
-always-room st cell samples ancillary marks enough =
+always-room st cell indication samples ancillary marks enough =
     let room : gapOf st cell * usedNow st ≤ samples
     = le-trans (mul-le-mul-right (usedNow st) (gap-to st cell)) enough in
     rw (le-ltb samples _ room)
     (not-so (eqb (stateRefusal st) 0)
     (not-so (lengthsRefused (length cell) samples ancillary marks) (λ e. omega arith)
     (not-so (eqb (refusalOf (foundNow st cell)) 0)
-    (not-so (eqb (gapOf st cell) 0) (λ e. omega arith) (λ e. omega arith))
-    (found-not-10 (foundNow st cell))))
-    (state-not-10 st))
+    (not-so (indicationRefused (numberNow st cell) indication) (λ e. omega arith)
+    (not-so (eqb (gapOf st cell) 0) (λ e. omega arith) (λ e. omega arith)))
+    (λ e. omega (arith, found-to (foundNow st cell)))))
+    (λ e. omega (arith, state-to st)))
 
 slots-few : (octet : ℕ) → formatOf octet .slots ≤ 48
 unfolding formatOf
@@ -64,7 +70,7 @@ slots-few octet = split (isBase octet) (λ e. sound-format octet e .slots-to) (�
 used-few : (st : Receiver) → usedNow st ≤ 48
 used-few st = omega (arith, mul-div-le (formatOf (st .format) .slots) (st .channels), slots-few (st .format))
 
-pub room-in-720 : (st : Receiver) (cell : List ℕ) (samples ancillary marks : ℕ) → 720 ≤ samples
-    → receiveRefusal st cell samples ancillary marks ≡ 10 → ⊥
-room-in-720 st cell samples ancillary marks enough =
-    always-room st cell samples ancillary marks (omega (arith, used-few st))
+pub room-in-720 : (st : Receiver) (cell : List ℕ) (indication : Bool) (samples ancillary marks : ℕ) → 720 ≤ samples
+    → receiveRefusal st cell indication samples ancillary marks ≡ 10 → ⊥
+room-in-720 st cell indication samples ancillary marks enough =
+    always-room st cell indication samples ancillary marks (omega (arith, used-few st))

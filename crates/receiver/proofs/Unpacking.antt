@@ -1,7 +1,7 @@
 -- Laws of unpacking: runs that are filled with entries, taken apart in place, and filled with a cell's own.
 -- Assumes nothing.
 use mathlib.Core.Bool.{false}
-use mathlib.Core.List.{List, _++_, append-assoc}
+use mathlib.Core.List.{List, _++_}
 use mathlib.Core.Path.{_≡_, sym, _∙_, ap, ap₂, subst}
 use Prim.Native.Nat.{ℕ, _+_, _-_, _/_, _%_, _≤_, _<_}
 use native.Mathlib.Nat.{div-add-mod', zero-add, add-zero}
@@ -311,20 +311,6 @@ over-then first next run {missing} {run₁} {run₂} len room e₁ e₂ =
     ∙ drop-drop (length next) (length first) run
     ∙ ap (λ (n : ℕ). drop n run) (sym (length-append first next)))
 
--- and so are entries written before others that were written already
-pub over-before : (first next run : List ℕ) {missing : ℕ} {run₁ run₂ : List ℕ} → length first ≡ missing → missing ≤ length run
-    → run₁ ≡ written run missing next → run₂ ≡ over first run₁ → run₂ ≡ over (first ++ next) run
-unfolding over
-over-before first next run {missing} {run₁} {run₂} len room e₁ e₂ =
-    let rest = drop (missing + length next) run in
-    e₂
-    ∙ ap (λ (l : List ℕ). first ++ l)
-    (ap (λ (n : ℕ). drop n run₁) len
-    ∙ ap (drop missing) (e₁ ∙ append-assoc (take missing run) next rest)
-    ∙ drop-at (take missing run) (next ++ rest) missing (length-take-le missing run room))
-    ∙ sym (append-assoc first next rest)
-    ∙ ap (λ (n : ℕ). (first ++ next) ++ drop n run) (ap (λ (n : ℕ). n + length next) (sym len) ∙ sym (length-append first next))
-
 pub from-front : (run new : List ℕ) → written run 0 new ≡ over new run
 unfolding over
 from-front run new = rw (zero-add (length new))
@@ -347,24 +333,4 @@ fills set cell missing samples ancillary marks roomy lost own =
       marks-are =
           over-then (replicate missing 2) _ marks (length-replicate missing 2) (omega (arith, roomy .marks-room))
           (lost .marks-are ∙ from-front marks _) (own .marks-are);
-    }
-
--- the cell's own entries and then missing ones before them
-pub fills-before : (set : Settled) (cell : List ℕ) (missing : ℕ) (samples ancillary marks : List ℕ)
-    {samples₁ ancillary₁ marks₁ samples₂ ancillary₂ marks₂ : List ℕ}
-    → Room missing (usedIn set) samples ancillary marks
-    → Unpacks set cell missing samples ancillary marks samples₁ ancillary₁ marks₁
-    → Misses missing samples₁ ancillary₁ marks₁ samples₂ ancillary₂ marks₂
-    → Fills set cell missing samples ancillary marks samples₂ ancillary₂ marks₂
-fills-before set cell missing samples ancillary marks roomy own lost =
-    record {
-      samples-are =
-          over-before (replicate missing 0) _ samples (length-replicate missing 0) (omega (arith, roomy .samples-room)) (own .samples-are)
-          (lost .samples-are);
-      ancillary-is =
-          over-before (replicate missing 0) _ ancillary (length-replicate missing 0) (omega (arith, roomy .ancillary-room)) (own .ancillary-is)
-          (lost .ancillary-is ∙ from-front _ _);
-      marks-are =
-          over-before (replicate missing 2) _ marks (length-replicate missing 2) (omega (arith, roomy .marks-room)) (own .marks-are)
-          (lost .marks-are ∙ from-front _ _);
     }

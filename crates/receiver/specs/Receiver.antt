@@ -11,7 +11,7 @@ use Rattle.runs.specs.Runs.{over}
 use Rattle.formats.specs.Formats.{timesOf, formatOf, settingsRefusal}
 use Rattle.numbers.specs.declared.Found.{Found}
 use Rattle.numbers.specs.declared.Found.the-variants.{Number}
-use Rattle.numbers.specs.Numbers.{foundOf, refusalOf, valueOf, differenceOf}
+use Rattle.numbers.specs.Numbers.{foundOf, refusalOf, valueOf, differenceOf, indicationRefused}
 use Rattle.cells.specs.Cells.{sampleIn, ancillaryIn, markIn, eightIn, secondIn, entriesOf}
 use Rattle.cells.specs.Placement.{usedOf}
 use Rattle.receiver.specs.declared.Receiver.{Receiver}
@@ -67,14 +67,16 @@ unfoldable pub gapOf : Receiver → List ℕ → ℕ
 gapOf st cell =
     cond (not (st .started) || eqb (formatOf (st .format) .«overhead_bits») 0) 1 (differenceOf (numberNow st cell) (st .last))
 
--- checks 1 to 4, then 5, then 8, 9, 10; the runs are told by their lengths
-unfoldable pub receiveRefusal : Receiver → List ℕ → ℕ → ℕ → ℕ → ℕ
-receiveRefusal st cell samples ancillary marks =
+-- checks 1 to 4, then 5, then 8, 15, 9, 10; the runs are told by their lengths. 15 is "for indication 1 with a number not a multiple
+-- of 8", and only "where the format carries overhead": without overhead the number is 0, a multiple of 8
+unfoldable pub receiveRefusal : Receiver → List ℕ → Bool → ℕ → ℕ → ℕ → ℕ
+receiveRefusal st cell indication samples ancillary marks =
     orElse (stateRefusal st)
     (cond (lengthsRefused (length cell) samples ancillary marks) 5
     (orElse (refusalOf (foundNow st cell))
+    (cond (indicationRefused (numberNow st cell) indication) 15
     (cond (eqb (gapOf st cell) 0) 9
-    (cond (ltb samples (gapOf st cell * usedNow st)) 10 0))))
+    (cond (ltb samples (gapOf st cell * usedNow st)) 10 0)))))
 
 -- "C×T entries of zero with mark 2 for each missing cell, then the cell's own entries": what one run is given
 unfoldable pub entriesNow : (ℕ → ℕ) → ℕ → Receiver → List ℕ → List ℕ
@@ -102,7 +104,7 @@ after st cell =
 -- "Reported: missing count, number, second number .., and the indication as it came"
 unfoldable pub receivedOf : Receiver → List ℕ → Bool → ℕ → ℕ → ℕ → Received
 receivedOf st cell indication samples ancillary marks =
-    cond (eqb (receiveRefusal st cell samples ancillary marks) 0)
+    cond (eqb (receiveRefusal st cell indication samples ancillary marks) 0)
     (record {
       refusal = 0;
       state = after st cell;
@@ -112,7 +114,7 @@ receivedOf st cell indication samples ancillary marks =
       indication = indication;
     })
     (record {
-      refusal = receiveRefusal st cell samples ancillary marks;
+      refusal = receiveRefusal st cell indication samples ancillary marks;
       state = st;
       missing = 0;
       number = 0;
@@ -121,17 +123,17 @@ receivedOf st cell indication samples ancillary marks =
     })
 
 -- what the call gives each run: nothing where it is refused
-unfoldable pub entriesGiven : Receiver → List ℕ → ℕ → ℕ → ℕ → List ℕ → List ℕ
-entriesGiven st cell samples ancillary marks entries =
-    cond (eqb (receiveRefusal st cell samples ancillary marks) 0) entries []
+unfoldable pub entriesGiven : Receiver → List ℕ → Bool → ℕ → ℕ → ℕ → List ℕ → List ℕ
+entriesGiven st cell indication samples ancillary marks entries =
+    cond (eqb (receiveRefusal st cell indication samples ancillary marks) 0) entries []
 
 -- the whole promise of receiving: "Entries past these stay"
 pub record Receives (st : Receiver) (cell : List ℕ) (indication : Bool) (samples ancillary marks : List ℕ)
     (answer : Received) (samples₁ ancillary₁ marks₁ : List ℕ) : Type 0 where
   pub answered : answer ≡ receivedOf st cell indication (length samples) (length ancillary) (length marks)
   pub samples-after : samples₁
-      ≡ over (entriesGiven st cell (length samples) (length ancillary) (length marks) (samplesNow st cell)) samples
+      ≡ over (entriesGiven st cell indication (length samples) (length ancillary) (length marks) (samplesNow st cell)) samples
   pub ancillary-after : ancillary₁
-      ≡ over (entriesGiven st cell (length samples) (length ancillary) (length marks) (ancillaryNow st cell)) ancillary
+      ≡ over (entriesGiven st cell indication (length samples) (length ancillary) (length marks) (ancillaryNow st cell)) ancillary
   pub marks-after : marks₁
-      ≡ over (entriesGiven st cell (length samples) (length ancillary) (length marks) (marksNow st cell)) marks
+      ≡ over (entriesGiven st cell indication (length samples) (length ancillary) (length marks) (marksNow st cell)) marks

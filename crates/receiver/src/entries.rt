@@ -183,8 +183,7 @@ fn own_entries(
     parts(format, at, used, samples, ancillary, marks);
 }
 
-// Writes `missing` entries of zero with mark 2 to the three runs, and the cell's own entries after them. The own ones are written
-// first, which takes fewer instructions.
+// Writes `missing` entries of zero with mark 2 to the three runs, and the cell's own entries after them.
 pub(crate) fn write(
     set: Settled,
     cell: &[u8],
@@ -196,6 +195,6 @@ pub(crate) fn write(
     requires { ⌜ Limits set × Together (set .format) × (length (now cell) ≡ 48) × Room missing (usedIn set) (now samples) (now ancillary) (now marks) ⌝ }
     ensures { λ r. ⌜ Fills set (now (cell .entry)) missing (now (samples .entry)) (now (ancillary .entry)) (now (marks .entry)) (now (samples .exit)) (now (ancillary .exit)) (now (marks .exit)) ⌝ }
 {
-    own_entries(set, cell, missing, samples, ancillary, marks);
     missing_entries(missing, samples, ancillary, marks);
+    own_entries(set, cell, missing, samples, ancillary, marks);
 }

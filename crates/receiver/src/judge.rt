@@ -118,8 +118,8 @@ fn taken(state: Receiver, missing: u8, number: u8, second: u8, indication: bool)
     }
 }
 
-// Checks 8, 9 and 10 where the earlier ones refuse nothing, and the answer. `found` is the cell's number, `samples` how long each
-// run is.
+// Checks 8, 15, 9 and 10 where the earlier ones refuse nothing, and the answer. `found` is the cell's number, which is 0 where the
+// format has no overhead, so that 15 is never given there. `samples` is how long each run is.
 pub(crate) fn judged(
     set: Settled,
     state: Receiver,
@@ -134,6 +134,11 @@ pub(crate) fn judged(
     let Found::Number(number) = found else {
         return refused(8, state);
     };
+    if numbers::indication_refused(number, indication) {
+        return refused(15, state);
+    }
+    // read before the last two checks, which takes fewer instructions
+    let second = bits::second_now(set.format, cell);
     let gap = gap_now(set.format, state, number);
     if gap == 0 {
         return refused(9, state);
@@ -141,6 +146,5 @@ pub(crate) fn judged(
     if samples < gap as usize * (set.channels * set.times) {
         return refused(10, state);
     }
-    let second = bits::second_now(set.format, cell);
     taken(state, gap - 1, number, second, indication)
 }

@@ -1,4 +1,4 @@
-// The receiver's box, document 01: opening and receiving, refusals 1 to 5 and 8 to 10.
+// The receiver's box, document 01: opening and receiving, refusals 1 to 5, 8 to 10 and 15.
 ghost use mathlib.Core.Path.{_≡_};
 ghost use Rattle.receiver.specs.Receiver.{openedOf, Receives};
 
@@ -101,7 +101,7 @@ fn receive_any(
 }
 
 // Takes a cell: C×T entries of zero with mark 2 for each missing cell, then the cell's own, go into the three runs from their
-// start; what stands past these stays. Refused: 1 to 5, 8, 9, 10, and then the state comes back as it went in and nothing is
+// start; what stands past these stays. Refused: 1 to 5, 8, 15, 9, 10, and then the state comes back as it went in and nothing is
 // written.
 pub fn receive(
     state: Receiver,

@@ -1,4 +1,6 @@
 pub mod BoxesOne
+pub mod FramesOne
+pub mod FramesWrong
 pub mod Leaves
 pub mod LogsOne
 pub mod NetworkLeaves

@@ -28,7 +28,9 @@ brought-none s block e = rw e
 
 fit-said : (octets : List ℕ) → eqb (fitOf octets) 0 ≡ false
 unfolding fitOf
-fit-said octets = split (eqb (getD octets 23 0) (checkCharacter octets)) (λ e. rw e) (λ e. rw e)
+fit-said octets =
+    split (eqb (bitOf octets 0) 0) (λ b. rw b) (λ b.
+    split (eqb (getD octets 23 0) (checkCharacter octets)) (λ e. rw (b, e)) (λ e. rw (b, e)))
 
 brought-one : (octets : List ℕ) → broughtBy (finished octets) ≡ (fitOf octets, octets) ∷ []
 unfolding broughtBy

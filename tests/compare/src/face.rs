@@ -8,6 +8,15 @@ pub type Report = [u8; 4];
 pub type StatusBlock = [u8; 25];
 pub type StatusOut = [u8; 25];
 
+/// What `status_step` answers in the first octet of `out`.
+#[allow(dead_code)] // the comparison has its own words for them
+pub mod status_answer {
+    pub const NEITHER: u8 = 0;
+    pub const DOES_NOT_FIT: u8 = 1;
+    pub const FITS: u8 = 2;
+    pub const NONE_CARRIED: u8 = 3;
+}
+
 mod raw {
     use super::{ReceiverState, Report, SenderState, StatusBlock, StatusOut};
 
@@ -49,6 +58,18 @@ mod raw {
         pub fn rime_check_character(block: *const [u8; 24]) -> u8;
         pub fn rime_log_header(log: *const u8, log_len: usize, header: *mut [u32; 4]) -> u8;
         pub fn rime_log_record(log: *const u8, log_len: usize, place: usize, record: *mut [u64; 4]) -> u8;
+        pub fn rime_aes3_import(
+            preambles: *const [u8; 2],
+            subframes: *const [u32; 2],
+            samples: *mut [u64; 2],
+            ancillary: *mut [u8; 2],
+        ) -> u8;
+        pub fn rime_aes3_export(
+            samples: *const [u64; 2],
+            ancillary: *const [u8; 2],
+            preambles: *mut [u8; 2],
+            subframes: *mut [u32; 2],
+        ) -> u8;
         pub fn rime_units_export(
             format: u32,
             channels: u32,
@@ -138,6 +159,14 @@ pub fn log_header(log: &[u8], header: &mut [u32; 4]) -> u8 {
 
 pub fn log_record(log: &[u8], place: usize, record: &mut [u64; 4]) -> u8 {
     unsafe { raw::rime_log_record(log.as_ptr(), log.len(), place, record) }
+}
+
+pub fn aes3_import(preambles: &[u8; 2], subframes: &[u32; 2], samples: &mut [u64; 2], ancillary: &mut [u8; 2]) -> u8 {
+    unsafe { raw::rime_aes3_import(preambles, subframes, samples, ancillary) }
+}
+
+pub fn aes3_export(samples: &[u64; 2], ancillary: &[u8; 2], preambles: &mut [u8; 2], subframes: &mut [u32; 2]) -> u8 {
+    unsafe { raw::rime_aes3_export(samples, ancillary, preambles, subframes) }
 }
 
 pub fn units_export(

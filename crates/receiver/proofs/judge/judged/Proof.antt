@@ -15,6 +15,7 @@ use Rattle.receiver.proofs.Laws.{
   judged-format,
   judged-whole,
   judged-8,
+  judged-15,
   judged-9,
   judged-10,
   judged-0,
@@ -37,63 +38,84 @@ returns c =
     ∙ judged-8 (s .args .state) (now (s .args .cell)) (s .args .indication) (s .args .samples) (s .pre .0) (s .pre .1)
     (sym (c .before .enum-told .given .1) ∙ s .pre .2)
 
-gap-now-requires : tie.Need-gap-now-requires
-gap-now-requires c κs = format-is (c .before .before .before .before)
-
--- the way back from the gap
-abbrev start : tie.After-gap-now → tie.Start
-start g = g .before .before .before .before .before
-
-gap-is : (g : tie.After-gap-now) → g .gap-now .result ≡ gapOf (start g .args .state) (now (start g .args .cell))
-gap-is g =
-    let s = start g in
-    g .gap-now .ensures (now (s .args .cell))
-    (number-found (s .args .state) (now (s .args .cell)) (sym (g .before .before .found .given .1) ∙ s .pre .2))
+-- the way back from the indication
+abbrev start : tie.After-indication-refused → tie.Start
+start i = i .before .before .before .before .before
 
 returns-2 : tie.Need-returns-2
 returns-2 c =
-    let g = c .before .before in
-    let s = start g in
+    let i = c .before .before in
+    let s = start i in
     c .refused2 .ensures
-    ∙ judged-9 (s .args .state) (now (s .args .cell)) (s .args .indication) (s .args .samples) (s .pre .0) (s .pre .1)
-    (sym (g .before .before .found .given .1) ∙ s .pre .2) (gap-is g) (c .before .if1 .taken)
-
-mul-if2 : tie.Need-mul-if2
-mul-if2 c = omega (arith, limits (start (c .before .before)) .used-to)
-
-gap-room : (g : tie.After-gap-now) → g .gap-now .result * (start g .args .set .channels * start g .args .set .times) < 2 ^ 64
-gap-room g =
-    let few : g .gap-now .result ≤ 15 = rw (gap-is g) (gap-to (start g .args .state) (now (start g .args .cell))) in
-    let product = mul-le-mul few (limits (start g) .used-to) in
-    omega arith
-
-mul-if2-2 : tie.Need-mul-if2-2
-mul-if2-2 c = record { fits = gap-room (c .before .before) }
-
-returns-3 : tie.Need-returns-3
-returns-3 c =
-    let g = c .before .before .before .before in
-    let s = start g in
-    c .refused3 .ensures
-    ∙ judged-10 (s .args .state) (now (s .args .cell)) (s .args .indication) (s .args .samples) (s .pre .0) (s .pre .1)
-    (sym (g .before .before .found .given .1) ∙ s .pre .2) (gap-is g) (c .before .before .before .if1 .left) (c .before .if2 .taken)
+    ∙ judged-15 (s .args .state) (now (s .args .cell)) (s .args .indication) (s .args .samples) (s .pre .0) (s .pre .1)
+    (sym (i .before .before .found .given .1) ∙ s .pre .2) (sym (c .before .if1 .taken) ∙ i .indication-refused .ensures)
 
 second-now-requires : tie.Need-second-now-requires
 second-now-requires c κs =
-    let s = start (c .before .before .before) in
+    let s = start (c .before) in
     (limits s .sound, judged-whole (s .args .state) (now (s .args .cell)) (s .args .indication) (s .args .samples) (s .pre .0) (s .pre .1))
+
+gap-now-requires : tie.Need-gap-now-requires
+gap-now-requires c κs = format-is (start (c .before .before))
+
+-- the way back from the gap
+abbrev judged : tie.After-gap-now → tie.After-indication-refused
+judged g = g .before .before .before
+
+gap-is : (g : tie.After-gap-now) → g .gap-now .result ≡ gapOf (start (judged g) .args .state) (now (start (judged g) .args .cell))
+gap-is g =
+    let s = start (judged g) in
+    g .gap-now .ensures (now (s .args .cell))
+    (number-found (s .args .state) (now (s .args .cell)) (sym (judged g .before .before .found .given .1) ∙ s .pre .2))
+
+returns-3 : tie.Need-returns-3
+returns-3 c =
+    let g = c .before .before in
+    let i = judged g in
+    let s = start i in
+    c .refused3 .ensures
+    ∙ judged-9 (s .args .state) (now (s .args .cell)) (s .args .indication) (s .args .samples) (s .pre .0) (s .pre .1)
+    (sym (i .before .before .found .given .1) ∙ s .pre .2) (sym (g .before .before .if1 .left) ∙ i .indication-refused .ensures)
+    (gap-is g) (c .before .if2 .taken)
+
+mul-if3 : tie.Need-mul-if3
+mul-if3 c = omega (arith, limits (start (judged (c .before .before))) .used-to)
+
+gap-room : (g : tie.After-gap-now)
+    → g .gap-now .result * (start (judged g) .args .set .channels * start (judged g) .args .set .times) < 2 ^ 64
+gap-room g =
+    let s = start (judged g) in
+    let few : g .gap-now .result ≤ 15 = rw (gap-is g) (gap-to (s .args .state) (now (s .args .cell))) in
+    let product = mul-le-mul few (limits s .used-to) in
+    omega arith
+
+mul-if3-2 : tie.Need-mul-if3-2
+mul-if3-2 c = record { fits = gap-room (c .before .before) }
 
 returns-4 : tie.Need-returns-4
 returns-4 c =
-    let g = c .before .before .before .before .before in
-    let s = start g in
+    let g = c .before .before .before .before in
+    let i = judged g in
+    let s = start i in
+    c .refused4 .ensures
+    ∙ judged-10 (s .args .state) (now (s .args .cell)) (s .args .indication) (s .args .samples) (s .pre .0) (s .pre .1)
+    (sym (i .before .before .found .given .1) ∙ s .pre .2) (sym (g .before .before .if1 .left) ∙ i .indication-refused .ensures)
+    (gap-is g) (c .before .before .before .if2 .left) (c .before .if3 .taken)
+
+returns-5 : tie.Need-returns-5
+returns-5 c =
+    let g = c .before .before .before .before in
+    let i = judged g in
+    let s = start i in
     c .taken .ensures
     ∙ judged-0 (s .args .state) (now (s .args .cell)) (s .args .indication) (s .args .samples) (s .pre .0) (s .pre .1)
-    (sym (g .before .before .found .given .1) ∙ s .pre .2) (gap-is g) (c .before .before .before .before .if1 .left)
-    (c .before .before .if2 .left) (c .before .second-now .ensures (s .args .state) (format-is s))
+    (sym (i .before .before .found .given .1) ∙ s .pre .2) (sym (g .before .before .if1 .left) ∙ i .indication-refused .ensures)
+    (gap-is g) (c .before .before .before .if2 .left) (c .before .if3 .left)
+    (g .before .second-now .ensures (s .args .state) (format-is s))
 
 pub judged-spec : {M : Type 1} → statement M
 judged-spec =
     tie.close
-    (tie.spec (search needs) (search needs) (search needs) returns gap-now-requires (search needs) returns-2 (search needs) mul-if2
-    mul-if2-2 (search needs) returns-3 second-now-requires (search needs) (search needs) returns-4)
+    (tie.spec (search needs) (search needs) (search needs) returns (search needs) (search needs) returns-2 second-now-requires
+    gap-now-requires (search needs) returns-3 (search needs) mul-if3 mul-if3-2 (search needs) returns-4 (search needs) (search needs)
+    returns-5)
