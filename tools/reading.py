@@ -10,8 +10,8 @@ is proved to meet the `ensures` of each public function; crates/line/proofs/Ensu
 many lines stand behind the contracts is told last.
 
 It fails where a definition reached lies in a file of the code's words, or where more lines are reached than MOST. MOST was 750
-for the base. A request raises it by the lines that its own sentences need: request 1 by 51 (import and export of a frame), request 13 by 89
-(data units).
+for the base. A request raises it by the lines that its own sentences need: request 1 by 51 (import and export of a frame),
+request 13 by 89 (export and reading of data units).
 
     python3 tools/reading.py [-v]      -v prints each definition with its lines
 """
