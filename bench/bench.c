@@ -1,5 +1,6 @@
 /*
- * The proved sender and receiver, and the AES3 cable's calls (frames.c), beside the baseline of plain.c, in one process.
+ * The proved sender and receiver, the AES3 cable's calls (frames.c) and the data units' calls (units.c), beside the baseline of
+ * plain.c, in one process.
  *
  *   bench rows                the rows' names, one a line
  *   bench times [ROWS]        ns per cell of each row: the least of many batches, the two taking turns
@@ -18,6 +19,7 @@
 #include "frames.h"
 #include "plain.h"
 #include "rimesatchel.h"
+#include "units.h"
 
 enum { CELLS = 16, BATCH = 10 * CELLS, REPEATS = 1000, MOST_ENTRIES = 15 * RIME_MOST_SLOTS };
 
@@ -263,5 +265,6 @@ int main(int argc, char **argv) {
         function(&rows[at]);
     }
     frames_rows(argv[1], &pattern);
+    units_rows(argv[1], &pattern);
     return 0;
 }

@@ -254,3 +254,53 @@ MEASURED uint8_t plain_aes3_export(const uint64_t samples[2], const uint8_t anci
     }
     return RIME_DONE;
 }
+
+/* A format by a number that may be no octet. */
+static struct format format_told(uint32_t octet) { return octet > UINT8_MAX ? format_of(0) : format_of((uint8_t)octet); }
+
+MEASURED uint8_t plain_units_export(uint32_t octet, uint32_t channels, size_t size, const uint64_t *samples,
+                                    size_t samples_len, const uint8_t *ancillary, size_t ancillary_len, uint8_t *out,
+                                    size_t out_len, uint64_t units[3]) {
+    const struct format format = format_told(octet);
+    memset(units, 0, 3 * sizeof *units);
+    if (format.slots == 0) return RIME_REFUSED_FORMAT;
+    if (channels == 0 || channels > format.slots) return RIME_REFUSED_CHANNELS;
+    if (samples_len != ancillary_len || samples_len % channels != 0) return RIME_REFUSED_LENGTH;
+    const struct layout layout = {.format = format, .entries = samples_len};
+    if (!fit(&layout, samples, ancillary)) return RIME_REFUSED_SAMPLE;
+    if (format.overhead) return RIME_REFUSED_OVERHEAD;
+    size_t octets = RIME_CELL_OCTETS / format.slots, frame = channels * octets;
+    if (size < frame) return RIME_REFUSED_UNIT_SIZE;
+    if (out_len < samples_len * octets) return RIME_REFUSED_UNIT_ROOM;
+    for (size_t entry = 0; entry < samples_len; entry++) {
+        uint64_t word = format.ancillary ? samples[entry] << 4 | ancillary[entry] : samples[entry];
+        for (size_t left = octets; left-- > 0;) *out++ = (uint8_t)(word >> 8 * left);
+    }
+    size_t frames = samples_len / channels, in_full = size / frame;
+    units[RIME_UNITS_OCTETS] = samples_len * octets;
+    units[RIME_UNITS_FULL] = in_full * frame;
+    units[RIME_UNITS_COUNT] = frames / in_full + (frames % in_full != 0);
+    return RIME_DONE;
+}
+
+MEASURED uint8_t plain_unit_read(uint32_t octet, uint32_t channels, const uint8_t *unit, size_t unit_len,
+                                 uint64_t *samples, size_t samples_len, uint8_t *ancillary, size_t ancillary_len,
+                                 uint64_t *entries) {
+    const struct format format = format_told(octet);
+    *entries = 0;
+    if (format.slots == 0) return RIME_REFUSED_FORMAT;
+    if (channels == 0 || channels > format.slots) return RIME_REFUSED_CHANNELS;
+    size_t octets = RIME_CELL_OCTETS / format.slots, frame = channels * octets;
+    if (samples_len != ancillary_len || unit_len == 0 || unit_len % frame != 0) return RIME_REFUSED_LENGTH;
+    if (format.overhead) return RIME_REFUSED_OVERHEAD;
+    size_t count = unit_len / octets;
+    if (samples_len < count) return RIME_REFUSED_UNIT_ROOM;
+    for (size_t entry = 0; entry < count; entry++) {
+        uint64_t word = 0;
+        for (size_t octet = 0; octet < octets; octet++) word = word << 8 | *unit++;
+        samples[entry] = format.ancillary ? word >> 4 : word;
+        ancillary[entry] = format.ancillary ? word & 15 : 0;
+    }
+    *entries = count;
+    return RIME_DONE;
+}

@@ -6,10 +6,10 @@
  * all state is the caller's, in the arrays below, and may hold any octets whatever.
  *
  * Every function but rime_check_character returns a refusal number, RIME_DONE (0) where there is none. A call never
- * does half of its work. A refusal leaves every lent run and the state as they were, and fills `report`, `out`,
- * `header`, `record` or the two entries or halves of a frame with zeros; an opening that is refused fills `state` with
- * zeros, which is itself refused 1. Where several refusals apply, the first in the order of the list at each function is
- * given.
+ * does half of its work. A refusal leaves every lent run and the state as they were, and fills `report`, `out` of
+ * rime_status_step, `header`, `record`, `units`, `*entries` or the two entries or halves of a frame with zeros; an opening
+ * that is refused fills `state` with zeros, which is itself refused 1. Where several refusals apply, the first in the
+ * order of the list at each function is given.
  *
  * Lent memory: a run is a pointer and the number of its entries. A pointer is never NULL (a run of no entries may
  * point anywhere else), and no two arguments of one call overlap.
@@ -36,6 +36,7 @@ enum {
     RIME_STATUS_OCTETS = 24,
     RIME_HEADER = 4,
     RIME_RECORD = 4,
+    RIME_UNITS = 3,
     RIME_MOST_SLOTS = 48,
     RIME_MOST_MISSING = 14
 };
@@ -82,6 +83,9 @@ enum {
     RIME_REFUSED_INDICATED = 15,  /* a cell that comes with indication 1 where its number isn't a multiple of 8 */
     RIME_REFUSED_PREAMBLES = 16,  /* the preambles of a frame aren't X then Y, or Z then Y */
     RIME_REFUSED_PARITY = 17,     /* odd parity over slots 4 to 31 in either half of a frame */
+    RIME_REFUSED_OVERHEAD = 26,   /* data units: a format with overhead */
+    RIME_REFUSED_UNIT_SIZE = 27,  /* data units: a size below one frame */
+    RIME_REFUSED_UNIT_ROOM = 28,  /* data units: too little room */
     RIME_REFUSED_BLOCKS = 29      /* the B bits of a frame's halves differ */
 };
 
@@ -118,6 +122,9 @@ enum { RIME_STATUS_NONE = 0, RIME_STATUS_DOES_NOT_FIT = 1, RIME_STATUS_FITS = 2,
 enum { RIME_HEADER_PLACE = 0, RIME_HEADER_FORMAT = 1, RIME_HEADER_CHANNELS = 2, RIME_HEADER_ORDER = 3 };
 enum { RIME_RECORD_WHAT = 0, RIME_RECORD_INDICATION = 1, RIME_RECORD_START = 2, RIME_RECORD_NEXT = 3 };
 enum { RIME_RECORD_IS_END = 0, RIME_RECORD_IS_CELL = 1 };
+
+/* Places in what rime_units_export tells. */
+enum { RIME_UNITS_OCTETS = 0, RIME_UNITS_FULL = 1, RIME_UNITS_COUNT = 2 };
 
 /*
  * Opens a sender. Its first cell will have `number`. With `wanted` it keeps second numbers: `second` goes out in the
@@ -233,6 +240,38 @@ uint8_t rime_aes3_import(const uint8_t preambles[2], const uint32_t subframes[2]
  */
 uint8_t rime_aes3_export(const uint64_t samples[2], const uint8_t ancillary[2], uint8_t preambles[2],
                          uint32_t subframes[2]);
+
+/*
+ * Writes entries that the receiver wrote as data units of IEC 62379-5-2 (7.3), with synchronisation information absent, for
+ * the seven formats without overhead. `samples` and `ancillary` hold time after time, channels side by side, in whole
+ * times. A frame is one subframe for each channel at one time, channel 0 first; a subframe is the sample, most
+ * significant bit first, then B, C, U and V where the format has them. A unit holds as many whole frames as fit `size`
+ * octets, the last one perhaps fewer. The units go end to end from the start of `out`; octets past them stay. Leaves in
+ * `units` the octets written, the octets of a full unit, and how many units there are. Without entries there are none.
+ *
+ * MARKS DON'T TRAVEL. An entry of a missing cell, mark 2, leaves as the zeros that it is: at the other end a gap is
+ * silence that looks like sound. Nor does a mark 1 leave. Who needs them must carry them beside the units.
+ *
+ * Refused, with `out` untouched and `units` zeros: 1, the octet is none of the eleven; 2, `channels` is 0 or above S; 5,
+ * the runs aren't equally long, or their length isn't a multiple of `channels`; 6, a sample too large for its bits, an
+ * ancillary number above 15, or not 0 where the format has none; 26, the format has overhead; 27, `size` is below one
+ * frame; 28, `out` is shorter than all units together.
+ */
+uint8_t rime_units_export(uint32_t format, uint32_t channels, size_t size, const uint64_t *samples, size_t samples_len,
+                          const uint8_t *ancillary, size_t ancillary_len, uint8_t *out, size_t out_len,
+                          uint64_t units[RIME_UNITS]);
+
+/*
+ * Reads one data unit back. Writes its samples and ancillary numbers (0 where the format has none) from the start of the
+ * two runs; entries past them stay. Leaves in `entries` how many there were: the frames of the unit times `channels`. The
+ * units of an export, read one after the other, give back all that was exported. Nothing in a unit says its format or
+ * number of channels: both ends must be told the same.
+ * Refused, with the runs untouched and `*entries` 0: 1, the octet is none of the eleven; 2, `channels` is 0 or above S; 5,
+ * the runs aren't equally long, the unit is empty, or it isn't whole frames; 26, the format has overhead; 28, the runs are
+ * shorter than the unit's entries.
+ */
+uint8_t rime_unit_read(uint32_t format, uint32_t channels, const uint8_t *unit, size_t unit_len, uint64_t *samples,
+                       size_t samples_len, uint8_t *ancillary, size_t ancillary_len, uint64_t *entries);
 
 #ifdef __cplusplus
 }

@@ -7,7 +7,7 @@
 # ROWS         a pattern that picks the benchmark's rows
 
 RIME_LIB ?= $(CURDIR)/target/staticlib
-RIME_PARTS ?= boxes,status,log,cable,management
+RIME_PARTS ?= boxes,status,log,cable,units,management
 N ?= 1000000
 SEED ?= 2
 ROWS ?= .
@@ -93,9 +93,9 @@ fuzz: face-archive
 	$(MEMCHECK) $(COMPARE) fuzz $(MEMCHECK_CALLS) $(SEED)
 	$(COMPARE) fuzz $(N) $(SEED) $(LINELIST)
 
-BENCH_SOURCES := bench/bench.c bench/frames.c bench/plain.c
+BENCH_SOURCES := bench/bench.c bench/frames.c bench/plain.c bench/units.c
 
-target/bench/bench: $(BENCH_SOURCES) bench/frames.h bench/plain.h include/rimesatchel.h $(ARCHIVE)
+target/bench/bench: $(BENCH_SOURCES) bench/frames.h bench/plain.h bench/units.h include/rimesatchel.h $(ARCHIVE)
 	mkdir -p target/bench
 	gcc $(BENCH_FLAGS) -Iinclude -Ibench $(BENCH_SOURCES) $(ARCHIVE) -o $@
 

@@ -43,6 +43,10 @@ ARGUMENTS = {
     "rime_aes3_import": [OCTETS, POINTER(c_uint32), POINTER(c_uint64), OCTETS],
     "rime_aes3_export": [POINTER(c_uint64), OCTETS, OCTETS, POINTER(c_uint32)],
     "rime_status_step": [OCTETS, c_uint8, c_uint8, OCTETS],
+    "rime_units_export": [c_uint32, c_uint32, c_size_t, POINTER(c_uint64), c_size_t, OCTETS, c_size_t, OCTETS, c_size_t,
+                          POINTER(c_uint64)],
+    "rime_unit_read": [c_uint32, c_uint32, OCTETS, c_size_t, POINTER(c_uint64), c_size_t, OCTETS, c_size_t,
+                       POINTER(c_uint64)],
 }
 
 

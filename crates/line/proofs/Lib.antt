@@ -13,3 +13,4 @@ pub mod Repeats
 pub mod Rows
 pub mod Sharp
 pub mod Steps
+pub mod Units

@@ -3,5 +3,8 @@ pub mod FramesOne
 pub mod FramesWrong
 pub mod Leaves
 pub mod LogsOne
+pub mod NetworkLeaves
+pub mod NetworkOne
+pub mod NetworkWrong
 pub mod StatusesOne
 pub mod Wrong

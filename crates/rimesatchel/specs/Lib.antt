@@ -1,4 +1,5 @@
 pub mod Boxes
 pub mod Frames
 pub mod Logs
+pub mod Network
 pub mod Statuses

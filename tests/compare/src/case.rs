@@ -20,6 +20,8 @@ pub enum Kind {
     Aes3Export,
     Equipment,
     Controller,
+    UnitsExport,
+    UnitRead,
 }
 
 impl Kind {
@@ -29,7 +31,7 @@ impl Kind {
 }
 
 /// Kind, name, and the fields in and out: n a number, r a run of numbers or a state, o octets.
-const KINDS: [(Kind, &str, &str, &str); 14] = [
+const KINDS: [(Kind, &str, &str, &str); 16] = [
     (Kind::SenderOpen, "sender_open", "nnnnnn", "nr"),
     (Kind::ReceiverOpen, "receiver_open", "nnn", "nr"),
     (Kind::Send, "send", "rnrro", "nro"),
@@ -44,6 +46,8 @@ const KINDS: [(Kind, &str, &str, &str); 14] = [
     (Kind::Aes3Export, "aes3_export", "rr", "nor"),
     (Kind::Equipment, "equipment", "ooo", "noonnnn"),
     (Kind::Controller, "controller", "oo", "no"),
+    (Kind::UnitsExport, "units_export", "nnnrro", "nonnn"),
+    (Kind::UnitRead, "unit_read", "nnorr", "nrrn"),
 ];
 
 #[derive(Clone, Debug, PartialEq)]

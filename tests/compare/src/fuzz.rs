@@ -10,6 +10,7 @@ mod line;
 mod log;
 mod management;
 mod status;
+mod units;
 
 use std::collections::BTreeMap;
 use std::path::Path;
@@ -73,7 +74,7 @@ impl Referee<'_> {
 
 fn play(scenario: u64, seed: u64, referee: &mut Referee) -> Played {
     let mut random = Random::for_scenario(seed, scenario);
-    match random.below(76) {
+    match random.below(82) {
         0..=3 => boxes::open_sender(&mut random, referee),
         4..=6 => boxes::open_receiver(&mut random, referee),
         7..=22 => boxes::one_send(&mut random, referee),
@@ -88,6 +89,8 @@ fn play(scenario: u64, seed: u64, referee: &mut Referee) -> Played {
         68..=70 => management::one_message(&mut random, referee),
         71..=72 => management::one_status(&mut random, referee),
         73..=75 => management::conversation(&mut random, referee),
+        76..=79 => units::export(&mut random, referee),
+        80..=81 => units::read(&mut random, referee),
         _ => status::check(&mut random, referee),
     }
 }

@@ -10,6 +10,7 @@ mod cells;
 mod log;
 mod management;
 mod status;
+mod units;
 
 pub use boxes::{Receiver, Sender};
 pub use cable::{export_frame, import_frame};
@@ -17,6 +18,7 @@ pub use cells::Shape;
 pub use log::{header, listing, record, Record};
 pub use management::{controller, equipment};
 pub use status::{check_character, step, Block, Character};
+pub use units::{export_units, read_unit};
 
 /// The paper's number for a no.
 pub type Refusal = u8;

@@ -21,6 +21,8 @@ pub fn by_library(case: &Case) -> Option<Answer> {
         Kind::Aes3Export if cfg!(feature = "cable") => aes3_export(case),
         Kind::Equipment => management::equipment_by_library(case),
         Kind::Controller => management::controller_by_library(case),
+        Kind::UnitsExport if cfg!(feature = "units") => units_export(case),
+        Kind::UnitRead if cfg!(feature = "units") => unit_read(case),
         _ => None,
     }
 }
@@ -152,4 +154,25 @@ fn aes3_export(case: &Case) -> Option<Answer> {
     let (mut preambles, mut subframes) = ([LEFT_OVER; 2], [u32::MAX; 2]);
     let refusal = face::aes3_export(samples, &narrow_array(case.run(1))?, &mut preambles, &mut subframes);
     Some(values![u64::from(refusal), &preambles[..], &wide(&subframes)[..]])
+}
+
+fn units_export(case: &Case) -> Option<Answer> {
+    let settings = narrow_array(&[case.number(0), case.number(1)])?;
+    let size = usize::try_from(case.number(2)).ok()?;
+    let ancillary: Vec<u8> = narrow(case.run(4))?;
+    let mut out = Fenced::around(case.octets(5), LEFT_OVER);
+    let mut units = [u64::MAX; 3];
+    let refusal = face::units_export(settings, size, case.run(3), &ancillary, out.lent(), &mut units);
+    let mut answer = values![u64::from(refusal), &out.back()[..]];
+    answer.extend(units.map(Value::Number));
+    Some(answer)
+}
+
+fn unit_read(case: &Case) -> Option<Answer> {
+    let settings = narrow_array(&[case.number(0), case.number(1)])?;
+    let mut samples = Fenced::around(case.run(3), u64::MAX);
+    let mut ancillary = Fenced::around(&narrow(case.run(4))?, LEFT_OVER);
+    let mut entries = u64::MAX;
+    let refusal = face::unit_read(settings, case.octets(2), samples.lent(), ancillary.lent(), &mut entries);
+    Some(values![u64::from(refusal), &samples.back()[..], &wide(&ancillary.back())[..], entries])
 }

@@ -22,6 +22,8 @@ pub fn by_plain(case: &Case) -> Answer {
         Kind::Linelist => values![plain::listing(case.octets(0)).as_bytes()],
         Kind::Aes3Import => aes3_import(case),
         Kind::Aes3Export => aes3_export(case),
+        Kind::UnitsExport => units_export(case),
+        Kind::UnitRead => unit_read(case),
     }
 }
 
@@ -142,5 +144,33 @@ fn aes3_export(case: &Case) -> Answer {
     match plain::export_frame(case.run(0), case.run(1)) {
         Ok((preambles, subframes)) => values![0, &preambles[..], &subframes[..]],
         Err(refusal) => values![u64::from(refusal), &[0u8; 2][..], &[0u64; 2][..]],
+    }
+}
+
+fn units_export(case: &Case) -> Answer {
+    let settings = [case.number(0), case.number(1)];
+    let mut out = case.octets(5).to_vec();
+    match plain::export_units(settings, case.number(2), case.run(3), case.run(4), out.len()) {
+        Ok(units) => {
+            let octets = units.each.concat();
+            out[..octets.len()].copy_from_slice(&octets);
+            values![0, &out[..], octets.len() as u64, units.full, units.each.len() as u64]
+        }
+        Err(refusal) => values![u64::from(refusal), &out[..], 0, 0, 0],
+    }
+}
+
+fn unit_read(case: &Case) -> Answer {
+    let mut runs = [3, 4].map(|field| case.run(field).to_vec());
+    let lengths = [0, 1].map(|run| runs[run].len());
+    match plain::read_unit([case.number(0), case.number(1)], case.octets(2), lengths) {
+        Ok(entries) => {
+            for (at, entry) in entries.iter().enumerate() {
+                runs[0][at] = entry.sample;
+                runs[1][at] = entry.ancillary;
+            }
+            values![0, &runs[0][..], &runs[1][..], entries.len() as u64]
+        }
+        Err(refusal) => values![u64::from(refusal), &runs[0][..], &runs[1][..], 0],
     }
 }
