@@ -68,7 +68,7 @@ enum {
     RIME_REFUSED_CHANNELS = 2,    /* C is 0 or above S */
     RIME_REFUSED_ORDER = 3,       /* order above 1 */
     RIME_REFUSED_STATE = 4,       /* a number in a state, or a start number, that cannot be */
-    RIME_REFUSED_LENGTH = 5,      /* a cell not of 48 octets, or runs of a wrong length */
+    RIME_REFUSED_LENGTH = 5,      /* a cell not of 48 octets, or runs of a wrong or unequal length */
     RIME_REFUSED_SAMPLE = 6,      /* a sample or an ancillary number too large for the format */
     RIME_REFUSED_INDICATION = 7,  /* sending indication 1 where the number isn't a multiple of 8 */
     RIME_REFUSED_NUMBER = 8,      /* the cell's eight number bits are in no entry of Table A.1 */
@@ -77,7 +77,10 @@ enum {
     RIME_REFUSED_LOG_NUMBER = 11, /* a log number not in its shortest form, too long or cut; an indication above 1 */
     RIME_REFUSED_LOG_RECORD = 12, /* a record cut before its 48 octets end */
     RIME_REFUSED_LOG_LENGTH = 13, /* given by the program linelist alone */
-    RIME_REFUSED_STATUS = 14      /* a channel status input that cannot be */
+    RIME_REFUSED_STATUS = 14,     /* a channel status input that cannot be */
+    RIME_REFUSED_PLAN = 22,       /* more than 64 circuits or 1,024 channels */
+    RIME_REFUSED_FREQUENCY = 23,  /* a sampling frequency of 0 or above 1,000,000 */
+    RIME_REFUSED_CIRCUITS = 30    /* S times the circuits is below the channels */
 };
 
 /* Places in a sender's state. The three yes-or-no octets here and below: 0 is no, any other octet is yes. */
@@ -199,6 +202,33 @@ uint8_t rime_log_header(const uint8_t *log, size_t log_len, uint32_t header[RIME
  * before the 48 octets do.
  */
 uint8_t rime_log_record(const uint8_t *log, size_t log_len, size_t place, uint64_t record[RIME_RECORD]);
+
+/* Places in what rime_circuits_check answers, and its answers. */
+enum { RIME_PLAN_ANSWER = 0, RIME_PLAN_CIRCUIT = 1 };
+enum { RIME_PLAN_YES = 1, RIME_PLAN_SHARE = 2, RIME_PLAN_ALLOWANCE = 3, RIME_PLAN_SUM = 4 };
+
+/*
+ * Judges a plan, anyone's: `channels` channels in one format at a sampling `frequency`, shared out over circuits.
+ * `shares` is how many of them each circuit carries, `allowances` the cells per second that each circuit may carry. A
+ * circuit with a share of C needs `frequency` / T cells per second, rounded up, with T = S / C rounded down.
+ * Leaves in `answer` RIME_PLAN_YES and 0 exactly when each share is 1 to S, the shares add up to `channels`, and each
+ * circuit's cells per second are within its allowance. A no names the first fault, circuit by circuit the share, then
+ * the allowance: RIME_PLAN_SHARE or RIME_PLAN_ALLOWANCE and the circuit, counted from 0; last RIME_PLAN_SUM and 0. No
+ * circuits and no channels is a yes.
+ * Refused, with `answer` zeros: 1, the octet is none of the eleven; 5, the two runs aren't equally long; 22, more than
+ * 64 circuits or 1,024 channels; 23, `frequency` is 0 or above 1,000,000.
+ */
+uint8_t rime_circuits_check(uint32_t format, uint32_t channels, uint32_t frequency, const uint32_t *shares,
+                            size_t shares_len, const uint32_t *allowances, size_t allowances_len, uint32_t answer[2]);
+
+/*
+ * A plain planner: fills circuits in the given order as far as S allows, allowances left aside. Writes all of `shares`,
+ * a number for each circuit: S for those that are full, the rest for one, and 0 for those left over, which the checker
+ * calls a fault: hand it the circuits that were filled.
+ * Refused, with `shares` untouched: 1, the octet is none of the eleven; 22, more than 64 circuits or 1,024 channels; 30,
+ * S times the circuits is below `channels`: nobody's plan could carry them.
+ */
+uint8_t rime_circuits_plan(uint32_t format, uint32_t channels, uint32_t *shares, size_t shares_len);
 
 #ifdef __cplusplus
 }

@@ -7,7 +7,7 @@
 # ROWS         a pattern that picks the benchmark's rows
 
 RIME_LIB ?= $(CURDIR)/target/staticlib
-RIME_PARTS ?= boxes,status,log
+RIME_PARTS ?= boxes,status,log,circuits
 N ?= 1000000
 SEED ?= 2
 ROWS ?= .
@@ -48,6 +48,10 @@ $(EXAMPLES)/handover-rust: examples/rust/handover.rs examples/rust/rimesatchel.r
 	mkdir -p $(EXAMPLES)
 	rustc --edition 2021 -O -D warnings -L native=$(RIME_LIB) -l static=rimesatchel $< -o $@
 
+$(EXAMPLES)/cast-c: examples/c/cast.c include/rimesatchel.h $(ARCHIVE)
+	mkdir -p $(EXAMPLES)
+	gcc -O2 -std=c99 $(WARNINGS) -pedantic -Iinclude $< $(ARCHIVE) -o $@
+
 $(EXAMPLES)/librimesatchel.so: $(ARCHIVE)
 	mkdir -p $(EXAMPLES)
 	gcc -shared -Wl,--whole-archive $(ARCHIVE) -Wl,--no-whole-archive -o $@
@@ -55,13 +59,15 @@ $(EXAMPLES)/librimesatchel.so: $(ARCHIVE)
 # Not through a pipe, which would hide a program that prints the right words and then fails.
 define prints-expected
 $(1) > $(EXAMPLES)/printed
-diff examples/handover.expected $(EXAMPLES)/printed
+diff examples/$(or $(2),handover).expected $(EXAMPLES)/printed
 endef
 
-face-examples: $(EXAMPLES)/handover-c $(EXAMPLES)/handover-rust $(EXAMPLES)/librimesatchel.so
+face-examples: $(EXAMPLES)/handover-c $(EXAMPLES)/handover-rust $(EXAMPLES)/cast-c $(EXAMPLES)/librimesatchel.so
 	$(call prints-expected,$(EXAMPLES)/handover-c)
 	$(call prints-expected,$(EXAMPLES)/handover-rust)
 	$(call prints-expected,python3 examples/python/handover.py $(EXAMPLES)/librimesatchel.so)
+	$(call prints-expected,$(EXAMPLES)/cast-c,cast)
+	$(call prints-expected,python3 examples/python/cast.py $(EXAMPLES)/librimesatchel.so,cast)
 	@echo "examples: C, Rust and Python print what is expected"
 
 face-test: face-compare face-examples

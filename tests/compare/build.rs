@@ -5,7 +5,8 @@ use std::path::PathBuf;
 
 fn main() {
     println!("cargo:rerun-if-env-changed=RIMESATCHEL_LIB");
-    let linked = ["BOXES", "STATUS", "LOG"].iter().any(|part| env::var(format!("CARGO_FEATURE_{part}")).is_ok());
+    let linked =
+        ["BOXES", "STATUS", "LOG", "CIRCUITS"].iter().any(|part| env::var(format!("CARGO_FEATURE_{part}")).is_ok());
     if !linked {
         return;
     }

@@ -15,6 +15,8 @@ pub enum Kind {
     ReadHeader,
     ReadRecord,
     Linelist,
+    CircuitsCheck,
+    CircuitsPlan,
 }
 
 impl Kind {
@@ -24,7 +26,7 @@ impl Kind {
 }
 
 /// Kind, name, and the fields in and out: n a number, r a run of numbers or a state, o octets.
-const KINDS: [(Kind, &str, &str, &str); 9] = [
+const KINDS: [(Kind, &str, &str, &str); 11] = [
     (Kind::SenderOpen, "sender_open", "nnnnnn", "nr"),
     (Kind::ReceiverOpen, "receiver_open", "nnn", "nr"),
     (Kind::Send, "send", "rnrro", "nro"),
@@ -34,6 +36,8 @@ const KINDS: [(Kind, &str, &str, &str); 9] = [
     (Kind::ReadHeader, "read_header", "o", "nnnnn"),
     (Kind::ReadRecord, "read_record", "on", "nnnnn"),
     (Kind::Linelist, "linelist", "o", "o"),
+    (Kind::CircuitsCheck, "circuits_check", "nnnrr", "nnn"),
+    (Kind::CircuitsPlan, "circuits_plan", "nnr", "nr"),
 ];
 
 #[derive(Clone, Debug, PartialEq)]

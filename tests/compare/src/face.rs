@@ -49,6 +49,17 @@ mod raw {
         pub fn rime_check_character(block: *const [u8; 24]) -> u8;
         pub fn rime_log_header(log: *const u8, log_len: usize, header: *mut [u32; 4]) -> u8;
         pub fn rime_log_record(log: *const u8, log_len: usize, place: usize, record: *mut [u64; 4]) -> u8;
+        pub fn rime_circuits_check(
+            format: u32,
+            channels: u32,
+            frequency: u32,
+            shares: *const u32,
+            shares_len: usize,
+            allowances: *const u32,
+            allowances_len: usize,
+            answer: *mut [u32; 2],
+        ) -> u8;
+        pub fn rime_circuits_plan(format: u32, channels: u32, shares: *mut u32, shares_len: usize) -> u8;
     }
 }
 
@@ -115,4 +126,29 @@ pub fn log_header(log: &[u8], header: &mut [u32; 4]) -> u8 {
 
 pub fn log_record(log: &[u8], place: usize, record: &mut [u64; 4]) -> u8 {
     unsafe { raw::rime_log_record(log.as_ptr(), log.len(), place, record) }
+}
+
+pub fn circuits_check(
+    [format, channels, frequency]: [u32; 3],
+    shares: &[u32],
+    allowances: &[u32],
+    answer: &mut [u32; 2],
+) -> u8 {
+    let (shares_at, allowances_at) = (shares.as_ptr(), allowances.as_ptr());
+    unsafe {
+        raw::rime_circuits_check(
+            format,
+            channels,
+            frequency,
+            shares_at,
+            shares.len(),
+            allowances_at,
+            allowances.len(),
+            answer,
+        )
+    }
+}
+
+pub fn circuits_plan(format: u32, channels: u32, shares: &mut [u32]) -> u8 {
+    unsafe { raw::rime_circuits_plan(format, channels, shares.as_mut_ptr(), shares.len()) }
 }

@@ -4,6 +4,7 @@
 //! alone, so one scenario can be played again without those before it.
 
 mod boxes;
+mod circuits;
 mod inputs;
 mod line;
 mod log;
@@ -71,7 +72,7 @@ impl Referee<'_> {
 
 fn play(scenario: u64, seed: u64, referee: &mut Referee) -> Played {
     let mut random = Random::for_scenario(seed, scenario);
-    match random.below(64) {
+    match random.below(68) {
         0..=3 => boxes::open_sender(&mut random, referee),
         4..=6 => boxes::open_receiver(&mut random, referee),
         7..=22 => boxes::one_send(&mut random, referee),
@@ -81,6 +82,8 @@ fn play(scenario: u64, seed: u64, referee: &mut Referee) -> Played {
         56..=60 => status::one_step(&mut random, referee),
         61 if scenario.is_multiple_of(8) => status::sequence(&mut random, referee),
         62 if scenario.is_multiple_of(8) => log::list(&mut random, referee),
+        64..=66 => circuits::check(&mut random, referee),
+        67 => circuits::plan(&mut random, referee),
         _ => status::check(&mut random, referee),
     }
 }

@@ -6,11 +6,13 @@
 mod bits;
 mod boxes;
 mod cells;
+mod circuits;
 mod log;
 mod status;
 
 pub use boxes::{Receiver, Sender};
 pub use cells::Shape;
+pub use circuits::{check_plan, plan, Fault};
 pub use log::{header, listing, record, Record};
 pub use status::{check_character, step, Block};
 

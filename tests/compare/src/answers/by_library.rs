@@ -14,6 +14,8 @@ pub fn by_library(case: &Case) -> Option<Answer> {
         Kind::CheckCharacter if cfg!(feature = "status") => check_character(case),
         Kind::ReadHeader if cfg!(feature = "log") => read_header(case),
         Kind::ReadRecord if cfg!(feature = "log") => read_record(case),
+        Kind::CircuitsCheck if cfg!(feature = "circuits") => circuits_check(case),
+        Kind::CircuitsPlan if cfg!(feature = "circuits") => circuits_plan(case),
         _ => None,
     }
 }
@@ -131,4 +133,19 @@ fn read_record(case: &Case) -> Option<Answer> {
     let mut answer = values![u64::from(refusal)];
     answer.extend(record.map(Value::Number));
     Some(answer)
+}
+
+fn circuits_check(case: &Case) -> Option<Answer> {
+    let asked = narrow_array(&[case.number(0), case.number(1), case.number(2)])?;
+    let (shares, allowances): (Vec<u32>, Vec<u32>) = (narrow(case.run(3))?, narrow(case.run(4))?);
+    let mut answer = [u32::MAX; 2];
+    let refusal = face::circuits_check(asked, &shares, &allowances, &mut answer);
+    Some(values![u64::from(refusal), u64::from(answer[0]), u64::from(answer[1])])
+}
+
+fn circuits_plan(case: &Case) -> Option<Answer> {
+    let [format, channels] = narrow_array(&[case.number(0), case.number(1)])?;
+    let mut shares = Fenced::around(&narrow(case.run(2))?, u32::MAX);
+    let refusal = face::circuits_plan(format, channels, shares.lent());
+    Some(values![u64::from(refusal), &wide(&shares.back())[..]])
 }

@@ -2,7 +2,7 @@
 //! it comes back as 0 or 1, and a refusal leaves all that was lent as it was.
 
 use crate::case::{values, Answer, Case, Kind, Value};
-use crate::plain::{self, Block, Receiver, Record, Refusal, Sender};
+use crate::plain::{self, Block, Fault, Receiver, Record, Refusal, Sender};
 
 pub fn by_plain(case: &Case) -> Answer {
     match case.kind {
@@ -15,6 +15,8 @@ pub fn by_plain(case: &Case) -> Answer {
         Kind::ReadHeader => read_header(case),
         Kind::ReadRecord => read_record(case),
         Kind::Linelist => values![plain::listing(case.octets(0)).as_bytes()],
+        Kind::CircuitsCheck => circuits_check(case),
+        Kind::CircuitsPlan => circuits_plan(case),
     }
 }
 
@@ -115,5 +117,22 @@ fn read_record(case: &Case) -> Answer {
         Ok(Record::Cell { indication, start, next }) => values![0, 1, indication, start as u64, next as u64],
         Ok(Record::End) => values![0, 0, 0, 0, place],
         Err(refusal) => values![u64::from(refusal), 0, 0, 0, 0],
+    }
+}
+
+fn circuits_check(case: &Case) -> Answer {
+    match plain::check_plan(case.number(0), case.number(1), case.number(2), case.run(3), case.run(4)) {
+        Ok(None) => values![0, 1, 0],
+        Ok(Some(Fault::Share(circuit))) => values![0, 2, circuit as u64],
+        Ok(Some(Fault::Allowance(circuit))) => values![0, 3, circuit as u64],
+        Ok(Some(Fault::Sum)) => values![0, 4, 0],
+        Err(refusal) => values![u64::from(refusal), 0, 0],
+    }
+}
+
+fn circuits_plan(case: &Case) -> Answer {
+    match plain::plan(case.number(0), case.number(1), case.run(2).len()) {
+        Ok(shares) => values![0, &shares[..]],
+        Err(refusal) => values![u64::from(refusal), case.run(2)],
     }
 }
