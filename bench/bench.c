@@ -1,20 +1,25 @@
 /*
- * The proved sender and receiver beside the baseline of plain.c, in one process.
+ * The proved sender and receiver, the AES3 cable's calls (frames.c) and the data units' calls (units.c), beside the baseline of
+ * plain.c, in one process.
  *
- *   bench                          the table: ns per cell, minima of many repeats, the two interleaved
- *   bench rows                     the rows' names, one a line
- *   bench calls ROW WHO CALLS      only CALLS calls of one row by `proved` or `plain`: for counting instructions
+ *   bench rows                the rows' names, one a line
+ *   bench times [ROWS]        ns per cell of each row: the least of many batches, the two taking turns
+ *   bench count [ROWS]        a few calls of each row, for callgrind to count their instructions (bench/run.py reads them)
  *
- * Before anything is measured, both must leave the same octets on every row.
+ * ROWS is a pattern that picks rows by their names. Before anything is measured, both must leave the same octets on
+ * every row.
  */
 #include <inttypes.h>
+#include <regex.h>
 #include <stdio.h>
 #include <stdlib.h>
 #include <string.h>
 #include <time.h>
 
+#include "frames.h"
 #include "plain.h"
 #include "rimesatchel.h"
+#include "units.h"
 
 enum { CELLS = 16, BATCH = 10 * CELLS, REPEATS = 1000, MOST_ENTRIES = 15 * RIME_MOST_SLOTS };
 
@@ -29,13 +34,12 @@ struct row {
 };
 
 struct who {
-    const char *name;
     send_function *send;
     receive_function *receive;
 };
 
-static const struct who proved = {"proved", rime_send, rime_receive};
-static const struct who plain = {"plain", plain_send, plain_receive};
+static const struct who proved = {rime_send, rime_receive};
+static const struct who plain = {plain_send, plain_receive};
 
 /* All that one row's calls are lent. */
 struct bench {
@@ -47,39 +51,62 @@ struct bench {
     uint8_t ancillary[MOST_ENTRIES], marks[MOST_ENTRIES];
 };
 
-struct dimensions {
-    uint8_t format, slots, sample_bits;
+struct format {
+    uint8_t octet, slots, sample_bits;
+    bool ancillary, overhead;
 };
 
-static const struct dimensions measured[] = {
-    {0x02, 48, 8}, {0x04, 24, 16}, {0x06, 16, 24}, {0x54, 16, 16}, {0x56, 12, 24}, {0x5A, 8, 40},
+/* A format is one line here; its rows follow from it. */
+static const struct format formats[] = {
+    {0x02, 48, 8, false, false},
+    {0x04, 24, 16, false, false},
+    {0x06, 16, 24, false, false},
+    {0x08, 12, 32, false, false},
+    {0x43, 24, 12, true, false},
+    {0x45, 16, 20, true, false},
+    {0x47, 12, 28, true, false},
+    {0x52, 24, 8, true, true},
+    {0x54, 16, 16, true, true},
+    {0x56, 12, 24, true, true},
+    {0x5A, 8, 40, true, true},
 };
-enum { FORMATS = sizeof measured / sizeof *measured, MOST_ROWS = 2 * (FORMATS * 6 + 2) + 3 };
+enum { FORMATS = sizeof formats / sizeof *formats, CHANNELS = 4, ORDERS = 2, GAP_CHANNELS = 2 };
+enum { MOST_ROWS = FORMATS * ORDERS * (2 * CHANNELS + 1) };
 
-static struct dimensions dimensions_of(uint8_t format) {
+static const struct format *format_of(uint8_t octet) {
     for (size_t at = 0; at < FORMATS; at++)
-        if (measured[at].format == format) return measured[at];
+        if (formats[at].octet == octet) return &formats[at];
     abort();
 }
 
-static size_t rows_of(bool unpacks, struct row *rows) {
+/* One channel, two, five and as many as there are slots. With two, a line with the longest gap too. */
+static size_t rows_of(const struct format *format, bool unpacks, struct row *rows) {
+    const uint8_t channels[CHANNELS] = {1, 2, 5, format->slots};
     size_t count = 0;
-    for (size_t at = 0; at < FORMATS; at++) {
-        const uint8_t channels[] = {1, 2, measured[at].slots};
-        for (size_t choice = 0; choice < 3; choice++)
-            for (uint8_t order = 0; order < 2; order++)
-                rows[count++] = (struct row){unpacks, measured[at].format, channels[choice], order, 0};
-    }
-    for (uint8_t order = 0; order < 2; order++) rows[count++] = (struct row){unpacks, 0x56, 5, order, 0};
-    if (unpacks)
-        for (size_t at = FORMATS - 3; at < FORMATS; at++)
-            rows[count++] = (struct row){unpacks, measured[at].format, 2, 0, RIME_MOST_MISSING};
+    for (size_t choice = 0; choice < CHANNELS; choice++)
+        for (uint8_t order = 0; order < ORDERS && channels[choice] <= format->slots; order++)
+            rows[count++] = (struct row){unpacks, format->octet, channels[choice], order, 0};
+    for (uint8_t order = 0; order < ORDERS && unpacks && format->overhead; order++)
+        rows[count++] = (struct row){unpacks, format->octet, GAP_CHANNELS, order, RIME_MOST_MISSING};
+    return count;
+}
+
+static size_t all_rows(struct row *rows) {
+    size_t count = 0;
+    for (size_t at = 0; at < FORMATS; at++) count += rows_of(&formats[at], false, rows + count);
+    for (size_t at = 0; at < FORMATS; at++) count += rows_of(&formats[at], true, rows + count);
     return count;
 }
 
 static void name_of(const struct row *row, char *name, size_t size) {
     snprintf(name, size, "%s-%02X-C%u-order%u%s", row->unpacks ? "unpack" : "pack", row->format, row->channels,
              row->order, row->gap ? "-gap14" : "");
+}
+
+static void name_row(const struct row *row) {
+    char name[64];
+    name_of(row, name, sizeof name);
+    puts(name);
 }
 
 static uint64_t next_random(uint64_t *state) {
@@ -98,20 +125,19 @@ static void insist(bool holds, const struct row *row, const char *what) {
 /* Fills the runs and, with the proved sender, sixteen cells numbered 0 to 15. */
 static void prepare(struct bench *bench, const struct row *row) {
     memset(bench, 0, sizeof *bench);
-    struct dimensions dimensions = dimensions_of(row->format);
+    const struct format *format = format_of(row->format);
     bench->row = *row;
-    bench->entries = dimensions.slots / row->channels * row->channels;
+    bench->entries = format->slots / row->channels * row->channels;
     bench->room = bench->entries * (row->gap + 1u);
     uint8_t opened = rime_sender_open(row->format, row->channels, row->order, 0, false, 0, bench->sender);
     insist(opened == RIME_DONE, row, "no sender");
     opened = rime_receiver_open(row->format, row->channels, row->order, bench->receiver);
     insist(opened == RIME_DONE, row, "no receiver");
     uint64_t random = row->format;
-    bool has_ancillary = row->format > 0x40;
     for (size_t cell = 0; cell < CELLS; cell++) {
         for (size_t entry = 0; entry < bench->entries; entry++) {
-            bench->samples[entry] = next_random(&random) & ((UINT64_C(1) << dimensions.sample_bits) - 1);
-            bench->ancillary[entry] = has_ancillary ? next_random(&random) % 16 : 0;
+            bench->samples[entry] = next_random(&random) & ((UINT64_C(1) << format->sample_bits) - 1);
+            bench->ancillary[entry] = format->ancillary ? next_random(&random) % 16 : 0;
         }
         uint8_t sent = rime_send(bench->sender, false, bench->samples, bench->entries, bench->ancillary, bench->entries,
                                  bench->cells[cell], RIME_CELL_OCTETS);
@@ -191,45 +217,54 @@ static void measure(const struct row *row) {
     }
     char name[64];
     name_of(row, name, sizeof name);
-    printf("%-24s %8.1f %8.1f %6.2f %8.1f\n", name, proved_ns, plain_ns, proved_ns / plain_ns, copy_ns);
+    printf("%s %.1f %.1f %.1f\n", name, proved_ns, plain_ns, copy_ns);
 }
 
-static int count_calls(const struct row *rows, size_t count, char **words) {
+/* What callgrind counts: it starts and stops at this function, by its name. */
+__attribute__((noipa)) static uint8_t counted(struct bench *bench, const struct who *who, size_t calls) {
+    return call_many(bench, who, calls);
+}
+
+/* Two counts for each box, of CELLS calls and of twice as many: their difference is CELLS calls and nothing else. */
+static void count(const struct row *row) {
     static struct bench bench;
-    const struct who *who = strcmp(words[1], proved.name) == 0 ? &proved : &plain;
-    if (strcmp(words[1], who->name) != 0) return 2;
-    for (size_t at = 0; at < count; at++) {
-        char name[64];
-        name_of(&rows[at], name, sizeof name);
-        if (strcmp(name, words[0]) != 0) continue;
-        prepare(&bench, &rows[at]);
-        return call_many(&bench, who, strtoul(words[2], NULL, 10)) == RIME_DONE ? 0 : 1;
+    const struct who *both[] = {&proved, &plain};
+    for (size_t which = 0; which < 2; which++) {
+        prepare(&bench, row);
+        uint8_t refusals = call_many(&bench, both[which], CELLS);
+        refusals |= counted(&bench, both[which], CELLS);
+        refusals |= counted(&bench, both[which], 2 * CELLS);
+        insist(refusals == RIME_DONE, row, "a counted call was refused");
     }
-    fprintf(stderr, "bench: no row %s\n", words[0]);
-    return 2;
+    name_row(row);
 }
 
-static void name_rows(const struct row *rows, size_t count) {
-    for (size_t at = 0; at < count; at++) {
-        char name[64];
-        name_of(&rows[at], name, sizeof name);
-        puts(name);
-    }
+typedef void row_function(const struct row *);
+
+static row_function *function_of(const char *word) {
+    if (strcmp(word, "rows") == 0) return name_row;
+    if (strcmp(word, "times") == 0) return measure;
+    if (strcmp(word, "count") == 0) return count;
+    return NULL;
 }
 
 int main(int argc, char **argv) {
-    struct row rows[MOST_ROWS];
-    size_t count = rows_of(false, rows);
-    count += rows_of(true, rows + count);
-    if (argc == 5 && strcmp(argv[1], "calls") == 0) return count_calls(rows, count, argv + 2);
-    if (argc == 2 && strcmp(argv[1], "rows") == 0) {
-        name_rows(rows, count);
-        return 0;
+    static struct row rows[MOST_ROWS];
+    row_function *function = argc == 2 || argc == 3 ? function_of(argv[1]) : NULL;
+    regex_t pattern;
+    if (function == NULL || regcomp(&pattern, argc == 3 ? argv[2] : ".", REG_EXTENDED | REG_NOSUB) != 0) {
+        fputs("usage: bench rows | times | count [ROWS]\n", stderr);
+        return 2;
     }
-    for (size_t at = 0; at < count; at++) check_agreement(&rows[at]);
-    printf("ns per cell, the least of %d batches of %d calls; ratio is proved / plain; memcpy of the octets written\n",
-           REPEATS, BATCH);
-    printf("%-24s %8s %8s %6s %8s\n", "row", "proved", "plain", "ratio", "memcpy");
-    for (size_t at = 0; at < count; at++) measure(&rows[at]);
+    size_t all = all_rows(rows);
+    for (size_t at = 0; at < all; at++) {
+        char name[64];
+        name_of(&rows[at], name, sizeof name);
+        if (regexec(&pattern, name, 0, NULL, 0) != 0) continue;
+        if (function != name_row) check_agreement(&rows[at]);
+        function(&rows[at]);
+    }
+    frames_rows(argv[1], &pattern);
+    units_rows(argv[1], &pattern);
     return 0;
 }

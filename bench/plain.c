@@ -1,6 +1,6 @@
 /*
  * Packing and unpacking as a good embedded engineer writes them: one generic loop over the slots for every format, a
- * protection table of 512 octets, all of document 01's refusals. The proved functions are measured against these.
+ * protection table of 512 octets, all of the refusals. The proved functions are measured against these.
  */
 #include "plain.h"
 
@@ -206,6 +206,7 @@ MEASURED uint8_t plain_receive(uint8_t state[5], const uint8_t *cell, size_t cel
         number = turned[word >> 8];
         second = turned[word & 15];
         if (number_words[number] != word >> 4) return RIME_REFUSED_NUMBER;
+        if (indication && number % 8 != 0) return RIME_REFUSED_INDICATED;
     }
     bool counts = layout.format.overhead && state[RIME_RECEIVER_STARTED] != 0;
     size_t steps = counts ? (size_t)(number - state[RIME_RECEIVER_LAST]) % 16 : 1;
@@ -222,5 +223,84 @@ MEASURED uint8_t plain_receive(uint8_t state[5], const uint8_t *cell, size_t cel
     report[RIME_REPORT_NUMBER] = number;
     report[RIME_REPORT_SECOND] = second;
     report[RIME_REPORT_INDICATION] = indication;
+    return RIME_DONE;
+}
+
+/* Slots 4 to 31 of a subframe hold sample, V, U, C and what makes their count of ones even. */
+MEASURED uint8_t plain_aes3_import(const uint8_t preambles[2], const uint32_t subframes[2], uint64_t samples[2],
+                                   uint8_t ancillary[2]) {
+    samples[0] = samples[1] = ancillary[0] = ancillary[1] = 0;
+    bool begins = preambles[0] == 'Z';
+    if ((preambles[0] != 'X' && !begins) || preambles[1] != 'Y') return RIME_REFUSED_PREAMBLES;
+    if (__builtin_parity(subframes[0] >> 4) || __builtin_parity(subframes[1] >> 4)) return RIME_REFUSED_PARITY;
+    for (size_t half = 0; half < 2; half++) {
+        samples[half] = subframes[half] >> 4 & 0xFFFFFF;
+        ancillary[half] = (uint8_t)(begins << 3 | (subframes[half] >> 28 & 7));
+    }
+    return RIME_DONE;
+}
+
+MEASURED uint8_t plain_aes3_export(const uint64_t samples[2], const uint8_t ancillary[2], uint8_t preambles[2],
+                                   uint32_t subframes[2]) {
+    preambles[0] = preambles[1] = 0;
+    subframes[0] = subframes[1] = 0;
+    if ((samples[0] | samples[1]) >> 24 || (ancillary[0] | ancillary[1]) >> 4) return RIME_REFUSED_SAMPLE;
+    if ((ancillary[0] ^ ancillary[1]) >> 3) return RIME_REFUSED_BLOCKS;
+    preambles[0] = ancillary[0] >> 3 ? 'Z' : 'X';
+    preambles[1] = 'Y';
+    for (size_t half = 0; half < 2; half++) {
+        uint32_t word = (uint32_t)samples[half] << 4 | (uint32_t)(ancillary[half] & 7) << 28;
+        subframes[half] = word | (uint32_t)__builtin_parity(word) << 31;
+    }
+    return RIME_DONE;
+}
+
+/* A format by a number that may be no octet. */
+static struct format format_told(uint32_t octet) { return octet > UINT8_MAX ? format_of(0) : format_of((uint8_t)octet); }
+
+MEASURED uint8_t plain_units_export(uint32_t octet, uint32_t channels, size_t size, const uint64_t *samples,
+                                    size_t samples_len, const uint8_t *ancillary, size_t ancillary_len, uint8_t *out,
+                                    size_t out_len, uint64_t units[3]) {
+    const struct format format = format_told(octet);
+    memset(units, 0, 3 * sizeof *units);
+    if (format.slots == 0) return RIME_REFUSED_FORMAT;
+    if (channels == 0 || channels > format.slots) return RIME_REFUSED_CHANNELS;
+    if (samples_len != ancillary_len || samples_len % channels != 0) return RIME_REFUSED_LENGTH;
+    const struct layout layout = {.format = format, .entries = samples_len};
+    if (!fit(&layout, samples, ancillary)) return RIME_REFUSED_SAMPLE;
+    if (format.overhead) return RIME_REFUSED_OVERHEAD;
+    size_t octets = RIME_CELL_OCTETS / format.slots, frame = channels * octets;
+    if (size < frame) return RIME_REFUSED_UNIT_SIZE;
+    if (out_len < samples_len * octets) return RIME_REFUSED_UNIT_ROOM;
+    for (size_t entry = 0; entry < samples_len; entry++) {
+        uint64_t word = format.ancillary ? samples[entry] << 4 | ancillary[entry] : samples[entry];
+        for (size_t left = octets; left-- > 0;) *out++ = (uint8_t)(word >> 8 * left);
+    }
+    size_t frames = samples_len / channels, in_full = size / frame;
+    units[RIME_UNITS_OCTETS] = samples_len * octets;
+    units[RIME_UNITS_FULL] = in_full * frame;
+    units[RIME_UNITS_COUNT] = frames / in_full + (frames % in_full != 0);
+    return RIME_DONE;
+}
+
+MEASURED uint8_t plain_unit_read(uint32_t octet, uint32_t channels, const uint8_t *unit, size_t unit_len,
+                                 uint64_t *samples, size_t samples_len, uint8_t *ancillary, size_t ancillary_len,
+                                 uint64_t *entries) {
+    const struct format format = format_told(octet);
+    *entries = 0;
+    if (format.slots == 0) return RIME_REFUSED_FORMAT;
+    if (channels == 0 || channels > format.slots) return RIME_REFUSED_CHANNELS;
+    size_t octets = RIME_CELL_OCTETS / format.slots, frame = channels * octets;
+    if (samples_len != ancillary_len || unit_len == 0 || unit_len % frame != 0) return RIME_REFUSED_LENGTH;
+    if (format.overhead) return RIME_REFUSED_OVERHEAD;
+    size_t count = unit_len / octets;
+    if (samples_len < count) return RIME_REFUSED_UNIT_ROOM;
+    for (size_t entry = 0; entry < count; entry++) {
+        uint64_t word = 0;
+        for (size_t octet = 0; octet < octets; octet++) word = word << 8 | *unit++;
+        samples[entry] = format.ancillary ? word >> 4 : word;
+        ancillary[entry] = format.ancillary ? word & 15 : 0;
+    }
+    *entries = count;
     return RIME_DONE;
 }

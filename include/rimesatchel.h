@@ -6,9 +6,10 @@
  * all state is the caller's, in the arrays below, and may hold any octets whatever.
  *
  * Every function but rime_check_character returns a refusal number, RIME_DONE (0) where there is none. A call never
- * does half of its work. A refusal leaves every lent run and the state as they were, and fills `report`, `out`,
- * `header` or `record` with zeros; an opening that is refused fills `state` with zeros, which is itself refused 1.
- * Where several refusals apply, the first in the order of the list at each function is given.
+ * does half of its work. A refusal leaves every lent run and the state as they were, and fills `report`, `out` of
+ * rime_status_step, `header`, `record`, `units`, `*entries`, `answer` or the two entries or halves of a frame with zeros; an
+ * opening that is refused fills `state` with zeros, which is itself refused 1. Where several refusals apply, the first in
+ * the order of the list at each function is given.
  *
  * Lent memory: a run is a pointer and the number of its entries. A pointer is never NULL (a run of no entries may
  * point anywhere else), and no two arguments of one call overlap.
@@ -35,6 +36,7 @@ enum {
     RIME_STATUS_OCTETS = 24,
     RIME_HEADER = 4,
     RIME_RECORD = 4,
+    RIME_UNITS = 3,
     RIME_MOST_SLOTS = 48,
     RIME_MOST_MISSING = 14
 };
@@ -78,8 +80,15 @@ enum {
     RIME_REFUSED_LOG_RECORD = 12, /* a record cut before its 48 octets end */
     RIME_REFUSED_LOG_LENGTH = 13, /* given by the program linelist alone */
     RIME_REFUSED_STATUS = 14,     /* a channel status input that cannot be */
+    RIME_REFUSED_INDICATED = 15,  /* a cell that comes with indication 1 where its number isn't a multiple of 8 */
+    RIME_REFUSED_PREAMBLES = 16,  /* the preambles of a frame aren't X then Y, or Z then Y */
+    RIME_REFUSED_PARITY = 17,     /* odd parity over slots 4 to 31 in either half of a frame */
     RIME_REFUSED_PLAN = 22,       /* more than 64 circuits or 1,024 channels */
     RIME_REFUSED_FREQUENCY = 23,  /* a sampling frequency of 0 or above 1,000,000 */
+    RIME_REFUSED_OVERHEAD = 26,   /* data units: a format with overhead */
+    RIME_REFUSED_UNIT_SIZE = 27,  /* data units: a size below one frame */
+    RIME_REFUSED_UNIT_ROOM = 28,  /* data units: too little room */
+    RIME_REFUSED_BLOCKS = 29,     /* the B bits of a frame's halves differ */
     RIME_REFUSED_CIRCUITS = 30    /* S times the circuits is below the channels */
 };
 
@@ -110,12 +119,15 @@ enum { RIME_REPORT_MISSING = 0, RIME_REPORT_NUMBER = 1, RIME_REPORT_SECOND = 2, 
 enum { RIME_BLOCK_BITS = 0, RIME_BLOCK_OCTETS = 1, RIME_OUT_ANSWER = 0, RIME_OUT_OCTETS = 1 };
 
 /* The answers of rime_status_step. */
-enum { RIME_STATUS_NONE = 0, RIME_STATUS_DOES_NOT_FIT = 1, RIME_STATUS_FITS = 2 };
+enum { RIME_STATUS_NONE = 0, RIME_STATUS_DOES_NOT_FIT = 1, RIME_STATUS_FITS = 2, RIME_STATUS_NONE_CARRIED = 3 };
 
 /* Places in what is read of a log. */
 enum { RIME_HEADER_PLACE = 0, RIME_HEADER_FORMAT = 1, RIME_HEADER_CHANNELS = 2, RIME_HEADER_ORDER = 3 };
 enum { RIME_RECORD_WHAT = 0, RIME_RECORD_INDICATION = 1, RIME_RECORD_START = 2, RIME_RECORD_NEXT = 3 };
 enum { RIME_RECORD_IS_END = 0, RIME_RECORD_IS_CELL = 1 };
+
+/* Places in what rime_units_export tells. */
+enum { RIME_UNITS_OCTETS = 0, RIME_UNITS_FULL = 1, RIME_UNITS_COUNT = 2 };
 
 /*
  * Opens a sender. Its first cell will have `number`. With `wanted` it keeps second numbers: `second` goes out in the
@@ -158,8 +170,13 @@ uint8_t rime_receiver_open(uint32_t format, uint32_t channels, uint32_t order, u
  * format has none), and `indication` as it came.
  * Refused, with `state` and the runs untouched: 1, 2 and 3 of what stands in `state`; 4, a last number above 15, or not
  * 0 in a state not started or without overhead; 5, `cell` isn't 48 octets or the runs aren't equally long; 8, with
- * overhead, the eight number bits are in no entry of Table A.1; 9, d is 0; 10, the runs are shorter than d * C * T
- * (C * T at the first cell): the same cell may be given again with more room.
+ * overhead, the eight number bits are in no entry of Table A.1; 15, with overhead, `indication` is true and the number
+ * isn't a multiple of 8, at the first cell too; 9, d is 0; 10, the runs are shorter than d * C * T (C * T at the first
+ * cell): the same cell may be given again with more room.
+ *
+ * Before you connect another maker's sender: by clause 4.5.3 of the standard it sets the indication in the last cell of
+ * every block, which has number 7 or 15. This receiver refuses those cells, 15: every eighth cell of such a sender is
+ * turned down and stands in the reading as missing. The senders here set it in the first cell of a block, 0 or 8.
  */
 uint8_t rime_receive(uint8_t state[RIME_RECEIVER_STATE], const uint8_t *cell, size_t cell_len, bool indication,
                      uint64_t *samples, size_t samples_len, uint8_t *ancillary, size_t ancillary_len,
@@ -171,7 +188,8 @@ uint8_t rime_receive(uint8_t state[RIME_RECEIVER_STATE], const uint8_t *cell, si
  * an unfinished one; B = 0 adds the C bit to a begun block and otherwise changes nothing; mark 2 drops the block,
  * whatever B. Bit k is bit k mod 8 of octet k / 8, the lowest being bit 0.
  * Leaves in `out` an answer and 24 octets: RIME_STATUS_NONE and zeros, unless this was the 192nd bit. Then the octets
- * are the finished block and the answer says whether octet 23 is the check character of octets 0 to 22. Dropping or
+ * are the finished block and the answer says whether octet 23 is the check character of octets 0 to 22; it is
+ * RIME_STATUS_NONE_CARRIED where bit 0 of octet 0 is 0, since such a block, of consumer use, carries none. Dropping or
  * finishing leaves `block` as 25 zeros.
  * Refused, with `block` untouched and `out` zeros: 14, `mark` above 2, `ancillary` above 15 or more than 191 bits
  * begun.
@@ -202,6 +220,61 @@ uint8_t rime_log_header(const uint8_t *log, size_t log_len, uint32_t header[RIME
  * before the 48 octets do.
  */
 uint8_t rime_log_record(const uint8_t *log, size_t log_len, size_t place, uint64_t record[RIME_RECORD]);
+
+/* The preambles of an AES3 frame's halves, by their letters. */
+enum { RIME_PREAMBLE_X = 0x58, RIME_PREAMBLE_Y = 0x59, RIME_PREAMBLE_Z = 0x5A };
+
+/*
+ * Takes one frame off an AES3 cable into two entries of format 56 hex: the first half into entry 0, the second into
+ * entry 1. In a subframe slot k is the bit worth 2^k: the sample in slots 4 to 27, low bit first, V in 28, U in 29, C in
+ * 30, and in 31 what makes the count of ones in slots 4 to 31 even. Slots 0 to 3 aren't read. Z then Y begins a block for
+ * both channels: B is 1 in both entries; X then Y leaves it 0 in both.
+ * Refused, with `samples` and `ancillary` zeros: 16, the preambles are neither X then Y nor Z then Y; 17, the count of
+ * ones in slots 4 to 31 is odd in either half.
+ */
+uint8_t rime_aes3_import(const uint8_t preambles[2], const uint32_t subframes[2], uint64_t samples[2],
+                         uint8_t ancillary[2]);
+
+/*
+ * Makes one frame for an AES3 cable of two entries of format 56 hex: Z then Y where B is 1 in both, X then Y where it is
+ * 0 in both. Slots 0 to 3 are 0. An imported frame goes out with the slots 4 to 31 and the preambles that it came with.
+ * Refused, with `preambles` and `subframes` zeros: 6, a sample of more than 24 bits or an ancillary number above 15 in
+ * either half; 29, the two B bits differ: blocks that begin at different times in the two channels can't leave by AES3.
+ */
+uint8_t rime_aes3_export(const uint64_t samples[2], const uint8_t ancillary[2], uint8_t preambles[2],
+                         uint32_t subframes[2]);
+
+/*
+ * Writes entries that the receiver wrote as data units of IEC 62379-5-2 (7.3), with synchronisation information absent, for
+ * the seven formats without overhead. `samples` and `ancillary` hold time after time, channels side by side, in whole
+ * times. A frame is one subframe for each channel at one time, channel 0 first; a subframe is the sample, most
+ * significant bit first, then B, C, U and V where the format has them. A unit holds as many whole frames as fit `size`
+ * octets, the last one perhaps fewer. The units go end to end from the start of `out`; octets past them stay. Leaves in
+ * `units` the octets written, the octets of a full unit, and how many units there are. Without entries there are none.
+ *
+ * MARKS DON'T TRAVEL. An entry of a missing cell, mark 2, leaves as the zeros that it is: at the other end a gap is
+ * silence that looks like sound. Nor does a mark 1 leave. Who needs them must carry them beside the units.
+ *
+ * Refused, with `out` untouched and `units` zeros: 1, the octet is none of the eleven; 2, `channels` is 0 or above S; 5,
+ * the runs aren't equally long, or their length isn't a multiple of `channels`; 6, a sample too large for its bits, an
+ * ancillary number above 15, or not 0 where the format has none; 26, the format has overhead; 27, `size` is below one
+ * frame; 28, `out` is shorter than all units together.
+ */
+uint8_t rime_units_export(uint32_t format, uint32_t channels, size_t size, const uint64_t *samples, size_t samples_len,
+                          const uint8_t *ancillary, size_t ancillary_len, uint8_t *out, size_t out_len,
+                          uint64_t units[RIME_UNITS]);
+
+/*
+ * Reads one data unit back. Writes its samples and ancillary numbers (0 where the format has none) from the start of the
+ * two runs; entries past them stay. Leaves in `entries` how many there were: the frames of the unit times `channels`. The
+ * units of an export, read one after the other, give back all that was exported. Nothing in a unit says its format or
+ * number of channels: both ends must be told the same.
+ * Refused, with the runs untouched and `*entries` 0: 1, the octet is none of the eleven; 2, `channels` is 0 or above S; 5,
+ * the runs aren't equally long, the unit is empty, or it isn't whole frames; 26, the format has overhead; 28, the runs are
+ * shorter than the unit's entries.
+ */
+uint8_t rime_unit_read(uint32_t format, uint32_t channels, const uint8_t *unit, size_t unit_len, uint64_t *samples,
+                       size_t samples_len, uint8_t *ancillary, size_t ancillary_len, uint64_t *entries);
 
 /* Places in what rime_circuits_check answers, and its answers. */
 enum { RIME_PLAN_ANSWER = 0, RIME_PLAN_CIRCUIT = 1 };

@@ -1,18 +1,19 @@
 # The proved library in other languages: the comparison, the examples, the benchmark. The Makefile includes this file;
 # the gate runs it alone by `make -f tests/face.mk face-test`.
 #
-# RIME_LIB     the folder of librimesatchel.a
+# RIME_LIB     the folder of librimesatchel.a and libmanagement.a
 # RIME_PARTS   the parts of the library that the comparison links
 # N, SEED      how many calls `make fuzz` compares, and from which seed
 # ROWS         a pattern that picks the benchmark's rows
 
 RIME_LIB ?= $(CURDIR)/target/staticlib
-RIME_PARTS ?= boxes,status,log,circuits
+RIME_PARTS ?= boxes,status,log,cable,units,circuits,management
 N ?= 1000000
 SEED ?= 2
 ROWS ?= .
 
 ARCHIVE := $(RIME_LIB)/librimesatchel.a
+MANAGEMENT := $(RIME_LIB)/libmanagement.a
 COMPARE := target/compare/release/compare
 LINELIST := target/bin/linelist
 EXAMPLES := target/examples
@@ -26,11 +27,12 @@ WARNINGS := -Wall -Wextra
 # Aligned, the baseline doesn't change by where the linker happens to place its loops.
 BENCH_FLAGS := -O3 -std=gnu11 $(WARNINGS) -falign-functions=64 -falign-loops=32
 
-.PHONY: face-test face-compare face-examples face-archive fuzz bench
+.PHONY: face-build face-test face-compare face-examples face-archive fuzz
+.PHONY: bench-build bench bench-count bench-table bench-keep bench-guard
 
 # Proves again only what changed, so that nothing is measured or compared that isn't in the crates.
 face-archive:
-	@test "$(RIME_LIB)" != "$(CURDIR)/target/staticlib" || rt staticlib rimesatchel
+	@test "$(RIME_LIB)" != "$(CURDIR)/target/staticlib" || { rt staticlib rimesatchel && rt staticlib management; }
 
 face-compare:
 	RIMESATCHEL_LIB=$(RIME_LIB) cargo build --quiet --offline --locked --release --no-default-features \
@@ -56,19 +58,32 @@ $(EXAMPLES)/librimesatchel.so: $(ARCHIVE)
 	mkdir -p $(EXAMPLES)
 	gcc -shared -Wl,--whole-archive $(ARCHIVE) -Wl,--no-whole-archive -o $@
 
+$(EXAMPLES)/management-c: examples/c/management.c include/rimesatchel.h include/rime_management.h $(ARCHIVE) $(MANAGEMENT)
+	mkdir -p $(EXAMPLES)
+	gcc -O2 -std=c99 $(WARNINGS) -pedantic -Iinclude $< $(ARCHIVE) $(MANAGEMENT) -o $@
+
+$(EXAMPLES)/management-c-asan: examples/c/management.c include/rimesatchel.h include/rime_management.h $(ARCHIVE) $(MANAGEMENT)
+	mkdir -p $(EXAMPLES)
+	gcc -g -O1 -std=c99 -fsanitize=address,undefined -fno-sanitize-recover=all $(WARNINGS) -Iinclude $< $(ARCHIVE) $(MANAGEMENT) -o $@
+
 # Not through a pipe, which would hide a program that prints the right words and then fails.
 define prints-expected
 $(1) > $(EXAMPLES)/printed
-diff examples/$(or $(2),handover).expected $(EXAMPLES)/printed
+diff examples/$(2).expected $(EXAMPLES)/printed
 endef
 
-face-examples: $(EXAMPLES)/handover-c $(EXAMPLES)/handover-rust $(EXAMPLES)/cast-c $(EXAMPLES)/librimesatchel.so
-	$(call prints-expected,$(EXAMPLES)/handover-c)
-	$(call prints-expected,$(EXAMPLES)/handover-rust)
-	$(call prints-expected,python3 examples/python/handover.py $(EXAMPLES)/librimesatchel.so)
+face-examples: $(EXAMPLES)/handover-c $(EXAMPLES)/handover-rust $(EXAMPLES)/librimesatchel.so $(EXAMPLES)/management-c \
+    $(EXAMPLES)/cast-c
+	$(call prints-expected,$(EXAMPLES)/handover-c,handover)
+	$(call prints-expected,$(EXAMPLES)/handover-rust,handover)
+	$(call prints-expected,python3 examples/python/handover.py $(EXAMPLES)/librimesatchel.so,handover)
+	$(call prints-expected,$(EXAMPLES)/management-c,management)
 	$(call prints-expected,$(EXAMPLES)/cast-c,cast)
 	$(call prints-expected,python3 examples/python/cast.py $(EXAMPLES)/librimesatchel.so,cast)
 	@echo "examples: C, Rust and Python print what is expected"
+
+# Everything that links the archive. The gate builds it while `rt ci` goes on.
+face-build: face-compare $(EXAMPLES)/handover-c $(EXAMPLES)/handover-rust $(EXAMPLES)/librimesatchel.so target/bench/bench
 
 face-test: face-compare face-examples
 	$(COMPARE) vectors tests/vectors $(LINELIST)
@@ -76,16 +91,35 @@ face-test: face-compare face-examples
 	$(COMPARE) fuzz $(GATE_CALLS) $(GATE_SEED) $(LINELIST)
 
 fuzz: face-archive
-	$(MAKE) -f tests/face.mk face-compare $(EXAMPLES)/handover-c $(EXAMPLES)/handover-c-asan
-	$(call prints-expected,$(MEMCHECK) $(EXAMPLES)/handover-c)
-	$(call prints-expected,$(EXAMPLES)/handover-c-asan)
+	$(MAKE) -f tests/face.mk face-compare $(EXAMPLES)/handover-c $(EXAMPLES)/handover-c-asan $(EXAMPLES)/management-c \
+	    $(EXAMPLES)/management-c-asan
+	$(call prints-expected,$(MEMCHECK) $(EXAMPLES)/handover-c,handover)
+	$(call prints-expected,$(EXAMPLES)/handover-c-asan,handover)
+	$(call prints-expected,$(MEMCHECK) $(EXAMPLES)/management-c,management)
+	$(call prints-expected,$(EXAMPLES)/management-c-asan,management)
 	$(MEMCHECK) $(COMPARE) fuzz $(MEMCHECK_CALLS) $(SEED)
 	$(COMPARE) fuzz $(N) $(SEED) $(LINELIST)
 
-target/bench/bench: bench/bench.c bench/plain.c bench/plain.h include/rimesatchel.h $(ARCHIVE)
-	mkdir -p target/bench
-	gcc $(BENCH_FLAGS) -Iinclude -Ibench bench/bench.c bench/plain.c $(ARCHIVE) -o $@
+BENCH_SOURCES := bench/bench.c bench/frames.c bench/plain.c bench/units.c
 
-bench: face-archive
-	$(MAKE) -f tests/face.mk target/bench/bench
-	bash bench/run.sh target/bench/bench '$(ROWS)'
+target/bench/bench: $(BENCH_SOURCES) bench/frames.h bench/plain.h bench/units.h include/rimesatchel.h $(ARCHIVE)
+	mkdir -p target/bench
+	gcc $(BENCH_FLAGS) -Iinclude -Ibench $(BENCH_SOURCES) $(ARCHIVE) -o $@
+
+bench-build: face-archive
+	$(MAKE) --no-print-directory -f tests/face.mk target/bench/bench
+
+bench: bench-build
+	python3 bench/run.py target/bench/bench '$(ROWS)'
+
+bench-count: bench-build
+	python3 bench/run.py --count target/bench/bench '$(ROWS)'
+
+bench-table: bench-build
+	python3 bench/run.py --page docs/SPEED.md target/bench/bench
+
+bench-keep: bench-build
+	python3 bench/run.py --keep bench/instructions.txt target/bench/bench
+
+bench-guard: target/bench/bench
+	python3 bench/run.py --guard bench/instructions.txt target/bench/bench

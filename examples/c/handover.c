@@ -23,7 +23,15 @@ static const char *const reasons[] = {
     "the cell's number is damaged",
     "the cell has the number of the last one",
     "the runs have too little room",
+    "a number or an indication in the log is wrong",
+    "a record of the log is cut",
+    "the log is too long",
+    "a channel status input cannot be",
+    "the cell came with indication 1, and its number isn't a multiple of 8",
 };
+
+/* What is answered of a channel status block, by RIME_STATUS_NONE, _DOES_NOT_FIT, _FITS and _NONE_CARRIED. */
+static const char *const answers[] = {"neither", "doesn't fit", "fits", "none carried"};
 
 static const char *const marks_said[] = {"sound", "doubtful", "missing"};
 
@@ -72,6 +80,15 @@ static void receive(uint8_t *receiver, const uint8_t *octets) {
     print_entries(&runs, report[RIME_REPORT_MISSING] + 1u);
 }
 
+/* A whole block of zeros, bit by bit, as a home recorder sends it: B in the first entry, and no C bit. */
+static uint8_t consumer_block(void) {
+    uint8_t block[RIME_BLOCK] = {0}, out[RIME_OUT], refusal = RIME_DONE;
+    for (unsigned bit = 0; refusal == RIME_DONE && bit < 192; bit++)
+        refusal = rime_status_step(block, bit == 0 ? 8 : 0, RIME_MARK_SOUND, out);
+    if (refusal == RIME_DONE) printf("A block of consumer use: %s.\n", answers[out[RIME_OUT_ANSWER]]);
+    return refusal;
+}
+
 int main(void) {
     uint8_t sender[RIME_SENDER_STATE], receiver[RIME_RECEIVER_STATE], octets[RIME_CELL_OCTETS];
     uint8_t refusal = rime_sender_open(FORMAT, 13, 0, 0, false, 0, sender);
@@ -92,5 +109,10 @@ int main(void) {
     }
     printf("The line delivers the last cell again.\n");
     receive(receiver, octets);
+    refusal = consumer_block();
+    if (refusal != RIME_DONE) {
+        say_refused("The block", refusal);
+        return 1;
+    }
     return 0;
 }

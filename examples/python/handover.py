@@ -13,6 +13,7 @@ ROOM = 15 * ENTRIES
 CELLS, LOST, SPOILED = 4, 1, 3
 ON_THE_LINE = {LOST: " The line loses it.", SPOILED: " The line turns over its first bit."}
 MARKS = ["sound", "doubtful", "missing"]
+ANSWERS = ["neither", "doesn't fit", "fits", "none carried"]  # of a channel status block
 REASONS = [
     "done",
     "the format is none of the eleven",
@@ -25,6 +26,11 @@ REASONS = [
     "the cell's number is damaged",
     "the cell has the number of the last one",
     "the runs have too little room",
+    "a number or an indication in the log is wrong",
+    "a record of the log is cut",
+    "the log is too long",
+    "a channel status input cannot be",
+    "the cell came with indication 1, and its number isn't a multiple of 8",
 ]
 
 OCTETS = POINTER(c_uint8)
@@ -34,6 +40,13 @@ ARGUMENTS = {
     "rime_receiver_open": [c_uint32, c_uint32, c_uint32, OCTETS],
     "rime_receive": [OCTETS, OCTETS, c_size_t, c_bool, POINTER(c_uint64), c_size_t, OCTETS, c_size_t, OCTETS, c_size_t,
                      OCTETS],
+    "rime_aes3_import": [OCTETS, POINTER(c_uint32), POINTER(c_uint64), OCTETS],
+    "rime_aes3_export": [POINTER(c_uint64), OCTETS, OCTETS, POINTER(c_uint32)],
+    "rime_status_step": [OCTETS, c_uint8, c_uint8, OCTETS],
+    "rime_units_export": [c_uint32, c_uint32, c_size_t, POINTER(c_uint64), c_size_t, OCTETS, c_size_t, OCTETS, c_size_t,
+                          POINTER(c_uint64)],
+    "rime_unit_read": [c_uint32, c_uint32, OCTETS, c_size_t, POINTER(c_uint64), c_size_t, OCTETS, c_size_t,
+                       POINTER(c_uint64)],
 }
 
 
@@ -81,6 +94,13 @@ class Boxes:
         missing, number = report[0], report[1]
         return number, missing, list(zip(samples, marks))[:(missing + 1) * ENTRIES]
 
+    def block(self, bits):
+        """What is answered of a channel status block that comes bit by bit, B in its first entry."""
+        block, out = (c_uint8 * 25)(), (c_uint8 * 25)()
+        for at, bit in enumerate(bits):
+            self.call("rime_status_step", block, (8 if at == 0 else 0) + 4 * bit, 0, out)
+        return ANSWERS[out[0]]
+
 
 def receive(boxes, receiver, octets):
     try:
@@ -119,6 +139,7 @@ def main():
         print(f"Opening a sender of 13 channels: {refused}")
     try:
         reading(boxes)
+        print(f"A block of consumer use: {boxes.block([0] * 192)}.")
     except Refused as refused:
         sys.exit(f"The reading: {refused}")
 

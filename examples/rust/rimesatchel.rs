@@ -7,7 +7,7 @@ mod face;
 use std::fmt;
 
 /// What each refusal number means.
-const REASONS: [&str; 11] = [
+const REASONS: [&str; 16] = [
     "done",
     "the format is none of the eleven",
     "there are no channels, or more than slots",
@@ -19,6 +19,11 @@ const REASONS: [&str; 11] = [
     "the cell's number is damaged",
     "the cell has the number of the last one",
     "the runs have too little room",
+    "a number or an indication in the log is wrong",
+    "a record of the log is cut",
+    "the log is too long",
+    "a channel status input cannot be",
+    "the cell came with indication 1, and its number isn't a multiple of 8",
 ];
 
 #[derive(Debug, Clone, Copy)]
@@ -104,4 +109,17 @@ impl Receiver {
             samples.into_iter().zip(marks).take(handed).map(|(sample, mark)| Entry { sample, mark }).collect();
         unless_refused(refusal, Handed { number, missing, entries })
     }
+}
+
+/// What is answered of a channel status block.
+pub const ANSWERS: [&str; 4] = ["neither", "doesn't fit", "fits", "none carried"];
+
+/// The answer of a channel status block that comes bit by bit, B in its first entry.
+pub fn block(bits: &[u8]) -> Result<&'static str, Refusal> {
+    let (mut block, mut out) = ([0; 25], [0; 25]);
+    for (at, bit) in bits.iter().enumerate() {
+        let b = if at == 0 { 8 } else { 0 };
+        unless_refused(face::status_step(&mut block, b + 4 * bit, 0, &mut out), ())?;
+    }
+    Ok(ANSWERS[usize::from(out[0])])
 }

@@ -1,5 +1,7 @@
 // Document 01, "What the receiver writes": the gap between the last number and the next.
 use super::say;
+use super::wide;
+use libc::STDOUT_FILENO;
 use receiver::Receiver;
 use sender::Sender;
 
@@ -36,8 +38,16 @@ fn taken(last: u8, next: u8) -> receiver::Received {
     )
 }
 
+// A line: the refusal, and the missing count beside it, since a refused cell has none missing too.
+fn tell(what: &[u8], last: u8, next: u8) {
+    let got = taken(last, next);
+    io::write_all(STDOUT_FILENO, what);
+    io::print_decimal(STDOUT_FILENO, wide(got.refusal));
+    say(b", missing ", got.missing);
+}
+
 pub(crate) fn cases() {
-    say(b"last 15, next 0: missing ", taken(15, 0).missing);
-    say(b"last 3, next 2: missing ", taken(3, 2).missing);
-    say(b"last 3, next 3: refused ", taken(3, 3).refusal);
+    tell(b"last 15, next 0: refused ", 15, 0);
+    tell(b"last 3, next 2: refused ", 3, 2);
+    tell(b"last 3, next 3: refused ", 3, 3);
 }

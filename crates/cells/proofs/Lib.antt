@@ -1,3 +1,7 @@
+pub mod One
 pub mod Placement
+pub mod Places
+pub mod Sent
 pub mod Subframes
 pub mod Whole
+pub mod Wrong

@@ -1,14 +1,15 @@
 -- One subframe there and back, and a slot's subframe in a whole cell, for every format at once.
 -- Assumes nothing.
 use mathlib.Core.Bool.{Bool, cond}
-use mathlib.Core.Path.{_≡_, refl, sym, _∙_, ap}
-use Prim.Native.Nat.{ℕ, zero, suc, _+_, _*_, _/_, _%_, _^_, _≤_, _<_}
-use native.Mathlib.Nat.{pow-suc, mul-suc, add-comm, suc-mul, mul-le-mul-right}
+use mathlib.Core.Path.{_≡_, sym, _∙_, ap}
+use Prim.Native.Nat.{ℕ, suc, _+_, _*_, _/_, _%_, _^_, _≤_, _<_}
+use native.Mathlib.Nat.{add-comm, suc-mul, mul-le-mul-right}
 use native.Mathlib.Omega.{arith}
 use borrow.Author.Tests.{eq-eqb, ne-eqb, eqb-false}
 use lib.Arith.{digits-div, digits-mod, digits-lt}
 use lib.Dec.{eqb}
 use lib.Pow.{pow-add, pow-pos, shr-shr}
+use Rattle.runs.proofs.Laws as runs
 use Rattle.runs.proofs.Laws.{split}
 use Rattle.formats.specs.declared.Format.{Format}
 use Rattle.formats.specs.Sound.{Sound}
@@ -17,9 +18,7 @@ use Rattle.guards.proofs.Laws.{guard-le}
 use Rattle.cells.specs.Cells.{overheadOf, subframeOf, sampleIn, ancillaryIn, markIn}
 
 pub octets-pow : (w : ℕ) → 2 ^ (8 * w) ≡ 256 ^ w
-octets-pow zero = refl
-octets-pow (suc w) =
-    ap (λ (k : ℕ). 2 ^ k) (mul-suc 8 w) ∙ pow-add 2 (8 * w) 8 ∙ ap (λ (n : ℕ). n * 256) (octets-pow w) ∙ sym (pow-suc 256 w)
+octets-pow w = runs.octets-pow w
 
 -- bits of a part are four or none
 four-of : (n : ℕ) → n % 4 ≡ 0 → n ≤ 4 → (n ≡ 0 → ⊥) → n ≡ 4

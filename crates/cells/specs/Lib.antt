@@ -1,3 +1,4 @@
 pub mod Cells
 pub mod Code
 pub mod Placement
+pub mod Sent

@@ -5,10 +5,15 @@ use Prim.Native.Nat.{ℕ, _+_, _*_, _/_, _%_}
 use lib.Dec.{ltb}
 use lib.ListN.{getD}
 use mathlib.Core.List.{List}
+use Rattle.formats.specs.Formats.{timesOf, formatOf}
 
 -- "Order 0: channel c at time t is in slot t×C + c. Order 1: slot c×T + t."
 unfoldable pub slotOf : Bool → ℕ → ℕ → ℕ → ℕ → ℕ
 slotOf byChannel channels times channel time = cond byChannel (channel * times + time) (time * channels + channel)
+
+-- "C times T slots are used": C×T, by the octet and C
+abbrev pub usedOf : ℕ → ℕ → ℕ
+usedOf octet channels = channels * timesOf (formatOf octet .slots) channels
 
 -- "Sample runs hold time after time, channels side by side": the slot of a run's entry
 unfoldable pub slotOfEntry : Bool → ℕ → ℕ → ℕ → ℕ

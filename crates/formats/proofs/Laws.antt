@@ -19,7 +19,23 @@ use Rattle.runs.proofs.Laws.{every-at, both-left, both-right, past, neither, sp
 use Rattle.formats.specs.declared.Format.{Format}
 use Rattle.formats.specs.declared.Settled.{Settled}
 use Rattle.formats.specs.Sound.{Sound, Limits}
-use Rattle.formats.specs.Formats.{lengthOf, sampleBits, ancillaryBits, overheadBits, widthOf, slotsOf, eleven, isAmong, isBase, noFormat, formatOf, settingsRefusal, settingsOf, settled, unsettledBy}
+use Rattle.formats.specs.Formats.{
+  lengthOf,
+  sampleBits,
+  ancillaryBits,
+  overheadBits,
+  isReserved,
+  wholes,
+  widthOf,
+  slotsOf,
+  eleven,
+  isAmong,
+  isBase,
+  noFormat,
+  formatOf,
+  settingsRefusal,
+}
+use Rattle.formats.specs.Settings.{settingsOf, settled, unsettledBy}
 use Rattle.formats.specs.Code.{refusalBy, isUsual, usualWith}
 
 pub length-low : {code : ℕ} → code < 2 → lengthOf code ≡ 0
@@ -41,22 +57,18 @@ unfolding sampleBits lengthOf every
 sample-le octet =
     leb→le (lengthOf (octet % 16)) 40 (every-at (λ k. leb (lengthOf k) 40) 16 tt (octet % 16) (mod-lt octet (omega arith)))
 
--- "The whole subframe must have 8, 16, 24, 32 or 48 bits"
-abbrev pub wholes : List ℕ
-wholes = 8 ∷ 16 ∷ 24 ∷ 32 ∷ 48 ∷ []
-
 abbrev pub bitsOf : ℕ → ℕ → ℕ
 bitsOf sample octet = sample + 4 * (octet / 64) + 4 * (octet / 16 % 4)
 
--- the rules of the paper's first paragraph for an octet with no or four ancillary bits, with overhead alone left out as not yet
--- in the base
+-- the rules in the code's order for a number below 128, with overhead alone left out as not yet in the base
 pub ruled : ℕ → Bool
 ruled octet =
-    cond (ltb (octet / 64) (octet / 16 % 4)) false
+    cond (isReserved (octet / 16 % 4)) false
+    (cond (ltb (octet / 64) (octet / 16 % 4)) false
     (cond (eqb (sampleBits octet) 0) false
-    (isAmong (bitsOf (sampleBits octet) octet) wholes))
+    (isAmong (bitsOf (sampleBits octet) octet) wholes)))
 
-beq-eq : (a b : Bool) → T (Bool·beq a b) → a ≡ b
+pub beq-eq : (a b : Bool) → T (Bool·beq a b) → a ≡ b
 beq-eq true true t = refl
 beq-eq true false t = absurd t
 beq-eq false true t = absurd t
@@ -81,11 +93,11 @@ not-true false h = refl
 pub among-miss : (keys : List ℕ) (n : ℕ) → (OneOf keys n → ⊥) → isAmong n keys ≡ false
 among-miss keys n none = sym (among-key keys n) ∙ not-true (hasKey keys n) (λ t. none (hit keys n t))
 
-below : ℕ → List ℕ → Bool
+unfoldable pub below : ℕ → List ℕ → Bool
 below bound [] = true
 below bound (x ∷ xs) = ltb x bound && below bound xs
 
-among-below : (bound : ℕ) (xs : List ℕ) {n : ℕ} → T (below bound xs) → bound ≤ n → isAmong n xs ≡ false
+pub among-below : (bound : ℕ) (xs : List ℕ) {n : ℕ} → T (below bound xs) → bound ≤ n → isAmong n xs ≡ false
 unfolding below isAmong
 among-below bound [] t h = refl
 among-below bound (x ∷ xs) {n} t h =
@@ -161,18 +173,23 @@ unfolding formatOf
 no-slots octet h = rw h
 
 module _ {octet : ℕ} (h : octet < 128) where
-  pub by-overhead : octet / 64 < octet / 16 % 4 → isBase octet ≡ false
+  pub by-reserved : 1 < octet / 16 % 4 → isBase octet ≡ false
   unfolding ruled
-  by-overhead alone = rw (← ruled-base h, lt-ltb _ _ alone)
+  by-reserved reserved = rw (← ruled-base h, lt-ltb _ _ reserved)
 
-  module _ (with : octet / 16 % 4 ≤ octet / 64) where
-    pub by-length : sampleBits octet ≡ 0 → isBase octet ≡ false
+  module _ (known : octet / 16 % 4 ≤ 1) where
+    pub by-overhead : octet / 64 < octet / 16 % 4 → isBase octet ≡ false
     unfolding ruled
-    by-length reserved = rw (← ruled-base h, le-ltb _ _ with, eq-eqb _ _ reserved)
+    by-overhead alone = rw (← ruled-base h, le-ltb _ _ known, lt-ltb _ _ alone)
 
-    pub by-bits : (sampleBits octet ≡ 0 → ⊥) → isAmong (bitsOf (sampleBits octet) octet) wholes ≡ isBase octet
-    unfolding ruled
-    by-bits known = rw (← ruled-base h, le-ltb _ _ with, ne-eqb _ _ known)
+    module _ (with : octet / 16 % 4 ≤ octet / 64) where
+      pub by-length : sampleBits octet ≡ 0 → isBase octet ≡ false
+      unfolding ruled
+      by-length reserved = rw (← ruled-base h, le-ltb _ _ known, le-ltb _ _ with, eq-eqb _ _ reserved)
+
+      pub by-bits : (sampleBits octet ≡ 0 → ⊥) → isAmong (bitsOf (sampleBits octet) octet) wholes ≡ isBase octet
+      unfolding ruled
+      by-bits some = rw (← ruled-base h, le-ltb _ _ known, le-ltb _ _ with, ne-eqb _ _ some)
 
 pub slots-by-bits : (octet : ℕ) {bits : ℕ} → isBase octet ≡ true → bitsOf (sampleBits octet) octet ≡ bits
     → 48 / (bits / 8) ≡ formatOf octet .slots

@@ -6,7 +6,20 @@ use native.Mathlib.Omega.{arith}
 use contract.Lifetimes.{Lfts}
 use Rattle.runs.proofs.Wrong.{Never}
 use Rattle.formats.specs.declared.Settled.{Settled}
-use Rattle.formats.specs.Formats.{lengthOf, sampleBits, ancillaryBits, overheadBits, eleven, isAmong, isBase, widthOf, slotsOf, formatOf, settingsRefusal, settingsOf}
+use Rattle.formats.specs.Formats.{
+  lengthOf,
+  sampleBits,
+  ancillaryBits,
+  overheadBits,
+  eleven,
+  isAmong,
+  isBase,
+  widthOf,
+  slotsOf,
+  formatOf,
+  settingsRefusal,
+}
+use Rattle.formats.specs.Settings.{settingsOf}
 use Rattle.formats.specs.Code.{isUsual}
 use Rattle.formats.proofs.settings.Kinds as settings-kinds
 use Rattle.formats.proofs.settings.Reads as settings-reads

@@ -1,11 +1,11 @@
--- Subframe formats, document 01: what the subframe octet (6.2) says, T, and checks 1 to 3.
+-- Subframe formats, document 01: what the subframe octet (6.2) says by the rules and by the table, T, and checks 1 to 3. That rules and
+-- table agree is proved (formats/proofs/Agree).
 -- Assumes nothing.
-use mathlib.Core.Bool.{Bool, false, cond, not, _||_}
+use mathlib.Core.Bool.{Bool, false, cond, not, _&&_, _||_}
 use mathlib.Core.List.{List, [], _∷_}
 use Prim.Native.Nat.{ℕ, _+_, _*_, _/_, _%_}
 use lib.Dec.{eqb, leb, ltb}
 use Rattle.formats.specs.declared.Format.{Format}
-use Rattle.formats.specs.declared.Settled.{Settled}
 
 -- "0 and 1 reserved, 2 to 8 mean four times the code, 9 reserved, 10 means 40, 11 to 15 reserved": 0 for what is reserved
 unfoldable pub lengthOf : ℕ → ℕ
@@ -23,18 +23,27 @@ ancillaryBits octet = octet / 64 * 4
 unfoldable pub overheadBits : ℕ → ℕ
 overheadBits octet = octet / 16 % 4 * 4
 
--- the table's octets: the eleven base formats
-unfoldable pub eleven : List ℕ
-eleven = 0x02 ∷ 0x04 ∷ 0x06 ∷ 0x08 ∷ 0x43 ∷ 0x45 ∷ 0x47 ∷ 0x52 ∷ 0x54 ∷ 0x56 ∷ 0x5A ∷ []
-
 -- n is one of the numbers
 unfoldable pub isAmong : ℕ → List ℕ → Bool
 isAmong n [] = false
 isAmong n (x ∷ xs) = eqb x n || isAmong n xs
 
--- not refused 1: "the octet is none of the eleven"
-unfoldable pub isBase : ℕ → Bool
-isBase octet = isAmong octet eleven
+-- "1x reserved", of the two bits that say ancillary or overhead
+abbrev pub isReserved : ℕ → Bool
+isReserved code = ltb 1 code
+
+-- "The whole subframe must have 8, 16, 24, 32 or 48 bits."
+abbrev pub wholes : List ℕ
+wholes = 8 ∷ 16 ∷ 24 ∷ 32 ∷ 48 ∷ []
+
+-- a number that is an octet, and valid by these rules
+unfoldable pub isValid : ℕ → Bool
+isValid octet =
+    ltb octet 256
+    && not (isReserved (octet / 64))
+    && not (isReserved (octet / 16 % 4))
+    && not (eqb (sampleBits octet) 0)
+    && isAmong (sampleBits octet + ancillaryBits octet + overheadBits octet) wholes
 
 -- the octets that a subframe fills
 unfoldable pub widthOf : ℕ → ℕ
@@ -43,6 +52,42 @@ widthOf octet = (sampleBits octet + ancillaryBits octet + overheadBits octet) / 
 -- S, the slots in a cell of 48 octets
 unfoldable pub slotsOf : ℕ → ℕ
 slotsOf octet = 48 / widthOf octet
+
+-- a row of the table
+pub record FormatRow : Type 0 where
+  pub octet : ℕ
+  pub ancillary : ℕ
+  pub overhead : ℕ
+  pub sample : ℕ
+  pub slots : ℕ
+
+abbrev pub row : ℕ → ℕ → ℕ → ℕ → ℕ → FormatRow
+row octet ancillary overhead sample slots =
+    record { octet = octet; ancillary = ancillary; overhead = overhead; sample = sample; slots = slots }
+
+-- "Base formats, with S the slots in a cell": octet; ancillary, overhead and sample bits; S
+abbrev pub baseFormats : List FormatRow
+baseFormats =
+    row 0x02 0 0 8 48 ∷ row 0x04 0 0 16 24 ∷ row 0x06 0 0 24 16 ∷ row 0x08 0 0 32 12
+    ∷ row 0x43 4 0 12 24 ∷ row 0x45 4 0 20 16 ∷ row 0x47 4 0 28 12
+    ∷ row 0x52 4 4 8 24 ∷ row 0x54 4 4 16 16 ∷ row 0x56 4 4 24 12 ∷ row 0x5A 4 4 40 8
+    ∷ []
+
+abbrev pub octetsIn : List FormatRow → List ℕ
+octetsIn [] = []
+octetsIn (r ∷ rs) = r .octet ∷ octetsIn rs
+
+-- the table's octets: the eleven base formats
+unfoldable pub eleven : List ℕ
+eleven = octetsIn baseFormats
+
+-- "13, 15 and 17 hex (overhead alone) are valid in the standard but not yet in the base."
+abbrev pub notYet : List ℕ
+notYet = 0x13 ∷ 0x15 ∷ 0x17 ∷ []
+
+-- not refused 1: "the octet is none of the eleven"
+unfoldable pub isBase : ℕ → Bool
+isBase octet = isAmong octet eleven
 
 -- the format of an octet of the eleven, and all zeros for any other
 abbrev pub noFormat : Format
@@ -68,25 +113,3 @@ timesOf slots channels = slots / channels
 unfoldable pub settingsRefusal : ℕ → ℕ → ℕ → ℕ
 settingsRefusal octet channels order =
     cond (not (isBase octet)) 1 (cond (eqb channels 0 || ltb (slotsOf octet) channels) 2 (cond (ltb 1 order) 3 0))
-
--- what is settled where no check refuses
-abbrev pub settled : ℕ → ℕ → ℕ → Settled
-settled octet channels order =
-    record {
-      refusal = 0;
-      format = formatOf octet;
-      channels = channels;
-      times = timesOf (formatOf octet .slots) channels;
-      «by_channel» = eqb order 1;
-    }
-
--- "Every refusal returns its number .. with any other reported number 0"
-abbrev pub unsettledBy : ℕ → Settled
-unsettledBy refusal = record { refusal = refusal; format = noFormat; channels = 0; times = 0; «by_channel» = false }
-
--- what an octet, C and an order settle, or their refusal
-unfoldable pub settingsOf : ℕ → ℕ → ℕ → Settled
-settingsOf octet channels order =
-    cond (eqb (settingsRefusal octet channels order) 0)
-    (settled octet channels order)
-    (unsettledBy (settingsRefusal octet channels order))

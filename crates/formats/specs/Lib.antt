@@ -1,3 +1,4 @@
 pub mod Code
 pub mod Formats
+pub mod Settings
 pub mod Sound

@@ -1,11 +1,12 @@
--- What the format of each of the eleven octets has; that it has it is proved, and nothing else of an octet is used above.
+-- Words of the code, which document 01 doesn't have: what all formats share, and what settings bound. That each of the eleven has it is
+-- proved (formats/proofs/Laws). Laws of cells, sending and receiving are then proved once, for all formats.
 -- Assumes nothing.
 use mathlib.Core.Path.{_≡_}
 use Prim.Native.Nat.{_+_, _*_, _%_, _≤_}
 use Rattle.formats.specs.declared.Format.{Format}
 use Rattle.formats.specs.declared.Settled.{Settled}
 
--- what all formats share: everything that is proved of cells is proved from it, once for all formats
+-- of a format: its bits fill whole octets, its slots the cell, and each number has its bounds
 pub record Sound (f : Format) : Type 0 where
   pub bits : f .«sample_bits» + f .«ancillary_bits» + f .«overhead_bits» ≡ 8 * f .width
   pub cell : f .slots * f .width ≡ 48
@@ -20,7 +21,7 @@ pub record Sound (f : Format) : Type 0 where
   pub slots-from : 8 ≤ f .slots
   pub slots-to : f .slots ≤ 48
 
--- what settings bound where nothing refuses them
+-- of settings that nothing refuses
 pub record Limits (set : Settled) : Type 0 where
   pub sound : Sound (set .format)
   pub channels-from : 1 ≤ set .channels

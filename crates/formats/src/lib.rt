@@ -2,7 +2,8 @@
 ghost use mathlib.Core.Bool.{cond};
 ghost use mathlib.Core.Path.{_≡_};
 ghost use Prim.Native.Nat.{_/_, _≤_};
-ghost use Rattle.formats.specs.Formats.{sampleBits, formatOf, settingsOf, unsettledBy};
+ghost use Rattle.formats.specs.Formats.{sampleBits, formatOf};
+ghost use Rattle.formats.specs.Settings.{settingsOf, unsettledBy};
 ghost use Rattle.formats.specs.Code.{refusalBy, isUsual, usualWith};
 
 // One subframe in bits, and how many octets wide it is; S, the slots in a cell. All zeros stand for no format.
@@ -39,8 +40,8 @@ fn sample_bits(octet: u32) -> u32
     }
 }
 
-// S, the slots in a cell, for an octet with these sample bits: 0 where the octet, as a number that is not cut to an octet before,
-// is none of the eleven base formats. It goes by the rules of the paper's first paragraph, and not by its table.
+// S, the slots in a cell, for an octet with these sample bits: 0 where it is none of the eleven base formats. The number isn't cut
+// to an octet before. It goes by the rules of the paper's first paragraph and not by its table; the two are proved to agree.
 fn slots_of(octet: u32, sample: u32) -> usize
     requires { ⌜ sample ≡ sampleBits octet ⌝ }
     ensures { λ r. ⌜ r ≡ formatOf octet .slots ⌝ }
@@ -50,6 +51,10 @@ fn slots_of(octet: u32, sample: u32) -> usize
         return 0;
     }
     let overhead = octet / 16 % 4;
+    if 1 < overhead {
+        return 0;
+    }
+    // overhead alone: not yet in the base
     if ancillary < overhead {
         return 0;
     }

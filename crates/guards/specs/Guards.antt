@@ -5,7 +5,7 @@ use Rattle.runs.specs.Division.{remainder}
 
 -- "the nine top sample bits"; "an 8-bit sample has a ninth bit of 0"
 unfoldable pub nineOf : ℕ → ℕ → ℕ
-nineOf length sample = sample * 512 / 2 ^ length % 512
+nineOf bits sample = sample * 512 / 2 ^ bits % 512
 
 -- "The complement of the remainder by x^3 + x + 1 of x^4 times the nine top sample bits (the top one as x^8) plus x^3 times V":
 -- of nine bits and V as one number of ten bits
@@ -14,4 +14,4 @@ tenGuard ten = 7 - remainder 3 0b1011 13 (ten * 8)
 
 -- of a sample of so many bits, and V
 unfoldable pub guardOf : ℕ → ℕ → ℕ → ℕ
-guardOf length sample v = tenGuard (nineOf length sample * 2 + v % 2)
+guardOf bits sample v = tenGuard (nineOf bits sample * 2 + v % 2)

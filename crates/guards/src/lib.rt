@@ -1,7 +1,9 @@
-// Protection of a sample, document 01.
+// Protection of a sample, document 01: the three bits as a table. tools/tables.py prints its numbers.
 ghost use mathlib.Core.Path.{_≡_};
 ghost use Rattle.guards.specs.Code.{sevenGuards};
 
+// Entry n: the protection bits of the number n. Nine sample bits and V are ten bits; those ten have the protection bits of the seven
+// that are left when the top three are added to the low ones without carries.
 const SEVENS: [u8; 128] = [
     7,
     4,
@@ -133,8 +135,7 @@ const SEVENS: [u8; 128] = [
     7,
 ];
 
-// The three bits for each number that ten bits are folded to, for one that needs many: a caller keeps the table for all of a
-// cell's slots, and reads it at `(ten ^ (ten >> 7)) % 128`.
+// The table, by value: a caller fetches it once for all slots of a cell, and reads it at `(ten ^ (ten >> 7)) % 128`.
 pub fn sevens() -> [u8; 128]
     ensures { λ r. ⌜ r ≡ sevenGuards ⌝ }
 {

@@ -1,28 +1,15 @@
--- The cases marked P, one statement: what the definitions give is what the paper says.
+-- The cases marked P, one whole cell, and the examples that Appendix 2 of source document 002 prints: what the definitions give is what
+-- is printed.
 -- Assumes nothing.
 use mathlib.Core.Path.{_≡_, refl}
-use lib.Count.{ones, onesIn}
-use Rattle.runs.specs.Division.{coefficients, divided, takenDown}
-use Rattle.runs.specs.Runs.{joined, octetsOf}
-use Rattle.formats.specs.Formats.{
-  lengthOf,
-  sampleBits,
-  ancillaryBits,
-  overheadBits,
-  eleven,
-  isAmong,
-  isBase,
-  widthOf,
-  slotsOf,
-  formatOf,
-}
-use Rattle.numbers.specs.Numbers.{tableA1, turned, protectionOf, sevenOf, dividedEntry, wordBit}
-use Rattle.guards.specs.Guards.{nineOf, tenGuard, guardOf}
-use Rattle.cells.specs.Cells.{overheadOf, subframeOf, slotOctets, cellOf}
-use Rattle.cells.specs.Placement.{slotOf, entryOfSlot, carried}
-use Rattle.sender.specs.Sender.{cellNow, secondNow}
-use Rattle.line.specs.Cases.{given, wanted}
+use Rattle.status.specs.Examples.{appendixGiven, appendixPrinted}
+use Rattle.status.proofs.Examples.{appendixExamples}
+use Rattle.line.specs.Cases.{defined, printed}
+use Rattle.line.proofs.Opened.{opened}
 
-pub the-paper's-cases : given ≡ wanted
-unfolding given wanted ones onesIn coefficients divided takenDown joined octetsOf lengthOf sampleBits ancillaryBits overheadBits eleven isAmong isBase widthOf slotsOf formatOf tableA1 turned protectionOf sevenOf dividedEntry wordBit nineOf tenGuard guardOf overheadOf subframeOf slotOctets cellOf slotOf entryOfSlot carried cellNow secondNow
-the-paper's-cases = refl
+worked : defined ≡ printed
+unfolding opened defined printed
+worked = refl
+
+pub the-paper's-cases : (defined ≡ printed) × (appendixGiven ≡ appendixPrinted)
+the-paper's-cases = (worked, appendixExamples)

@@ -1,90 +1,177 @@
 -- The demands on one page: each statement beside the minutes' sentence, each proof a citation.
 -- Assumes nothing.
-use mathlib.Core.List.{List, map}
-use mathlib.Core.Path.{_≡_, refl, _∙_}
-use Prim.Native.Nat.{_≤_}
+use mathlib.Core.Bool.{Bool, cond, _||_}
+use mathlib.Core.List.{List, [], _∷_}
+use mathlib.Core.Path.{_≡_}
+use Prim.Native.Nat.{ℕ}
 use native.Mathlib.Nat.{le-trans}
-use lib.ListN.{length}
-use Rattle.formats.specs.Formats.{formatOf}
-use Rattle.sender.specs.declared.Sender.{Sender}
+use lib.ListN.{length, take}
+use Rattle.runs.specs.Runs.{over}
+use Rattle.formats.specs.Formats.{settingsRefusal}
+use Rattle.sender.specs.declared.Ready as SR
 use Rattle.sender.specs.Sender as S
+use Rattle.receiver.specs.declared.Ready.{Ready}
 use Rattle.receiver.specs.Receiver as R
-use Rattle.line.specs.Demands.{
+use Rattle.status.specs.declared.step.Block.{Block}
+use Rattle.status.specs.declared.step.Stepped.{Stepped}
+use Rattle.status.specs.Step.{isRefused}
+use Rattle.log.specs.declared.Number.{Number}
+use Rattle.log.specs.declared.Header.{Header}
+use Rattle.log.specs.declared.Record.{Record}
+use Rattle.log.specs.declared.keep.Kept.{Kept}
+use Rattle.log.specs.Numbers.{isCut, isLong, isPadded, numberAt}
+use Rattle.log.specs.Records.{headerRefusal, secondNumber, thirdNumber}
+use Rattle.log.specs.Written.{numberRefusal, headerRefused, recordRefusal}
+use Rattle.listing.specs.declared.Listed.{Listed}
+use Rattle.listing.specs.Lines.{logRefusedLine}
+use Rattle.listing.specs.List.{listRefusal}
+use Rattle.listing.specs.Text.{listed}
+use Rattle.cable.specs.declared.Imported.{Imported}
+use Rattle.cable.specs.declared.Exported.{Exported}
+use Rattle.cable.specs.Frames.{importRefusal, exportRefusal}
+use Rattle.line.specs.Contracts.{
   SendCall,
-  Sends,
+  MeetsSend,
   ReceiveCall,
-  Receives,
+  MeetsReceive,
+  MeetsOpenSender,
+  MeetsOpenReceiver,
+  MeetsStep,
+  MeetsReadNumber,
+  MeetsReadHeader,
+  MeetsReadRecord,
+  MeetsReadCell,
+  MeetsNextPlace,
+  MeetsWriteNumber,
+  MeetsWriteHeader,
+  MeetsWriteRecord,
+  MeetsList,
+  MeetsImport,
+  MeetsExport,
+}
+use Rattle.line.specs.Demands.{
+  Refuses,
+  sendTable,
   SentNothing,
+  receiveTable,
   ReceivedNothing,
+  SteppedNothing,
+  recordTable,
+  ReadNothing,
+  IsDocument01's,
   InSettings,
+  formatIn,
   GivesBack,
   Tells,
 }
-use Rattle.line.specs.Line.{
-  Trip,
-  InARow,
-  Fair,
-  longest,
-  Row,
-  got,
-  arrivals,
-  WithRoom,
-  Column,
-  handed,
-  shown,
-  toLast,
-  fromFirst,
-  Demand3,
-  Demanded,
-}
+use Rattle.line.specs.Line.{Demand3}
 use Rattle.line.proofs.Calls.{sends-or-nothing, receives-or-nothing, gives-back, tells}
-use Rattle.line.proofs.Places.{due-places, between, longest-inside}
-use Rattle.line.proofs.Rows.{never, hands-out}
+use Rattle.line.proofs.Cells.{is-document-01's}
+use Rattle.line.proofs.Places.{longest-inside, demand-3-inside}
+use Rattle.line.proofs.Refused.{
+  opens-sender,
+  opens-receiver,
+  steps,
+  reads-number,
+  reads-header,
+  reads-record,
+  reads-cell,
+  next-stays,
+  keeps,
+  lists,
+  imports,
+  exports,
+}
 
--- 1. "It refuses exactly where document 01's table says so, under that number; the state then comes back as it went in and nothing
--- lent changes."
-pub demand-1-send : (c : SendCall) → Sends c
-    → (c .answer .refusal ≡ S.sendRefusal (c .state) (c .indication) (c .samples) (c .ancillary) (length (c .cell)))
-    × ((c .answer .refusal ≡ 0 → ⊥) → SentNothing c)
+-- 1. "Each public call takes arbitrary octets, numbers, run lengths and states, and ends with an answer. It refuses exactly where
+-- document 01's table says so, under that number; the state then comes back as it went in and nothing lent changes."
+pub demand-1-send : (s : SendCall) → MeetsSend s → Refuses (s .answer .refusal) (sendTable s) (SentNothing s)
 demand-1-send = sends-or-nothing
 
-pub demand-1-receive : (c : ReceiveCall) → Receives c
-    → (c .answer .refusal
-    ≡ R.receiveRefusal (c .state) (c .cell) (length (c .samples)) (length (c .ancillary)) (length (c .marks)))
-    × ((c .answer .refusal ≡ 0 → ⊥) → ReceivedNothing c)
+pub demand-1-receive : (r : ReceiveCall) → MeetsReceive r → Refuses (r .answer .refusal) (receiveTable r) (ReceivedNothing r)
 demand-1-receive = receives-or-nothing
 
--- 2. "A packed cell that a receiver in the sender's settings takes unaltered gives back every sample and ancillary bit; slots with no
--- channel are zero."
-pub demand-2 : (s : SendCall) (r : ReceiveCall) → Sends s → s .answer .refusal ≡ 0 → InSettings (s .state) (r .state)
-    → r .cell ≡ s .written → Receives r → r .answer .refusal ≡ 0 → GivesBack s r
+pub demand-1-open-sender : (octet channels order number : ℕ) (wanted : Bool) (second : ℕ) (r : SR.Ready)
+    → MeetsOpenSender octet channels order number wanted second r
+    → Refuses (r .refusal) (S.stateRefusal (S.openState octet channels order number wanted second)) (r .state ≡ S.zeroState)
+demand-1-open-sender = opens-sender
+
+pub demand-1-open-receiver : (octet channels order : ℕ) (r : Ready) → MeetsOpenReceiver octet channels order r
+    → Refuses (r .refusal) (settingsRefusal octet channels order) (r .state ≡ R.zeroState)
+demand-1-open-receiver = opens-receiver
+
+pub demand-1-status : (block : Block) (ancillary mark : ℕ) (r : Stepped) → MeetsStep block ancillary mark r
+    → Refuses (r .handed .refusal) (cond (isRefused (block .bits) ancillary mark) 14 0) (SteppedNothing block r)
+demand-1-status = steps
+
+pub demand-1-read-number : (log : List ℕ) (place : ℕ) (r : Number) → MeetsReadNumber log place r
+    → Refuses (r .refusal) (cond (isCut log place || (isLong log place || isPadded log place)) 11 0) ((r .value ≡ 0) × (r .next ≡ 0))
+demand-1-read-number = reads-number
+
+pub demand-1-read-header : (log : List ℕ) (r : Header) → MeetsReadHeader log r
+    → Refuses (r .refusal) (headerRefusal (numberAt log 0) (secondNumber log) (thirdNumber log))
+    ((r .place ≡ 0) × (r .format ≡ 0) × (r .channels ≡ 0) × (r .order ≡ 0))
+demand-1-read-header = reads-header
+
+pub demand-1-read-record : (log : List ℕ) (place : ℕ) (r : Record) → MeetsReadRecord log place r
+    → Refuses (r .refusal) (recordTable log place) (ReadNothing r)
+demand-1-read-record = reads-record
+
+pub demand-1-read-cell : (log : List ℕ) (place : ℕ) (part : List ℕ) → MeetsReadCell log place part
+    → (recordTable log place ≡ 0 → ⊥) → part ≡ []
+demand-1-read-cell = reads-cell
+
+pub demand-1-next-place : (log : List ℕ) (place next : ℕ) → MeetsNextPlace log place next → (recordTable log place ≡ 0 → ⊥) → next ≡ place
+demand-1-next-place = next-stays
+
+pub demand-1-write-number : (log : List ℕ) (place value : ℕ) (r : Kept) (after : List ℕ) → MeetsWriteNumber log place value r after
+    → Refuses (r .refusal) (numberRefusal log place value) ((r .next ≡ 0) × (after ≡ log))
+demand-1-write-number log place value r after meets = keeps meets
+
+pub demand-1-write-header : (log : List ℕ) (octet channels order : ℕ) (r : Kept) (after : List ℕ)
+    → MeetsWriteHeader log octet channels order r after
+    → Refuses (r .refusal) (headerRefused log octet channels order) ((r .next ≡ 0) × (after ≡ log))
+demand-1-write-header log octet channels order r after meets = keeps meets
+
+pub demand-1-write-record : (log : List ℕ) (place : ℕ) (indication : Bool) (cell : List ℕ) (r : Kept) (after : List ℕ)
+    → MeetsWriteRecord log place indication cell r after
+    → Refuses (r .refusal) (recordRefusal log place cell) ((r .next ≡ 0) × (after ≡ log))
+demand-1-write-record log place indication cell r after meets = keeps meets
+
+-- a list has no number of its own to refuse with: a log that is refused has just the line that says so
+pub demand-1-list : (log run : List ℕ) (r : Listed) (after : List ℕ) → MeetsList log run r after → (listRefusal log ≡ 0 → ⊥)
+    → (r ≡ listed (length run) (logRefusedLine (listRefusal log)))
+    × (after ≡ over (take (length run) (logRefusedLine (listRefusal log))) run)
+demand-1-list = lists
+
+pub demand-1-import : (preambles subframes : List ℕ) (r : Imported) → MeetsImport preambles subframes r
+    → Refuses (r .refusal) (importRefusal preambles subframes) ((r .samples ≡ 0 ∷ 0 ∷ []) × (r .ancillary ≡ 0 ∷ 0 ∷ []))
+demand-1-import = imports
+
+pub demand-1-export : (samples ancillary : List ℕ) (r : Exported) → MeetsExport samples ancillary r
+    → Refuses (r .refusal) (exportRefusal samples ancillary) ((r .preambles ≡ 0 ∷ 0 ∷ []) × (r .subframes ≡ 0 ∷ 0 ∷ []))
+demand-1-export = exports
+
+-- 2. "Cells, number protection, data protection and placement are document 01's for every format listed."
+pub demand-2-cell : (s : SendCall) → MeetsSend s → s .answer .refusal ≡ 0 → IsDocument01's s
+demand-2-cell = is-document-01's
+
+-- "A packed cell that a receiver in the sender's settings takes unaltered gives back every sample and ancillary bit; slots with no
+-- channel are zero": the latter is `unused` of demand-2-cell.
+pub demand-2 : (s : SendCall) (r : ReceiveCall) → MeetsSend s → s .answer .refusal ≡ 0 → InSettings (s .state) (r .state)
+    → r .cell ≡ s .written → MeetsReceive r → r .answer .refusal ≡ 0 → GivesBack s r
 demand-2 = gives-back
 
 -- Beside it, with overhead: the numbers that the cell carries are reported.
-pub demand-2-numbers : (s : SendCall) (r : ReceiveCall) → Sends s → s .answer .refusal ≡ 0 → InSettings (s .state) (r .state)
-    → (formatOf (s .state .format) .«overhead_bits» ≡ 0 → ⊥) → r .cell ≡ s .written → Receives r → r .answer .refusal ≡ 0 → Tells s r
+pub demand-2-numbers : (s : SendCall) (r : ReceiveCall) → MeetsSend s → s .answer .refusal ≡ 0 → InSettings (s .state) (r .state)
+    → r .cell ≡ s .written → MeetsReceive r → r .answer .refusal ≡ 0 → (formatIn s .«overhead_bits» ≡ 0 → ⊥) → Tells s r
 demand-2-numbers = tells
-
--- What demand 3 says and a little more: cells lost before the first unaltered one and after the last may be more than fourteen.
-pub demand-3-inside : (st : Sender) (trips : List Trip) (calls : List ReceiveCall) (column : Column)
-    → (formatOf (st .format) .«overhead_bits» ≡ 0 → ⊥)
-    → InARow st trips
-    → Fair 3 st trips
-    → longest 0 (toLast (fromFirst trips)) ≤ 14
-    → Row Receives (R.openState (st .format) (st .channels) (st .order)) calls
-    → map got calls ≡ arrivals st trips
-    → WithRoom calls
-    → handed column (S.usedNow st) calls ≡ shown column (S.usedNow st) (toLast (fromFirst trips))
-demand-3-inside st trips calls column with-overhead row fair few meets came room =
-    hands-out column trips st (R.openState (st .format) (st .channels) (st .order)) never calls with-overhead
-    (record { format = refl; channels = refl; order = refl }) (refl, refl) row fair (between 14 trips few) meets came room
-    ∙ due-places column (S.usedNow st) trips
 
 -- 3. "A format with overhead, cells that one sender wrote in a row, a line that drops some and spoils others (one, two or three of the
 -- first eight sequencing bits and perhaps anything else), at most fourteen in a row, a fresh receiver in the sender's settings with
 -- room: from the first unaltered cell to the last each sample and its ancillary bits stand in their sent place, exact and marked
 -- sound; each place of a dropped or spoiled cell holds zero and is marked missing; nothing else is handed out."
-pub demand-3 : Demanded Receives
+pub demand-3 : Demand3 3 14 MeetsSend MeetsReceive
 unfolding Demand3
-demand-3 st trips calls column with-overhead row fair few meets came room =
-    demand-3-inside st trips calls column with-overhead row fair (le-trans (longest-inside trips) few) meets came room
+demand-3 st sends trips receives with-overhead row these fair few =
+    demand-3-inside st sends trips receives with-overhead row these fair (le-trans (longest-inside trips) few)

@@ -2,7 +2,12 @@ pub mod Calls
 pub mod Cases
 pub mod Cells
 pub mod Demands
+pub mod Ensures
+pub mod Frames
+pub mod Opened
 pub mod Places
+pub mod Refused
 pub mod Rows
 pub mod Sharp
 pub mod Steps
+pub mod Units

@@ -1,73 +1,70 @@
 -- What is due is what must be shown from the first unaltered cell to the last, and how long rows of lost cells bound it.
 -- Assumes nothing.
 use mathlib.Core.Bool.{true, false, true≢false, cond}
-use mathlib.Core.List.{List, [], _∷_, _++_, append-assoc}
-use mathlib.Core.Path.{_≡_, refl, sym, _∙_, ap, ap₂}
-use Prim.Native.Nat.{ℕ, suc, _*_, _≤_, max}
-use native.Mathlib.Nat.{zero-mul, suc-mul, le-refl, le-trans, le-suc}
+use mathlib.Core.List.{List, [], _∷_, _++_, map, flatMap, append-assoc}
+use mathlib.Core.Path.{_≡_, refl, sym, _∙_, ap, subst}
+use Prim.Native.Nat.{ℕ, suc, _≤_, max}
+use native.Mathlib.Nat.{le-refl, le-trans, le-suc}
 use native.Mathlib.Omega.{arith}
-use lib.ListN.{replicate, replicate-append-replicate}
 use Rattle.runs.proofs.Laws.{split, both-true}
-use Rattle.line.specs.Line.{Trip, isLost, longest, Column, theSamples, theAncillary, theMarks, placesOf, shown, fromFirst, allLost, toLast}
-use Rattle.line.proofs.Rows.{Since, never, after, oneMore, due, Between}
-use Rattle.line.proofs.Steps.{lostValue, ownOf}
-
--- the places of a lost cell and of one that was not
-places-lost : (column : Column) (used : ℕ) (t : Trip) → isLost (t .fate) ≡ true → placesOf column used t ≡ replicate used (lostValue column)
-places-lost theSamples used t e = rw e
-places-lost theAncillary used t e = rw e
-places-lost theMarks used t e = rw e
-
-places-own : (column : Column) (used : ℕ) (t : Trip) → isLost (t .fate) ≡ false → placesOf column used t ≡ ownOf column used t
-places-own theSamples used t e = rw e
-places-own theAncillary used t e = rw e
-places-own theMarks used t e = rw e
+use Rattle.formats.specs.Formats.{formatOf}
+use Rattle.sender.specs.declared.Sender.{Sender}
+use Rattle.receiver.specs.Receiver as R
+use Rattle.line.specs.Contracts.{SendCall, MeetsSend, ReceiveCall, MeetsReceive}
+use Rattle.line.specs.Line.{
+  Sending,
+  Receiving,
+  wrote,
+  isLost,
+  Trip,
+  Each,
+  Fair,
+  longest,
+  arrivals,
+  taken,
+  WithRoom,
+  Place,
+  handed,
+  placesOf,
+  fromFirst,
+  allLost,
+  toLast,
+}
+use Rattle.line.proofs.Rows.{Since, never, after, oneMore, due, Between, Wrote, only-written, hands-out}
 
 none-to-last : (ts : List Trip) → allLost ts ≡ true → toLast ts ≡ []
 unfolding allLost toLast
 none-to-last [] e = refl
 none-to-last (t ∷ ts) e = rw e
 
-module _ (column : Column) (used : ℕ) where
-  all-due : {l : List ℕ} (ts : List Trip)
-      → l ≡ cond (allLost ts) [] (replicate (0 * used) (lostValue column) ++ shown column used (toLast ts))
-      → l ≡ shown column used (toLast ts)
-  unfolding shown
-  all-due ts e =
-      split (allLost ts) (λ all. e ∙ rw (all, none-to-last ts all)) (λ some. e ∙ rw (some, zero-mul))
+none-waits : {l : List Place} (ts : List Trip) → l ≡ cond (allLost ts) [] (flatMap placesOf (toLast ts))
+    → l ≡ flatMap placesOf (toLast ts)
+unfolding flatMap
+none-waits ts e = split (allLost ts) (λ all. e ∙ rw (all, none-to-last ts all)) (λ some. e ∙ rw some)
 
-  -- after k lost cells: their places are due where an unaltered cell follows
-  due-after : (k : ℕ) (ts : List Trip)
-      → due column used (after k) ts
-      ≡ cond (allLost ts) [] (replicate (k * used) (lostValue column) ++ shown column used (toLast ts))
-  unfolding due allLost toLast shown
-  due-after k [] = refl
-  due-after k (t ∷ ts) =
-      split (isLost (t .fate))
-      (λ lost.
-      split (allLost ts)
-      (λ all. rw (lost, all) (due-after (suc k) ts ∙ rw all))
-      (λ some.
-      rw (lost, some)
-      (due-after (suc k) ts
-      ∙ rw (some, suc-mul k used, ← replicate-append-replicate (k * used) used (lostValue column), append-assoc)
-      (ap (λ (l : List ℕ). replicate (k * used) (lostValue column) ++ (l ++ shown column used (toLast ts)))
-      (sym (places-lost column used t lost))))))
-      (λ here.
-      rw here
-      (append-assoc (replicate (k * used) (lostValue column)) (ownOf column used t) (due column used (after 0) ts)
-      ∙ ap₂ (λ (x y : List ℕ). replicate (k * used) (lostValue column) ++ (x ++ y))
-      (sym (places-own column used t here)) (all-due ts (due-after 0 ts))))
+-- places that wait are due where an unaltered cell follows
+due-after : (k : ℕ) (waiting : List Place) (ts : List Trip)
+    → due (after k waiting) ts ≡ cond (allLost ts) [] (waiting ++ flatMap placesOf (toLast ts))
+unfolding due allLost toLast flatMap
+due-after k waiting [] = refl
+due-after k waiting (t ∷ ts) =
+    split (isLost (t .fate))
+    (λ lost.
+    split (allLost ts)
+    (λ all. rw (lost, all) (due-after (suc k) _ ts ∙ rw all))
+    (λ some. rw (lost, some) (due-after (suc k) _ ts ∙ rw (some, append-assoc))))
+    (λ here.
+    rw here
+    (append-assoc waiting (placesOf t) (due (after 0 []) ts)
+    ∙ ap (λ (l : List Place). waiting ++ (placesOf t ++ l)) (none-waits ts (due-after 0 [] ts))))
 
-  pub due-places : (ts : List Trip) → due column used never ts ≡ shown column used (toLast (fromFirst ts))
-  unfolding due fromFirst toLast shown
-  due-places [] = refl
-  due-places (t ∷ ts) =
-      split (isLost (t .fate))
-      (λ lost. rw lost (due-places ts))
-      (λ here.
-      rw (here, zero-mul used, here)
-      (ap₂ (λ (x y : List ℕ). x ++ y) (sym (places-own column used t here)) (all-due ts (due-after 0 ts))))
+pub due-places : (ts : List Trip) → due never ts ≡ flatMap placesOf (toLast (fromFirst ts))
+unfolding due fromFirst toLast allLost flatMap
+due-places [] = refl
+due-places (t ∷ ts) =
+    split (isLost (t .fate))
+    (λ lost. rw lost (due-places ts))
+    (λ here. rw (here, here) (ap (λ (l : List Place). placesOf t ++ l) (none-waits ts (due-after 0 [] ts))))
 
 -- the longest row of lost cells bounds the rows between unaltered ones
 all-between : (row : ℕ) (since : Since) (ts : List Trip) → allLost ts ≡ true → Between row since ts
@@ -75,29 +72,29 @@ unfolding allLost Between
 all-between row since [] e = tt
 all-between row since (t ∷ ts) e =
     let both = both-true (isLost (t .fate)) (allLost ts) e in
-    (λ lost. all-between row (oneMore since) ts (both .1), λ here. absurd (true≢false (sym (both .0) ∙ here)))
+    (λ lost. all-between row (oneMore t since) ts (both .1), λ here. absurd (true≢false (sym (both .0) ∙ here)))
 
-between-after : (row k : ℕ) (ts : List Trip) → longest k (toLast ts) ≤ row → Between row (after k) ts
-unfolding longest toLast Between
-between-after row k [] h = tt
-between-after row k (t ∷ ts) h = (
+between-after : (row k : ℕ) (waiting : List Place) (ts : List Trip) → longest k (toLast ts) ≤ row → Between row (after k waiting) ts
+unfolding longest toLast allLost Between
+between-after row k waiting [] h = tt
+between-after row k waiting (t ∷ ts) h = (
   λ lost.
       split (allLost ts)
-      (λ all. all-between row (after (suc k)) ts all)
-      (λ some. between-after row (suc k) ts (rw (lost, some, lost) at h)),
+      (λ all. all-between row _ ts all)
+      (λ some. between-after row (suc k) _ ts (rw (lost, some, lost) at h)),
   λ here.
       let most : max k (longest 0 (toLast ts)) ≤ row = rw (here, here) at h in
-      (omega arith, between-after row 0 ts (omega arith)),
+      (omega arith, between-after row 0 [] ts (omega arith)),
 )
 
 pub between : (row : ℕ) (ts : List Trip) → longest 0 (toLast (fromFirst ts)) ≤ row → Between row never ts
-unfolding longest fromFirst toLast Between
+unfolding longest fromFirst toLast allLost Between
 between row [] h = tt
 between row (t ∷ ts) h = (
   λ lost. between row ts (rw lost at h),
   λ here.
       let most : max 0 (longest 0 (toLast ts)) ≤ row = rw (here, here, here) at h in
-      (omega arith, between-after row 0 ts (omega arith)),
+      (omega arith, between-after row 0 [] ts (omega arith)),
 )
 
 -- less is lost in a row where some is left out at both ends
@@ -114,7 +111,7 @@ longest-more k (t ∷ ts) =
     split (isLost (t .fate)) (λ lost. rw lost (longest-more (suc k) ts)) (λ here. rw here (omega arith))
 
 longest-to-last : (k : ℕ) (ts : List Trip) → longest k (toLast ts) ≤ longest k ts
-unfolding longest toLast
+unfolding longest toLast allLost
 longest-to-last k [] = le-refl k
 longest-to-last k (t ∷ ts) =
     split (isLost (t .fate))
@@ -134,3 +131,21 @@ longest-from-first (t ∷ ts) =
 
 pub longest-inside : (ts : List Trip) → longest 0 (toLast (fromFirst ts)) ≤ longest 0 ts
 longest-inside ts = le-trans (longest-to-last 0 (fromFirst ts)) (longest-from-first ts)
+
+-- What demand 3 says and a little more: cells lost before the first unaltered one and after the last may be more than fourteen.
+pub demand-3-inside : (st : Sender) (sends : List SendCall) (trips : List Trip) (receives : List ReceiveCall)
+    → (formatOf (st .format) .«overhead_bits» ≡ 0 → ⊥)
+    → Sending MeetsSend st sends
+    → map (λ t. t .sent) trips ≡ wrote sends
+    → Each (λ t. Fair 3 (t .sent) (t .fate)) trips
+    → longest 0 (toLast (fromFirst trips)) ≤ 14
+    → Receiving MeetsReceive (R.openState (st .format) (st .channels) (st .order)) receives
+    → map taken receives ≡ arrivals trips
+    → Each WithRoom receives
+    → handed receives ≡ flatMap placesOf (toLast (fromFirst trips))
+demand-3-inside st sends trips receives with-overhead row these fair few meets came room =
+    hands-out trips st (R.openState (st .format) (st .channels) (st .order)) never receives
+    (subst (Sending Wrote st) (sym these) (only-written sends st row)) fair
+    (record { with-overhead = with-overhead; same = record { format = refl; channels = refl; order = refl }; stands = (refl, refl) })
+    (between 14 trips few) (record { meets = meets; these = came; room = room })
+    ∙ due-places trips

@@ -1,93 +1,53 @@
--- Demand 3 is sharp: wrong receivers don't meet it, fifteen lost cells in a row or four altered bits break it, and what it asks can be had.
+-- Demand 3 is sharp: wrong boxes don't meet it, fifteen lost cells in a row or four altered bits break it, and what it asks can be had.
 -- Assumes nothing.
-use mathlib.Core.Bool.{Bool, true, false, cond, not, _||_}
-use mathlib.Core.List.{List, [], _∷_, _++_, map}
+use mathlib.Core.Bool.{Bool, true, false}
+use mathlib.Core.List.{List, [], _∷_, _++_, map, flatMap}
 use mathlib.Core.Path.{_≡_, refl, ap}
-use Prim.Native.Nat.{ℕ, _+_, _*_, _≤_}
-use native.Mathlib.Nat.{suc-ne-zero, le-trans, mul-le-mul-right}
+use Prim.Native.Nat.{ℕ, _+_, _*_, _^_, _≤_}
+use native.Mathlib.Nat.{suc-ne-zero}
 use native.Mathlib.Omega.{arith}
-use borrow.Author.Tests.{le-ltb}
-use lib.Count.{ones, onesIn}
-use lib.Dec.{eqb, ltb}
+use lib.Dec.{eqb}
 use lib.ListN.{length, getD, set, replicate}
-use Rattle.runs.specs.Division.{coefficients, divided, takenDown}
-use Rattle.runs.specs.Refusals.{orElse}
-use Rattle.runs.specs.Runs.{tab, joined, octetsOf, readOn, over}
-use Rattle.formats.specs.Formats.{
-  lengthOf,
-  sampleBits,
-  ancillaryBits,
-  overheadBits,
-  eleven,
-  isAmong,
-  isBase,
-  widthOf,
-  slotsOf,
-  formatOf,
-  settingsRefusal,
-}
-use Rattle.numbers.specs.Numbers.{tableA1, wordBit, gathered, placeIn, differenceOf}
-use Rattle.guards.specs.Guards.{nineOf, tenGuard, guardOf}
-use Rattle.cells.specs.Cells.{
-  overheadOf,
-  subframeOf,
-  slotOctets,
-  cellOf,
-  subframeAt,
-  sampleIn,
-  ancillaryIn,
-  markIn,
-  bitIn,
-  eightIn,
-  secondIn,
-  entriesOf,
-}
-use Rattle.cells.specs.Placement.{slotOf, slotOfEntry, entryOfSlot, carried}
+use Rattle.runs.specs.Runs.{over}
+use Rattle.runs.proofs.Laws.{split}
 use Rattle.sender.specs.declared.Sender.{Sender}
 use Rattle.sender.specs.Sender as S
 use Rattle.receiver.specs.declared.Receiver.{Receiver}
 use Rattle.receiver.specs.declared.Received.{Received}
 use Rattle.receiver.specs.Receiver as R
-use Rattle.receiver.proofs.Laws.{gap-to}
-use Rattle.line.specs.Demands.{ReceiveCall, Receives}
-use Rattle.line.specs.Line.{Fate, dropped, spoiled, unaltered, Trip, cellOn, InARow, Fair, longest, arrivals, Row, got, Roomy, WithRoom, theSamples, theMarks, handed, shown, fromFirst, allLost, toLast, Demand3, Demanded}
-
--- every definition on the way down to the numbers
-opened : Unit {0}
-unfolding ones onesIn coefficients divided takenDown orElse tab joined octetsOf readOn over lengthOf sampleBits ancillaryBits overheadBits eleven isAmong isBase widthOf slotsOf formatOf settingsRefusal tableA1 wordBit gathered placeIn differenceOf nineOf tenGuard guardOf overheadOf subframeOf slotOctets cellOf subframeAt sampleIn ancillaryIn markIn bitIn eightIn secondIn entriesOf slotOf slotOfEntry entryOfSlot carried S.numbersRefused S.stateRefusal S.allBelow S.lengthsRefused S.valuesRefused S.indicationRefused S.sendRefusal S.secondNow S.after S.cellNow R.lastRefused R.stateRefusal R.lengthsRefused R.numberNow R.gapNow R.receiveRefusal R.entriesNow R.secondNow R.after R.receivedOf R.given InARow Fair longest arrivals Row WithRoom handed shown fromFirst allLost toLast Demand3
-opened = tt
+use Rattle.receiver.proofs.Room as Room
+use Rattle.line.specs.Contracts.{SendCall, MeetsSend, ReceiveCall, MeetsReceive}
+use Rattle.line.specs.Line.{
+  Row,
+  Sending,
+  Receiving,
+  wrote,
+  Fate,
+  dropped,
+  spoiled,
+  unaltered,
+  Trip,
+  Each,
+  Fair,
+  longest,
+  Arrival,
+  arrivals,
+  taken,
+  WithRoom,
+  Place,
+  handed,
+  placesOf,
+  fromFirst,
+  toLast,
+  Demand3,
+}
+use Rattle.line.proofs.Opened.{opened}
 
 -- Three equal runs of fifteen times C×T always have room.
-not-so : (test : Bool) (n rest : ℕ) → (n ≡ 10 → ⊥) → (rest ≡ 10 → ⊥) → cond test n rest ≡ 10 → ⊥
-not-so true n rest other later e = other e
-not-so false n rest other later e = later e
-
-settings-not-ten : (octet channels order : ℕ) → settingsRefusal octet channels order ≡ 10 → ⊥
-unfolding settingsRefusal
-settings-not-ten octet channels order =
-    not-so (not (isBase octet)) 1 _ (λ e. omega arith)
-    (not-so (eqb channels 0 || ltb (slotsOf octet) channels) 2 _ (λ e. omega arith)
-    (not-so (ltb 1 order) 3 0 (λ e. omega arith) (λ e. omega arith)))
-
-pub always-room : (rc : Receiver) (cell : List ℕ) (samples ancillary marks : ℕ) → 15 * R.usedNow rc ≤ samples
-    → R.receiveRefusal rc cell samples ancillary marks ≡ 10 → ⊥
-unfolding R.receiveRefusal R.stateRefusal orElse
-always-room rc cell samples ancillary marks enough =
-    let gap-room : R.gapOf rc cell * R.usedNow rc ≤ samples
-    = le-trans (mul-le-mul-right (R.usedNow rc) (gap-to (formatOf (rc .format)) (rc .started) (rc .last) _)) enough in
-    rw (le-ltb samples _ gap-room)
-    (not-so (eqb (R.stateRefusal rc) 0) _ (R.stateRefusal rc)
-    (not-so (R.lengthsRefused (length cell) samples ancillary marks) 5 _ (λ e. omega arith)
-    (not-so (ltb 15 (R.numberNow (formatOf (rc .format)) cell)) 8 _ (λ e. omega arith)
-    (not-so (eqb (R.gapOf rc cell) 0) 9 _ (λ e. omega arith) (λ e. omega arith))))
-    (not-so (eqb (settingsRefusal (rc .format) (rc .channels) (rc .order)) 0) _ (settingsRefusal (rc .format) (rc .channels) (rc .order))
-    (not-so (R.lastRefused (formatOf (rc .format)) (rc .started) (rc .last)) 4 0 (λ e. omega arith) (λ e. omega arith))
-    (settings-not-ten (rc .format) (rc .channels) (rc .order))))
-
-roomy : {c : ReceiveCall} → length (c .ancillary) ≡ length (c .samples) → length (c .marks) ≡ length (c .samples)
-    → 15 * R.usedNow (c .state) ≤ length (c .samples) → Roomy c
-roomy {c} ancillary marks enough =
-    record { ancillary-equal = ancillary; marks-equal = marks; long-enough = always-room (c .state) (c .cell) _ _ _ enough }
+pub always-room : {c : ReceiveCall} → length (c .ancillary) ≡ length (c .samples) → length (c .marks) ≡ length (c .samples)
+    → 15 * R.usedNow (c .state) ≤ length (c .samples) → WithRoom c
+always-room {c} ancillary marks enough =
+    record { ancillary-equal = ancillary; marks-equal = marks; long-enough = Room.always-room (c .state) (c .cell) (c .indication) _ _ _ enough }
 
 -- a sender of five channels in 5A hex, one sample of each in a cell, its first cell to have number 0
 abbrev studio : Sender
@@ -96,17 +56,38 @@ studio = S.openState 0x5A 5 0 0 false 0
 abbrev fresh : Receiver
 fresh = R.openState 0x5A 5 0
 
--- a cell whose first sample is n
-abbrev trip : ℕ → Fate → Trip
-trip n fate = record { samples = n ∷ 0 ∷ 0 ∷ 0 ∷ 0 ∷ []; ancillary = replicate 5 0; indication = false; fate = fate }
+-- a call of `send` as it promises, the first sample being n; and calls in a row, each with its cell's fate
+abbrev sending : Sender → ℕ → SendCall
+sending st n =
+    record {
+      state = st;
+      indication = false;
+      samples = n ∷ 0 ∷ 0 ∷ 0 ∷ 0 ∷ [];
+      ancillary = replicate 5 0;
+      cell = replicate 48 0;
+      answer = S.sentOf st false (n ∷ 0 ∷ 0 ∷ 0 ∷ 0 ∷ []) (replicate 5 0) 48;
+      written = S.cellAfter st false (n ∷ 0 ∷ 0 ∷ 0 ∷ 0 ∷ []) (replicate 5 0) (replicate 48 0);
+    }
 
--- a call on three runs of eighty zeros, with this answer and these entries written from their start
-abbrev call : Bool → Receiver → List ℕ → Received → List ℕ → List ℕ → List ℕ → ReceiveCall
-call indication rc cell answer samples ancillary marks =
+unfoldable pub trips : Sender → List (ℕ × Fate) → List Trip
+trips st [] = []
+trips st (x ∷ xs) = record { sent = sending st (x .0); fate = x .1 } ∷ trips (sending st (x .0) .answer .state) xs
+
+abbrev sends : Sender → List (ℕ × Fate) → List SendCall
+sends st xs = map (λ t. t .sent) (trips st xs)
+
+sends-in-a-row : (st : Sender) (xs : List (ℕ × Fate)) → Sending MeetsSend st (sends st xs)
+unfolding Row trips
+sends-in-a-row st [] = tt
+sends-in-a-row st (x ∷ xs) = (refl, record { answered = refl; cell-after = refl }, sends-in-a-row (sending st (x .0) .answer .state) xs)
+
+-- a call of `receive` on three runs of eighty zeros, with this answer and these entries written from their start
+abbrev call : Receiver → Arrival → Received → List ℕ → List ℕ → List ℕ → ReceiveCall
+call rc a answer samples ancillary marks =
     record {
       state = rc;
-      cell = cell;
-      indication = indication;
+      cell = a .cell;
+      indication = a .indication;
       samples = replicate 80 0;
       ancillary = replicate 80 0;
       marks = replicate 80 0;
@@ -116,65 +97,115 @@ call indication rc cell answer samples ancillary marks =
       marks-after = over marks (replicate 80 0);
     }
 
-abbrev answered : Bool → Receiver → List ℕ → Received
-answered indication rc cell = R.receivedOf rc cell indication 80 80 80
+abbrev answered : Receiver → Arrival → Received
+answered rc a = R.receivedOf rc (a .cell) (a .indication) 80 80 80
 
--- what `receive` writes
-abbrev wrote : Receiver → List ℕ → List ℕ → List ℕ
-wrote rc cell entries = R.given rc cell 80 80 80 entries
+-- as it promises; and such calls in a row
+abbrev receiving : Receiver → Arrival → ReceiveCall
+receiving rc a =
+    call rc a (answered rc a)
+    (R.entriesGiven rc (a .cell) (a .indication) 80 80 80 (R.samplesNow rc (a .cell)))
+    (R.entriesGiven rc (a .cell) (a .indication) 80 80 80 (R.ancillaryNow rc (a .cell)))
+    (R.entriesGiven rc (a .cell) (a .indication) 80 80 80 (R.marksNow rc (a .cell)))
 
--- the call as `receive` promises it
-abbrev honest : Bool → Receiver → List ℕ → ReceiveCall
-honest indication rc cell =
-    call indication rc cell (answered indication rc cell) (wrote rc cell (R.samplesNow rc cell)) (wrote rc cell (R.ancillaryNow rc cell))
-    (wrote rc cell (R.marksNow rc cell))
+promised : (rc : Receiver) (a : Arrival) → MeetsReceive (receiving rc a)
+promised rc a = record { answered = refl; samples-after = refl; ancillary-after = refl; marks-after = refl }
 
-promised : (indication : Bool) (rc : Receiver) (cell : List ℕ) → Receives (honest indication rc cell)
-promised indication rc cell = record { answered = refl; samples-after = refl; ancillary-after = refl; marks-after = refl }
+unfoldable pub receives : Receiver → List Arrival → List ReceiveCall
+receives rc [] = []
+receives rc (a ∷ came) = receiving rc a ∷ receives (receiving rc a .answer .state) came
 
--- two cells in a row, and the calls of an honest receiver
-abbrev one : List ℕ
-one = cellOn studio (trip 1 unaltered)
+receives-in-a-row : (rc : Receiver) (came : List Arrival) → Receiving MeetsReceive rc (receives rc came)
+unfolding Row receives
+receives-in-a-row rc [] = tt
+receives-in-a-row rc (a ∷ came) = (refl, promised rc a, receives-in-a-row (receiving rc a .answer .state) came)
 
-abbrev two : List ℕ
-two = cellOn (S.after studio false) (trip 2 unaltered)
+receives-these : (rc : Receiver) (came : List Arrival) → map taken (receives rc came) ≡ came
+unfolding receives
+receives-these rc [] = refl
+receives-these rc (a ∷ came) = ap (λ l. a ∷ l) (receives-these (receiving rc a .answer .state) came)
+
+used-stays : (rc : Receiver) (a : Arrival) → R.usedNow (answered rc a .state) ≡ R.usedNow rc
+unfolding R.receivedOf R.after
+used-stays rc a = split (eqb (R.receiveRefusal rc (a .cell) (a .indication) 80 80 80) 0) (λ e. rw e) (λ e. rw e)
+
+receives-with-room : (rc : Receiver) (came : List Arrival) → R.usedNow rc ≤ 5 → Each WithRoom (receives rc came)
+unfolding Each receives
+receives-with-room rc [] few = tt
+receives-with-room rc (a ∷ came) few =
+    (always-room refl refl (omega arith), receives-with-room (receiving rc a .answer .state) came (rw (used-stays rc a) few))
+
+-- demand 3 on such calls of `send`, and on such calls of `receive` too
+module _ (most row : ℕ) (Box : ReceiveCall → Type 0) (meets : Demand3 most row MeetsSend Box) (xs : List (ℕ × Fate))
+    (none-refused : sends studio xs ≡ wrote (sends studio xs)) (fair : Each (λ t. Fair most (t .sent) (t .fate)) (trips studio xs))
+    (few : longest 0 (trips studio xs) ≤ row)
+  where
+    hands : (calls : List ReceiveCall) → Receiving Box fresh calls → map taken calls ≡ arrivals (trips studio xs) → Each WithRoom calls
+        → handed calls ≡ flatMap placesOf (toLast (fromFirst (trips studio xs)))
+    unfolding opened
+    hands calls =
+        meets studio (sends studio xs) (trips studio xs) calls (λ e. suc-ne-zero 3 e) (sends-in-a-row studio xs) none-refused fair few
+
+honest-hands : (most row : ℕ) → Demand3 most row MeetsSend MeetsReceive → (xs : List (ℕ × Fate)) → sends studio xs ≡ wrote (sends studio xs)
+    → Each (λ t. Fair most (t .sent) (t .fate)) (trips studio xs) → longest 0 (trips studio xs) ≤ row
+    → handed (receives fresh (arrivals (trips studio xs))) ≡ flatMap placesOf (toLast (fromFirst (trips studio xs)))
+unfolding opened
+honest-hands most row meets xs none-refused fair few =
+    hands most row MeetsReceive meets xs none-refused fair few (receives fresh (arrivals (trips studio xs)))
+    (receives-in-a-row fresh _) (receives-these fresh _) (receives-with-room fresh _ (omega arith))
 
 -- Fifteen lost cells in a row: the next cell's number is the last one's again, and it is refused.
-lost-fifteen : List Trip
-lost-fifteen =
-    trip 1 unaltered
-    ∷ trip 0 dropped ∷ trip 0 dropped ∷ trip 0 dropped ∷ trip 0 dropped ∷ trip 0 dropped
-    ∷ trip 0 dropped ∷ trip 0 dropped ∷ trip 0 dropped ∷ trip 0 dropped ∷ trip 0 dropped
-    ∷ trip 0 dropped ∷ trip 0 dropped ∷ trip 0 dropped ∷ trip 0 dropped ∷ trip 0 dropped
-    ∷ trip 2 unaltered ∷ []
+lost-fifteen : List (ℕ × Fate)
+lost-fifteen = ((1, unaltered) ∷ replicate 15 (0, dropped)) ++ ((2, unaltered) ∷ [])
 
-pub not-fifteen : Demand3 3 15 Receives → ⊥
-unfolding opened lost-fifteen
+pub not-fifteen : Demand3 3 15 MeetsSend MeetsReceive → ⊥
+unfolding opened trips receives lost-fifteen
 not-fifteen meets =
-    let first = honest false fresh one in
-    let next = honest false (first .answer .state) (cellOn studio (trip 2 unaltered)) in
-    let kept = meets studio lost-fifteen (first ∷ next ∷ []) theSamples (λ e. suc-ne-zero 3 e)
-    (refl, (refl, (refl, (refl, (refl, (refl, (refl, (refl, (refl, (refl, (refl, (refl, (refl, (refl, (refl, (refl, (refl, tt)))))))))))))))))
-    (tt, (tt, (tt, (tt, (tt, (tt, (tt, (tt, (tt, (tt, (tt, (tt, (tt, (tt, (tt, (tt, (tt, tt)))))))))))))))))
-    (omega arith) (refl, promised _ _ _, (refl, promised _ _ _, tt)) refl (roomy refl refl (omega arith), (roomy refl refl (omega arith), tt)) in
+    let kept = honest-hands 3 15 meets lost-fifteen refl
+    (tt, (tt, (tt, (tt, (tt, (tt, (tt, (tt, (tt, (tt, (tt, (tt, (tt, (tt, (tt, (tt, (tt, tt))))))))))))))))) (omega arith) in
     let lengths : _≡_ {A = ℕ} 5 85 = ap length kept in
     omega arith
 
+-- a sender whose next cell has this number
+abbrev studioAt : ℕ → Sender
+studioAt n = record { format = 0x5A; channels = 5; order = 0; number = n; wanted = false; second = 0; sent = true }
+
 -- Four altered bits may make another entry: number 1's eight bits and number 3's differ in four, and the cell is taken for number 3's.
-three : List ℕ
-three = cellOn (record { format = 0x5A; channels = 5; order = 0; number = 3; wanted = false; second = 0; sent = true }) (trip 2 unaltered)
+four-altered : List (ℕ × Fate)
+four-altered = (1, unaltered) ∷ (2, spoiled (sending (studioAt 3) 2 .written) false) ∷ []
 
-four-altered : List Trip
-four-altered = trip 1 unaltered ∷ trip 2 (spoiled three false) ∷ []
-
-pub not-four-bits : Demand3 4 14 Receives → ⊥
-unfolding opened three four-altered
+pub not-four-bits : Demand3 4 14 MeetsSend MeetsReceive → ⊥
+unfolding opened trips receives four-altered
 not-four-bits meets =
-    let first = honest false fresh one in
-    let next = honest false (first .answer .state) three in
-    let kept = meets studio four-altered (first ∷ next ∷ []) theSamples (λ e. suc-ne-zero 3 e)
-    (refl, (refl, tt)) (tt, ((omega arith, omega arith), tt)) (omega arith) (refl, promised _ _ _, (refl, promised _ _ _, tt)) refl (roomy refl refl (omega arith), (roomy refl refl (omega arith), tt)) in
+    let kept = honest-hands 4 14 meets four-altered refl (tt, ((omega arith, omega arith), tt)) (omega arith) in
     let lengths : _≡_ {A = ℕ} 20 5 = ap length kept in
+    omega arith
+
+-- A sender that answers as it should and always gives the zero cell.
+pub record ZeroCell (s : SendCall) : Type 0 where
+  pub answer-right : s .answer ≡ S.sentOf (s .state) (s .indication) (s .samples) (s .ancillary) (length (s .cell))
+  pub always-zero : s .written ≡ replicate 48 0
+
+abbrev zeros : SendCall
+zeros =
+    record {
+      state = studio;
+      indication = false;
+      samples = 1 ∷ 0 ∷ 0 ∷ 0 ∷ 0 ∷ [];
+      ancillary = replicate 5 0;
+      cell = replicate 48 0;
+      answer = S.sentOf studio false (1 ∷ 0 ∷ 0 ∷ 0 ∷ 0 ∷ []) (replicate 5 0) 48;
+      written = replicate 48 0;
+    }
+
+pub not-zero-cell : Demand3 3 14 ZeroCell MeetsReceive → ⊥
+unfolding opened receives
+not-zero-cell meets =
+    let came : List Arrival = record { cell = replicate 48 0; indication = false } ∷ [] in
+    let kept = meets studio (zeros ∷ []) (record { sent = zeros; fate = unaltered } ∷ []) (receives fresh came) (λ e. suc-ne-zero 3 e)
+    (refl, record { answer-right = refl; always-zero = refl }, tt) refl (tt, tt) (omega arith)
+    (receives-in-a-row fresh came) (receives-these fresh came) (receives-with-room fresh came (omega arith)) in
+    let lengths : _≡_ {A = ℕ} 0 5 = ap length kept in
     omega arith
 
 -- A receiver that unpacks its first cell and only nods at later ones: it answers as it should and writes nothing.
@@ -185,25 +216,29 @@ pub record Nodding (c : ReceiveCall) : Type 0 where
   pub marks-stay : c .marks-after ≡ c .marks
 
 abbrev NodsWhen : Bool → ReceiveCall → Type 0
-NodsWhen false c = Receives c
+NodsWhen false c = MeetsReceive c
 NodsWhen true c = Nodding c
 
 abbrev pub Nods : ReceiveCall → Type 0
 Nods c = NodsWhen (c .state .started) c
 
-both-sent : List Trip
-both-sent = trip 1 unaltered ∷ trip 2 unaltered ∷ []
+both-sent : List (ℕ × Fate)
+both-sent = (1, unaltered) ∷ (2, unaltered) ∷ []
 
-pub not-nodding : Demanded Nods → ⊥
-unfolding opened both-sent
+-- what arrives of a cell that was sent
+abbrev sent : Sender → ℕ → Arrival
+sent st n = record { cell = sending st n .written; indication = false }
+
+pub not-nodding : Demand3 3 14 MeetsSend Nods → ⊥
+unfolding opened trips both-sent
 not-nodding meets =
-    let first = honest false fresh one in
-    let next = call false (first .answer .state) two (answered false (first .answer .state) two) [] [] [] in
-    let kept = meets studio both-sent (first ∷ next ∷ []) theSamples (λ e. suc-ne-zero 3 e)
-    (refl, (refl, tt)) (tt, (tt, tt)) (omega arith)
-    (refl, promised _ _ _, (refl, record { answer-right = refl; samples-stay = refl; ancillary-stays = refl; marks-stay = refl }, tt))
-    refl (roomy refl refl (omega arith), (roomy refl refl (omega arith), tt)) in
-    let sixth : _≡_ {A = ℕ} 0 2 = ap (λ (l : List ℕ). getD l 5 0) kept in
+    let first = receiving fresh (sent studio 1) in
+    let here = first .answer .state in
+    let next = call here (sent (studioAt 1) 2) (answered here (sent (studioAt 1) 2)) [] [] [] in
+    let kept = hands 3 14 Nods meets both-sent refl (tt, (tt, tt)) (omega arith) (first ∷ next ∷ [])
+    (refl, promised _ _, (refl, record { answer-right = refl; samples-stay = refl; ancillary-stays = refl; marks-stay = refl }, tt))
+    refl (always-room refl refl (omega arith), (always-room refl refl (omega arith), tt)) in
+    let sixth : _≡_ {A = ℕ} 0 2 = ap (λ (l : List Place). getD l 5 (0, (0, 0)) .0) kept in
     omega arith
 
 -- the answer with one cell more told missing
@@ -235,80 +270,76 @@ pub record Misreports (c : ReceiveCall) : Type 0 where
   pub ancillary-right : c .ancillary-after ≡ over (R.ancillaryNow (c .state) (c .cell)) (c .ancillary)
   pub marks-right : c .marks-after ≡ over (R.marksNow (c .state) (c .cell)) (c .marks)
 
-only-one : List Trip
-only-one = trip 1 unaltered ∷ []
+only-one : List (ℕ × Fate)
+only-one = (1, unaltered) ∷ []
 
-pub not-invented : Demanded Invents → ⊥
-unfolding opened only-one
+abbrev one : Arrival
+one = sent studio 1
+
+pub not-invented : Demand3 3 14 MeetsSend Invents → ⊥
+unfolding opened trips only-one
 not-invented meets =
-    let wrong = call false fresh one (oneMoreMissing (answered false fresh one)) (replicate 5 0 ++ R.samplesNow fresh one)
-    (replicate 5 0 ++ R.ancillaryNow fresh one) (replicate 5 2 ++ R.marksNow fresh one) in
-    let kept = meets studio only-one (wrong ∷ []) theSamples (λ e. suc-ne-zero 3 e) (refl, tt) (tt, tt) (omega arith)
+    let wrong = call fresh one (oneMoreMissing (answered fresh one)) (replicate 5 0 ++ R.samplesNow fresh (one .cell))
+    (replicate 5 0 ++ R.ancillaryNow fresh (one .cell)) (replicate 5 2 ++ R.marksNow fresh (one .cell)) in
+    let kept = hands 3 14 Invents meets only-one refl (tt, tt) (omega arith) (wrong ∷ [])
     (refl, record { answer-invented = refl; samples-invented = refl; ancillary-invented = refl; marks-invented = refl }, tt)
-    refl (roomy refl refl (omega arith), tt) in
+    refl (always-room refl refl (omega arith), tt) in
     let lengths : _≡_ {A = ℕ} 10 5 = ap length kept in
     omega arith
 
-pub not-misreported : Demanded Misreports → ⊥
-unfolding opened only-one
+pub not-misreported : Demand3 3 14 MeetsSend Misreports → ⊥
+unfolding opened trips only-one
 not-misreported meets =
-    let wrong = call false fresh one (oneMoreMissing (answered false fresh one)) (R.samplesNow fresh one) (R.ancillaryNow fresh one) (R.marksNow fresh one) in
-    let kept = meets studio only-one (wrong ∷ []) theSamples (λ e. suc-ne-zero 3 e) (refl, tt) (tt, tt) (omega arith)
+    let wrong = call fresh one (oneMoreMissing (answered fresh one)) (R.samplesNow fresh (one .cell)) (R.ancillaryNow fresh (one .cell))
+    (R.marksNow fresh (one .cell)) in
+    let kept = hands 3 14 Misreports meets only-one refl (tt, tt) (omega arith) (wrong ∷ [])
     (refl, record { answer-wrong = refl; samples-right = refl; ancillary-right = refl; marks-right = refl }, tt)
-    refl (roomy refl refl (omega arith), tt) in
+    refl (always-room refl refl (omega arith), tt) in
     let lengths : _≡_ {A = ℕ} 10 5 = ap length kept in
     omega arith
 
--- What demand 3 asks can be had: cells lost before the first unaltered one, between, and after the last.
-abbrev studioAt : ℕ → Sender
-studioAt n = record { format = 0x5A; channels = 5; order = 0; number = n; wanted = false; second = 0; sent = true }
-
--- the cell with the first sequencing bit as this octet has it
+-- What demand 3 asks can be had: cells lost before the first unaltered one, between, and after the last, and a refused call of `send`.
+-- a cell with its first sequencing bit as this octet has it
 abbrev altered : ℕ → ℕ → List ℕ
-altered n octet = set (cellOn (studioAt n) (trip n unaltered)) 5 octet
+altered n octet = set (sending (studioAt n) n .written) 5 octet
 
-unfoldable pub lossy : List Trip
+unfoldable pub lossy : List (ℕ × Fate)
 lossy =
-    trip 0 (spoiled (altered 0 15) true)
-    ∷ trip 1 unaltered
-    ∷ trip 2 dropped
-    ∷ trip 3 (spoiled (altered 3 7) false)
-    ∷ trip 4 unaltered
-    ∷ trip 5 dropped
-    ∷ trip 6 (spoiled (altered 6 15) false)
+    (0, spoiled (altered 0 15) true)
+    ∷ (1, unaltered)
+    ∷ (2, dropped)
+    ∷ (3, spoiled (altered 3 7) false)
+    ∷ (4, unaltered)
+    ∷ (5, dropped)
+    ∷ (6, spoiled (altered 6 15) false)
     ∷ []
 
-abbrev heard : List ReceiveCall
-heard =
-    let first = honest false fresh (cellOn (studioAt 1) (trip 1 unaltered)) in
-    let next = honest false (first .answer .state) (cellOn (studioAt 4) (trip 4 unaltered)) in
-    honest true fresh (altered 0 15)
-    ∷ first
-    ∷ honest false (first .answer .state) (altered 3 7)
-    ∷ next
-    ∷ honest false (next .answer .state) (altered 6 15)
-    ∷ []
+-- five samples are asked, and one was too large
+abbrev tooLarge : Sender → SendCall
+tooLarge st = sending st (2 ^ 40)
 
-pub record CanBeHad (calls : List ReceiveCall) (trips : List Trip) : Type 0 where
-  pub in-a-row : InARow studio trips
-  pub fair : Fair 3 studio trips
-  pub few : longest 0 trips ≤ 14
-  pub meets : Row Receives fresh calls
-  pub came : map got calls ≡ arrivals studio trips
-  pub room : WithRoom calls
-  pub marks : handed theMarks 5 calls ≡ replicate 5 0 ++ replicate 10 2 ++ replicate 5 0
+pub record CanBeHad (sent : List SendCall) (these : List Trip) (calls : List ReceiveCall) : Type 0 where
+  pub one-refused : tooLarge studio .answer .refusal ≡ 6
+  pub in-a-row : Sending MeetsSend studio sent
+  pub wrote-these : map (λ t. t .sent) these ≡ wrote sent
+  pub fair : Each (λ t. Fair 3 (t .sent) (t .fate)) these
+  pub few : longest 0 these ≤ 14
+  pub meets : Receiving MeetsReceive fresh calls
+  pub came : map taken calls ≡ arrivals these
+  pub room : Each WithRoom calls
+  pub marks : map (λ p. p .1 .1) (handed calls) ≡ replicate 5 0 ++ replicate 10 2 ++ replicate 5 0
 
-pub can-be-had : CanBeHad heard lossy
-unfolding opened lossy
+pub can-be-had : CanBeHad (tooLarge studio ∷ sends studio lossy) (trips studio lossy) (receives fresh (arrivals (trips studio lossy)))
+unfolding opened trips receives lossy
 can-be-had =
     record {
-      in-a-row = (refl, (refl, (refl, (refl, (refl, (refl, (refl, tt)))))));
+      one-refused = refl;
+      in-a-row = (refl, record { answered = refl; cell-after = refl }, sends-in-a-row studio lossy);
+      wrote-these = refl;
       fair = ((omega arith, omega arith), (tt, (tt, ((omega arith, omega arith), (tt, (tt, ((omega arith, omega arith), tt)))))));
       few = omega arith;
-      meets =
-          (refl, promised _ _ _, (refl, promised _ _ _, (refl, promised _ _ _, (refl, promised _ _ _, (refl, promised _ _ _, tt)))));
-      came = refl;
-      room =
-          (roomy refl refl (omega arith), (roomy refl refl (omega arith), (roomy refl refl (omega arith), (roomy refl refl (omega arith), (roomy refl refl (omega arith), tt)))));
+      meets = receives-in-a-row fresh (arrivals (trips studio lossy));
+      came = receives-these fresh (arrivals (trips studio lossy));
+      room = receives-with-room fresh (arrivals (trips studio lossy)) (omega arith);
       marks = refl;
     }

@@ -1,13 +1,13 @@
 -- One cell on the line: an unaltered one is taken and gives back what was sent, a spoiled one is refused.
 -- Assumes nothing.
 use mathlib.Core.Bool.{true, false, cond}
-use mathlib.Core.List.{List, _++_}
-use mathlib.Core.Path.{_≡_, refl, sym, _∙_, ap, ap₂, subst}
-use Prim.Native.Nat.{ℕ, suc, _+_, _*_, _%_, _-_, _≤_, _<_}
-use native.Mathlib.Nat.{mod-add-mod, mod-eq-of-lt, add-mod-right, suc-mul, suc-ne-zero, lt-of-not-le}
+use mathlib.Core.List.{List, [], _∷_, _++_, zip, zipWith}
+use mathlib.Core.Path.{_≡_, refl, sym, _∙_, ap, ap₂}
+use Prim.Native.Nat.{ℕ, zero, suc, _+_, _*_, _%_, _-_, _≤_, _<_}
+use native.Mathlib.Nat.{mod-add-mod, mod-eq-of-lt, add-mod-right, suc-mul, suc-ne-zero}
 use native.Mathlib.Numerals.{add-one}
 use native.Mathlib.Omega.{arith}
-use borrow.Author.Tests.{ne-eqb, le-ltb, lt-ltb, eq-eqb, eqb-true, eqb-false}
+use borrow.Author.Tests.{ne-eqb, eq-eqb, eqb-true, eqb-false}
 use lib.Bits.{bitXor, xor-self}
 use lib.Count.{ones, onesIn}
 use lib.Dec.{eqb, ltb}
@@ -15,34 +15,50 @@ use lib.ListN.{length, take, replicate, length-append, length-replicate}
 use lib.Seq.{take-at}
 use Rattle.runs.specs.Runs.{over}
 use Rattle.runs.specs.Refusals.{orElse}
-use Rattle.runs.proofs.Laws.{split, then-later}
-use Rattle.formats.specs.declared.Format.{Format}
-use Rattle.formats.specs.Formats.{formatOf, settingsRefusal, settled}
-use Rattle.numbers.specs.Numbers.{entryOf, numberIn, differenceOf}
-use Rattle.numbers.proofs.Laws.{entry-lt, entry-number-in, table-apart}
+use Rattle.runs.proofs.Laws.{split, first-refuses, then-later}
+use Rattle.formats.specs.Formats.{formatOf, settingsRefusal}
+use Rattle.numbers.specs.declared.Found.the-variants.{Number}
+use Rattle.numbers.specs.Numbers.{entryOf, foundOf, refusalOf, valueOf, differenceOf}
+use Rattle.numbers.proofs.Laws.{table-apart, no-entry-refused}
 use Rattle.cells.specs.Cells.{eightIn}
-use Rattle.cells.proofs.Whole.{eight-in-back}
-use Rattle.sender.specs.declared.Sender.{Sender}
-use Rattle.sender.specs.Packing.{Packable}
 use Rattle.sender.specs.Sender as S
-use Rattle.sender.proofs.Laws as SL
 use Rattle.receiver.specs.Receiver as R
 use Rattle.receiver.proofs.Laws as RL
-use Rattle.line.specs.Demands.{SendCall, ReceiveCall, Receives, InSettings, GivesBack}
-use Rattle.line.specs.Line.{Trip, cellOn, alteredIn, Roomy, Column, theSamples, theAncillary, theMarks, runAfter, said}
+use Rattle.receiver.proofs.Indication.{never-15, bare-never-15}
+use Rattle.line.specs.Contracts.{SendCall, MeetsSend, ReceiveCall, MeetsReceive}
+use Rattle.line.specs.Demands.{receiveTable, InSettings, formatIn, GivesBack}
+use Rattle.line.specs.Line.{alteredIn, WithRoom, Place, places, handedBy}
 use Rattle.line.proofs.Calls.{gives-back}
-use Rattle.line.proofs.Cells.{received-refusal, cell-48, cell-number}
+use Rattle.line.proofs.Cells.{
+  received-refusal,
+  settings-none,
+  number-lt,
+  fits,
+  cell-48,
+  eight-sent,
+  found-there,
+  rightly-there,
+  used-in,
+  settings-on,
+}
 
--- what stands in the place of a lost cell, and of one that was not lost
-abbrev pub lostValue : Column → ℕ
-lostValue theSamples = 0
-lostValue theAncillary = 0
-lostValue theMarks = 2
+-- the place of a lost cell
+abbrev pub missing : Place
+missing = (0, (0, 2))
 
-abbrev pub ownOf : Column → ℕ → Trip → List ℕ
-ownOf theSamples used t = t .samples
-ownOf theAncillary used t = t .ancillary
-ownOf theMarks used t = replicate used 0
+-- lists side by side, both cut alike, and both with a row of one value before them
+module _ {A B : Type 0} where
+  take-zip : (n : ℕ) (xs : List A) (ys : List B) → take n (zip xs ys) ≡ zip (take n xs) (take n ys)
+  unfolding zip zipWith
+  take-zip zero xs ys = refl
+  take-zip (suc n) [] ys = refl
+  take-zip (suc n) (x ∷ xs) [] = refl
+  take-zip (suc n) (x ∷ xs) (y ∷ ys) = ap (λ l. (x, y) ∷ l) (take-zip n xs ys)
+
+  row-zip : (n : ℕ) (x : A) (y : B) (xs : List A) (ys : List B) → zip (replicate n x ++ xs) (replicate n y ++ ys) ≡ replicate n (x, y) ++ zip xs ys
+  unfolding zip zipWith
+  row-zip zero x y xs ys = refl
+  row-zip (suc n) x y xs ys = ap (λ l. (x, y) ∷ l) (row-zip n x y xs ys)
 
 -- k cells after the last one, the difference is k + 1
 pub difference-after : (last k : ℕ) → last ≤ 15 → k ≤ 14 → differenceOf ((last + 1 + k) % 16) last ≡ k + 1
@@ -60,199 +76,171 @@ pub number-after : (last k : ℕ) → ((last + 1 + k) % 16 + 1) % 16 ≡ (last +
 number-after last k =
     mod-add-mod (last + 1 + k) 16 1 ∙ ap (λ (n : ℕ). n % 16) (let whole : last + 1 + k + 1 ≡ last + 1 + suc k = omega arith in whole)
 
--- a cell that a sender wrote, with overhead
-module _ (st : Sender) (t : Trip) (with-overhead : formatOf (st .format) .«overhead_bits» ≡ 0 → ⊥)
-    (sent : S.sendRefusal st (t .indication) (t .samples) (t .ancillary) 48 ≡ 0)
-  where
-    abbrev f : Format
-    f = formatOf (st .format)
+-- a receiver that took an unaltered cell after a gap: it is in the settings of the sender that goes on, has the cell's number, and
+-- has handed out the places of the missing cells and of this one
+pub record Took (s : SendCall) (c : ReceiveCall) (gap : ℕ) : Type 0 where
+  pub settings : InSettings (s .answer .state) (c .answer .state)
+  pub started : c .answer .state .started ≡ true
+  pub last : c .answer .state .last ≡ s .state .number
+  pub hands : handedBy c
+      ≡ replicate (gap * S.usedNow (s .state)) missing ++ places (s .samples) (s .ancillary) (replicate (S.usedNow (s .state)) 0)
 
-    pub state-passes : SL.StatePasses (st .format) (st .channels) (st .order) (st .number) (st .second)
-    state-passes = SL.passes st (t .indication) (t .samples) (t .ancillary) 48 sent
+-- A cell that a sender wrote has an indication that no receiver in its settings refuses 15, where both come as they were sent.
+pub honest-never-15 : (s : SendCall) (r : ReceiveCall) → MeetsSend s → s .answer .refusal ≡ 0 → InSettings (s .state) (r .state)
+    → r .cell ≡ s .written → r .indication ≡ s .indication → MeetsReceive r → r .answer .refusal ≡ 15 → ⊥
+honest-never-15 s r sends sent same arrived indicated receives fifteen =
+    let table : receiveTable r ≡ 15 = sym (received-refusal r receives) ∙ fifteen in
+    split (eqb (formatIn s .«overhead_bits») 0)
+    (λ e.
+    bare-never-15 (r .state) (r .cell) (r .indication) _ _ _
+    (ap (λ (x : ℕ). formatOf x .«overhead_bits») (same .format) ∙ eqb-true _ 0 e) table)
+    (λ e. never-15 (r .state) (r .cell) (r .indication) _ _ _ (rightly-there s sends sent (eqb-false _ 0 e) r same arrived indicated) table)
 
-    number-lt : st .number < 16
-    number-lt = omega (arith, state-passes .number-to)
+-- a cell with overhead that a call wrote
+module _ (s : SendCall) (sends : MeetsSend s) (sent : s .answer .refusal ≡ 0) (with-overhead : formatIn s .«overhead_bits» ≡ 0 → ⊥) where
+  -- one, two or three altered bits lead off the table
+  off-table : (came : List ℕ) → 1 ≤ alteredIn s came → alteredIn s came ≤ 3 → refusalOf (foundOf (eightIn (formatIn s) came)) ≡ 8
+  unfolding ones onesIn
+  off-table came some few = no-entry-refused (eightIn (formatIn s) came) not-there
+    where
+      same : alteredIn s came ≡ ones (bitXor (entryOf (s .state .number)) (entryOf (s .state .number))) → ⊥
+      same e =
+          let none : ones (bitXor (entryOf (s .state .number)) (entryOf (s .state .number))) ≡ 0
+          = ap ones (xor-self (entryOf (s .state .number))) in
+          omega arith
 
-    fits : Packable (settled (st .format) (st .channels) (st .order)) (t .samples) (t .ancillary)
-    fits = SL.packable st (t .indication) (t .samples) (t .ancillary) 48 sent
+      not-there : (number : ℕ) → number < 16 → entryOf number ≡ eightIn (formatIn s) came → ⊥
+      not-there number low entry =
+          let altered : alteredIn s came ≡ ones (bitXor (entryOf (s .state .number)) (entryOf number))
+          = ap₂ (λ (a b : ℕ). ones (bitXor a b)) (eight-sent s sends sent with-overhead) (sym entry) in
+          split (eqb (s .state .number) number)
+          (λ e. same (altered ∙ ap (λ (n : ℕ). ones (bitXor (entryOf (s .state .number)) (entryOf n))) (sym (eqb-true _ _ e))))
+          (λ e. let far = table-apart (number-lt s sends sent) low (eqb-false _ _ e) in omega (arith, altered))
 
-    eight-sent : eightIn f (cellOn st t) ≡ entryOf (st .number)
-    unfolding S.cellNow
-    eight-sent =
-        eight-in-back (fits .limits .sound) _ (st .channels) (S.timesNow st) _ _ (t .samples) (t .ancillary) (fits .small) (fits .few)
-        with-overhead (entry-lt number-lt)
-
-    pub number-sent : R.numberNow f (cellOn st t) ≡ st .number
-    number-sent = cell-number st (t .indication) (t .samples) (t .ancillary) 48 sent with-overhead
-
-    -- one, two or three altered bits lead off the table
-    pub off-table : (came : List ℕ) → 1 ≤ alteredIn f (cellOn st t) came → alteredIn f (cellOn st t) came ≤ 3
-        → numberIn (eightIn f came) < 16 → ⊥
-    unfolding ones onesIn
-    off-table came some few found =
-        let word = eightIn f came in
-        let entry : entryOf (numberIn word) ≡ word = entry-number-in word found in
-        let altered : alteredIn f (cellOn st t) came ≡ ones (bitXor (entryOf (st .number)) (entryOf (numberIn word)))
-        = ap₂ (λ (a b : ℕ). ones (bitXor a b)) eight-sent (sym entry) in
-        split (eqb (st .number) (numberIn word))
-        (λ e. same (altered ∙ ap (λ (n : ℕ). ones (bitXor (entryOf (st .number)) (entryOf n))) (sym (eqb-true _ _ e))))
-        (λ e. let far = table-apart number-lt found (eqb-false _ _ e) in omega (arith, altered))
-      where
-        same : alteredIn f (cellOn st t) came ≡ ones (bitXor (entryOf (st .number)) (entryOf (st .number))) → ⊥
-        same e = let none : ones (bitXor (entryOf (st .number)) (entryOf (st .number))) ≡ 0 = ap ones (xor-self (entryOf (st .number))) in omega arith
-
-    -- a call on it by a receiver in the sender's settings
-    module _ (c : ReceiveCall) (meets : Receives c) (same : InSettings st (c .state)) where
-      abbrev refusal : ℕ
-      refusal = R.receiveRefusal (c .state) (c .cell) (length (c .samples)) (length (c .ancillary)) (length (c .marks))
-
-      -- checks 1 to 4 pass where the last number does
-      state-none : R.lastRefused f (c .state .started) (c .state .last) ≡ false → R.stateRefusal (c .state) ≡ 0
-      unfolding R.stateRefusal
-      state-none last-passes =
+  -- a call on it by a receiver in the sender's settings
+  module _ (c : ReceiveCall) (receives : MeetsReceive c) (same : InSettings (s .state) (c .state)) where
+    -- a spoiled cell
+    module _ {came : List ℕ} (arrived : c .cell ≡ came) (some : 1 ≤ alteredIn s came) (few : alteredIn s came ≤ 3) where
+      no-number : refusalOf (R.foundNow (c .state) (c .cell)) ≡ 8
+      unfolding R.foundNow
+      no-number =
           (λ i.
-          orElse (settingsRefusal (same .format i) (same .channels i) (same .order i))
-          (cond (R.lastRefused (formatOf (same .format i)) (c .state .started) (c .state .last)) 4 0))
-          ∙ then-later _ (SL.settings-none st (t .indication) (t .samples) (t .ancillary) 48 sent)
-          ∙ rw last-passes
+          refusalOf
+          (cond (eqb (formatOf (same .format i) .«overhead_bits») 0) (Number 0) (foundOf (eightIn (formatOf (same .format i)) (arrived i)))))
+          ∙ (rw (ne-eqb (formatIn s .«overhead_bits») 0 with-overhead))
+          ∙ off-table came some few
 
-      -- a spoiled cell is refused
-      pub spoiled-refused : {came : List ℕ} → c .cell ≡ came → 1 ≤ alteredIn f (cellOn st t) came → alteredIn f (cellOn st t) came ≤ 3
-          → c .answer .refusal ≡ 0 → ⊥
-      unfolding R.numberNow
-      spoiled-refused {came} arrived some few taken =
-          let passed = RL.passes (c .state) (c .cell) _ _ _ (sym (received-refusal c meets) ∙ taken) in
-          let number : R.numberNow f came ≤ 15
-          = subst (λ (n : ℕ). n ≤ 15) (λ i. R.numberNow (formatOf (same .format i)) (arrived i)) (passed .number-to) in
-          let found : numberIn (eightIn f came) ≤ 15 = rw (ne-eqb (f .«overhead_bits») 0 with-overhead) at number in
-          off-table came some few (omega (arith, found))
+      -- it is refused
+      pub spoiled-refused : c .answer .refusal ≡ 0 → ⊥
+      spoiled-refused taken =
+          let passed = RL.passes (c .state) (c .cell) (c .indication) _ _ _ (sym (received-refusal c receives) ∙ taken) in
+          suc-ne-zero 7 (sym no-number ∙ passed .found)
 
-      -- one of 48 octets is refused 8
-      pub spoiled-gets-8 : {came : List ℕ} → c .cell ≡ came → length came ≡ 48 → 1 ≤ alteredIn f (cellOn st t) came
-          → alteredIn f (cellOn st t) came ≤ 3 → Roomy c → R.lastRefused f (c .state .started) (c .state .last) ≡ false
-          → c .answer .refusal ≡ 8
-      unfolding R.receiveRefusal R.lengthsRefused R.numberNow
-      spoiled-gets-8 {came} arrived whole some few roomy last-passes =
-          let number : R.numberNow (formatOf (c .state .format)) (c .cell) ≡ numberIn (eightIn f came)
-          = (λ i. R.numberNow (formatOf (same .format i)) (arrived i)) ∙ rw (ne-eqb (f .«overhead_bits») 0 with-overhead) in
-          let off : 15 < R.numberNow (formatOf (c .state .format)) (c .cell)
-          = rw number (lt-of-not-le (λ h. off-table came some few (omega (arith, h)))) in
-          received-refusal c meets
-          ∙ then-later _ (state-none last-passes)
+      -- one of 48 octets is refused 8, where checks 1 to 4 pass and the runs have room
+      pub spoiled-gets-8 : length came ≡ 48 → R.stateRefusal (c .state) ≡ 0 → WithRoom c → c .answer .refusal ≡ 8
+      unfolding R.receiveRefusal R.lengthsRefused
+      spoiled-gets-8 whole state-passes room =
+          received-refusal c receives
+          ∙ then-later _ state-passes
           ∙ rw (
             eq-eqb _ _ (ap length arrived ∙ whole),
-            eq-eqb _ _ (roomy .ancillary-equal),
-            eq-eqb _ _ (roomy .marks-equal),
-            lt-ltb _ _ off,
+            eq-eqb _ _ (room .ancillary-equal),
+            eq-eqb _ _ (room .marks-equal),
           )
+          (first-refuses _ (λ e. suc-ne-zero 7 (sym no-number ∙ e)) ∙ no-number)
 
-      -- an unaltered one is taken where the state passes and the gap is some
-      module _ (arrived : c .cell ≡ cellOn st t) (roomy : Roomy c)
-          (last-passes : R.lastRefused f (c .state .started) (c .state .last) ≡ false)
-          {gap : ℕ} (gap-is : R.gapNow f (c .state .started) (c .state .last) (st .number) ≡ suc gap)
-        where
-          gap-here : R.gapOf (c .state) (c .cell) ≡ suc gap
-          gap-here =
-              (λ i.
-              R.gapNow (formatOf (same .format i)) (c .state .started) (c .state .last)
-              (R.numberNow (formatOf (same .format i)) (arrived i)))
-              ∙ ap (R.gapNow f (c .state .started) (c .state .last)) number-sent
-              ∙ gap-is
+    -- an unaltered one is taken where the state passes and the gap is some
+    module _ (arrived : c .cell ≡ s .written) (indicated : c .indication ≡ s .indication) (room : WithRoom c)
+        (last-passes : R.lastRefused (c .state) ≡ false) {gap : ℕ} (gap-is : R.gapOf (c .state) (c .cell) ≡ suc gap)
+      where
+        -- checks 1 to 4 pass
+        state-none : R.stateRefusal (c .state) ≡ 0
+        unfolding R.stateRefusal
+        state-none =
+            (λ i. orElse (settingsRefusal (same .format i) (same .channels i) (same .order i)) (cond (R.lastRefused (c .state)) 4 0))
+            ∙ then-later _ (settings-none s sends sent)
+            ∙ rw last-passes
 
-          pub unaltered-taken : c .answer .refusal ≡ 0
-          unfolding R.receiveRefusal R.lengthsRefused
-          unaltered-taken =
-              let whole : length (c .cell) ≡ 48 = ap length arrived ∙ cell-48 st (t .indication) (t .samples) (t .ancillary) 48 sent in
-              let number : R.numberNow (formatOf (c .state .format)) (c .cell) ≡ st .number
-              = (λ i. R.numberNow (formatOf (same .format i)) (arrived i)) ∙ number-sent in
-              let within : R.numberNow (formatOf (c .state .format)) (c .cell) ≤ 15 = rw number (state-passes .number-to) in
-              let some : R.gapOf (c .state) (c .cell) ≡ 0 → ⊥ = λ e. suc-ne-zero gap (sym gap-here ∙ e) in
-              let by-room : refusal ≡ cond (ltb (length (c .samples)) (R.gapOf (c .state) (c .cell) * R.usedNow (c .state))) 10 0
-              = then-later _ (state-none last-passes)
-              ∙ rw (
-                eq-eqb _ _ whole,
-                eq-eqb _ _ (roomy .ancillary-equal),
-                eq-eqb _ _ (roomy .marks-equal),
-                le-ltb _ _ within,
-                ne-eqb _ 0 some,
-              ) in
-              received-refusal c meets
-              ∙ split (ltb (length (c .samples)) (R.gapOf (c .state) (c .cell) * R.usedNow (c .state)))
-              (λ e. absurd (roomy .long-enough (by-room ∙ rw e)))
-              (λ e. by-room ∙ rw e)
+        found-here : R.foundNow (c .state) (c .cell) ≡ Number (s .state .number)
+        found-here = found-there s sends sent with-overhead c same arrived
 
-          -- the call of `send` that wrote it
-          abbrev wrote : SendCall
-          wrote =
-              record {
-                state = st;
-                indication = t .indication;
-                samples = t .samples;
-                ancillary = t .ancillary;
-                cell = replicate 48 0;
-                answer = S.sentOf st (t .indication) (t .samples) (t .ancillary) 48;
-                written = S.cellAfter st (t .indication) (t .samples) (t .ancillary) (replicate 48 0);
-              }
+        pub unaltered-taken : c .answer .refusal ≡ 0
+        unfolding R.receiveRefusal R.lengthsRefused refusalOf
+        unaltered-taken =
+            let some : R.gapOf (c .state) (c .cell) ≡ 0 → ⊥ = λ e. suc-ne-zero gap (sym gap-is ∙ e) in
+            let by-room : receiveTable c ≡ cond (ltb (length (c .samples)) (R.gapOf (c .state) (c .cell) * R.usedNow (c .state))) 10 0
+            = then-later _ state-none
+            ∙ rw (
+              eq-eqb _ _ (ap length arrived ∙ cell-48 s sends sent),
+              eq-eqb _ _ (room .ancillary-equal),
+              eq-eqb _ _ (room .marks-equal),
+            )
+            (then-later _ (ap refusalOf found-here)
+            ∙ rw (rightly-there s sends sent with-overhead c same arrived indicated, ne-eqb _ 0 some)) in
+            received-refusal c receives
+            ∙ split (ltb (length (c .samples)) (R.gapOf (c .state) (c .cell) * R.usedNow (c .state)))
+            (λ e. absurd (room .long-enough (by-room ∙ rw e)))
+            (λ e. by-room ∙ rw e)
 
-          written-is : wrote .written ≡ cellOn st t
-          unfolding S.cellAfter
-          written-is = rw sent
+        back : GivesBack s c
+        back = gives-back s c sends sent same arrived receives unaltered-taken
 
-          pub back : GivesBack wrote c
-          unfolding S.sentOf
-          back =
-              gives-back wrote c (record { answered = refl; cell-after = refl }) (rw sent) same (arrived ∙ sym written-is) meets
-              unaltered-taken
+        table-none : receiveTable c ≡ 0
+        table-none = sym (received-refusal c receives) ∙ unaltered-taken
 
-          taken-refusal : refusal ≡ 0
-          taken-refusal = sym (received-refusal c meets) ∙ unaltered-taken
+        missing-is : c .answer .missing ≡ gap
+        unfolding R.receivedOf
+        missing-is =
+            ap (λ x. x .missing) (receives .answered)
+            ∙ rw (table-none, gap-is) (let whole : suc gap - 1 ≡ gap = omega arith in whole)
 
-          pub missing-is : c .answer .missing ≡ gap
-          unfolding R.receivedOf
-          missing-is =
-              ap (λ x. x .missing) (meets .answered)
-              ∙ rw (taken-refusal, gap-here) (let whole : suc gap - 1 ≡ gap = omega arith in whole)
+        state-is : c .answer .state ≡ R.after (c .state) (c .cell)
+        unfolding R.receivedOf
+        state-is = ap (λ x. x .state) (receives .answered) ∙ rw table-none
 
-          pub state-is : c .answer .state ≡ R.after (c .state) (c .cell)
-          unfolding R.receivedOf
-          state-is = ap (λ x. x .state) (meets .answered) ∙ rw taken-refusal
+        -- the entries that the answer tells of, in one run
+        told : (run : List ℕ) {run₁ : List ℕ} (v : ℕ) (own : List ℕ)
+            → run₁ ≡ over (replicate (c .answer .missing * S.usedNow (s .state)) v ++ own) run → length own ≡ S.usedNow (s .state)
+            → take ((gap + 1) * S.usedNow (s .state)) run₁ ≡ replicate (gap * S.usedNow (s .state)) v ++ own
+        unfolding over
+        told run v own e len =
+            let used = S.usedNow (s .state) in
+            let new : length (replicate (gap * used) v ++ own) ≡ (gap + 1) * used
+            = length-append (replicate (gap * used) v) own
+            ∙ ap₂ (λ (a b : ℕ). a + b) (length-replicate (gap * used) v) len
+            ∙ rw (add-one, suc-mul) in
+            ap (take ((gap + 1) * used)) (e ∙ ap (λ (n : ℕ). over (replicate (n * used) v ++ own) run) missing-is)
+            ∙ take-at (replicate (gap * used) v ++ own) _ ((gap + 1) * used) new
 
-          -- a receiver that has taken the cell is in the settings of the sender that goes on, and has its number
-          pub settings-after : InSettings (S.after st (t .indication)) (c .answer .state)
-          unfolding S.after R.after
-          settings-after =
-              record {
-                format = ap (λ x. x .format) state-is ∙ same .format;
-                channels = ap (λ x. x .channels) state-is ∙ same .channels;
-                order = ap (λ x. x .order) state-is ∙ same .order;
-              }
+        hands-out : handedBy c
+            ≡ replicate (gap * S.usedNow (s .state)) missing ++ places (s .samples) (s .ancillary) (replicate (S.usedNow (s .state)) 0)
+        hands-out =
+            let used = S.usedNow (s .state) in
+            let count : cond (eqb (c .answer .refusal) 0) ((c .answer .missing + 1) * R.usedNow (c .state)) 0 ≡ (gap + 1) * used
+            = rw (unaltered-taken, missing-is, used-in same) in
+            rw (
+              count,
+              take-zip ((gap + 1) * used) (c .samples-after) (zip (c .ancillary-after) (c .marks-after)),
+              take-zip ((gap + 1) * used) (c .ancillary-after) (c .marks-after),
+              told (c .samples) 0 (s .samples) (back .samples-back) (fits s sends sent .samples-length),
+              told (c .ancillary) 0 (s .ancillary) (back .ancillary-back) (fits s sends sent .ancillary-length),
+              told (c .marks) 2 (replicate used 0) (back .marked-sound) (length-replicate used 0),
+            )
+            (ap (zip (replicate (gap * used) 0 ++ s .samples)) (row-zip (gap * used) 0 2 (s .ancillary) (replicate used 0))
+            ∙ row-zip (gap * used) 0 (0, 2) (s .samples) (zip (s .ancillary) (replicate used 0)))
 
-          pub started-after : c .answer .state .started ≡ true
-          unfolding R.after
-          started-after = ap (λ x. x .started) state-is
-
-          pub last-after : c .answer .state .last ≡ st .number
-          unfolding R.after
-          last-after = ap (λ x. x .last) state-is ∙ (λ i. R.numberNow (formatOf (same .format i)) (arrived i)) ∙ number-sent
-
-          -- the entries that the answer tells of
-          handed-of : (v : ℕ) (own run : List ℕ) {run₁ : List ℕ}
-              → run₁ ≡ over (replicate (c .answer .missing * S.usedNow st) v ++ own) run → length own ≡ S.usedNow st
-              → take (said (S.usedNow st) (c .answer)) run₁ ≡ replicate (gap * S.usedNow st) v ++ own
-          unfolding over
-          handed-of v own run e len =
-              let count : said (S.usedNow st) (c .answer) ≡ (gap + 1) * S.usedNow st = rw (unaltered-taken, missing-is) in
-              let new : length (replicate (gap * S.usedNow st) v ++ own) ≡ (gap + 1) * S.usedNow st
-              = length-append (replicate (gap * S.usedNow st) v) own
-              ∙ ap₂ (λ (a b : ℕ). a + b) (length-replicate (gap * S.usedNow st) v) len
-              ∙ rw (add-one, suc-mul) in
-              ap₂ take count (e ∙ ap (λ (n : ℕ). over (replicate (n * S.usedNow st) v ++ own) run) missing-is)
-              ∙ take-at (replicate (gap * S.usedNow st) v ++ own) _ ((gap + 1) * S.usedNow st) new
-
-          pub handed-out : (column : Column)
-              → take (said (S.usedNow st) (c .answer)) (runAfter column c)
-              ≡ replicate (gap * S.usedNow st) (lostValue column) ++ ownOf column (S.usedNow st) t
-          handed-out theSamples = handed-of 0 (t .samples) (c .samples) (back .samples-back) (fits .samples-length)
-          handed-out theAncillary = handed-of 0 (t .ancillary) (c .ancillary) (back .ancillary-back) (fits .ancillary-length)
-          handed-out theMarks =
-              handed-of 2 (replicate (S.usedNow st) 0) (c .marks) (back .marked-sound) (length-replicate (S.usedNow st) 0)
+        pub took : Took s c gap
+        unfolding R.after valueOf
+        took =
+            record {
+              settings =
+                  settings-on s sends sent
+                  (record {
+                    format = ap (λ x. x .format) state-is ∙ same .format;
+                    channels = ap (λ x. x .channels) state-is ∙ same .channels;
+                    order = ap (λ x. x .order) state-is ∙ same .order;
+                  });
+              started = ap (λ x. x .started) state-is;
+              last = ap (λ x. x .last) state-is ∙ ap valueOf found-here;
+              hands = hands-out;
+            }

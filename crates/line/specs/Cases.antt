@@ -1,4 +1,4 @@
--- The cases of document 01 marked P: what the definitions give, and what the paper says, row by row.
+-- The cases of document 01 marked P, and one whole cell beside them: what the definitions give, and what is printed, row by row.
 -- Assumes nothing.
 use mathlib.Core.Bool.{false, true}
 use mathlib.Core.List.{List, [], _∷_, map}
@@ -13,18 +13,22 @@ use Rattle.sender.specs.Sender.{openState, cellNow}
 sixNumbers : List ℕ
 sixNumbers = 0 ∷ 1 ∷ 2 ∷ 3 ∷ 4 ∷ 8 ∷ []
 
-unfoldable pub given : List (List ℕ)
+unfoldable pub defined : List (List ℕ)
 unfolding sixNumbers
-given =
+defined =
     map entryOf sixNumbers
     ∷ map dividedEntry sixNumbers
     ∷ (guardOf 24 0 0 ∷ guardOf 24 0 1 ∷ guardOf 24 (2 ^ 15) 0 ∷ guardOf 24 (2 ^ 23) 0 ∷ guardOf 8 1 0 ∷ [])
     ∷ (timesOf (slotsOf 0x56) 5 ∷ slotOf false 5 2 3 1 ∷ slotOf true 5 2 3 1 ∷ [])
     ∷ cellNow (openState 0x56 2 0 0 false 0) false (replicate 12 0) (replicate 12 0)
+    -- five channels by order 1, number 5, second number 12; each run has time 0 and then time 1
+    ∷ cellNow (openState 0x56 5 1 5 true 12) false
+    (0x7FFFFF ∷ 0xFFFFFF ∷ 0xFFFFFF ∷ 0x628062 ∷ 0x000000 ∷ 0x042E3B ∷ 0xF7F3B3 ∷ 0x800000 ∷ 0x000001 ∷ 0x856AE2 ∷ [])
+    (10 ∷ 4 ∷ 6 ∷ 15 ∷ 7 ∷ 7 ∷ 1 ∷ 14 ∷ 4 ∷ 8 ∷ [])
     ∷ []
 
-unfoldable pub wanted : List (List ℕ)
-wanted =
+unfoldable pub printed : List (List ℕ)
+printed =
     -- "numbers 0, 1, 2, 3, 4 and 8 give 0F, 84, 41, CA, 22, 18", by the table and by the division
     (0x0F ∷ 0x84 ∷ 0x41 ∷ 0xCA ∷ 0x22 ∷ 0x18 ∷ [])
     ∷ (0x0F ∷ 0x84 ∷ 0x41 ∷ 0xCA ∷ 0x22 ∷ 0x18 ∷ [])
@@ -36,4 +40,9 @@ wanted =
     ∷ (0x00 ∷ 0x00 ∷ 0x00 ∷ 0x07 ∷ 0x00 ∷ 0x00 ∷ 0x00 ∷ 0x07 ∷ 0x00 ∷ 0x00 ∷ 0x00 ∷ 0x07 ∷ 0x00 ∷ 0x00 ∷ 0x00 ∷ 0x07
     ∷ 0x00 ∷ 0x00 ∷ 0x00 ∷ 0x0F ∷ 0x00 ∷ 0x00 ∷ 0x00 ∷ 0x0F ∷ 0x00 ∷ 0x00 ∷ 0x00 ∷ 0x0F ∷ 0x00 ∷ 0x00 ∷ 0x00 ∷ 0x0F
     ∷ 0x00 ∷ 0x00 ∷ 0x00 ∷ 0x07 ∷ 0x00 ∷ 0x00 ∷ 0x00 ∷ 0x07 ∷ 0x00 ∷ 0x00 ∷ 0x00 ∷ 0x07 ∷ 0x00 ∷ 0x00 ∷ 0x00 ∷ 0x07 ∷ [])
+    -- the whole cell as another implementation, written from the paper alone in another language, packs it (a line of
+    -- tests/vectors/send.txt): ancillary behind each sample, A9 in the first eight sequencing bits, then 0, 0, 1, 1; two unused slots
+    ∷ (0x7F ∷ 0xFF ∷ 0xFF ∷ 0xA9 ∷ 0x04 ∷ 0x2E ∷ 0x3B ∷ 0x75 ∷ 0xFF ∷ 0xFF ∷ 0xFF ∷ 0x4E ∷ 0xF7 ∷ 0xF3 ∷ 0xB3 ∷ 0x17
+    ∷ 0xFF ∷ 0xFF ∷ 0xFF ∷ 0x6E ∷ 0x80 ∷ 0x00 ∷ 0x00 ∷ 0xE0 ∷ 0x62 ∷ 0x80 ∷ 0x62 ∷ 0xF2 ∷ 0x00 ∷ 0x00 ∷ 0x01 ∷ 0x4F
+    ∷ 0x00 ∷ 0x00 ∷ 0x00 ∷ 0x74 ∷ 0x85 ∷ 0x6A ∷ 0xE2 ∷ 0x86 ∷ 0x00 ∷ 0x00 ∷ 0x00 ∷ 0x0F ∷ 0x00 ∷ 0x00 ∷ 0x00 ∷ 0x0F ∷ [])
     ∷ []

@@ -1,3 +1,5 @@
 pub mod Cases
+pub mod Contracts
 pub mod Demands
 pub mod Line
+pub mod Units

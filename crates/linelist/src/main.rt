@@ -42,7 +42,7 @@ fn read_log(run: &mut [u8]) -> Reading
     }
 }
 
-// Writes a list, which is whole: that is shown where it is called.
+// Writes a list to standard output. It asks that the list is whole, and main proves that.
 fn print(list: &[u8], whole: bool)
     requires { ⌜ whole ≡ true ⌝ }
 {
@@ -54,8 +54,8 @@ fn print(list: &[u8], whole: bool)
     }
 }
 
-// A log above 65,536 octets is refused whatever follows, so one octet more is all that is read of it. No list is longer than
-// 131,072 octets.
+// Reads a log and writes its list. One octet above 65,536 is enough to see that a log is too long, so no more is read. No list is
+// longer than 131,072 octets.
 fn main() {
     let mut log = [0u8; 65537];
     let reading = read_log(&mut log);

@@ -7,7 +7,7 @@ use Prim.Native.Nat.{ℕ, zero, suc, _+_, _*_, _/_, _%_, _-_, _≤_}
 use native.Mathlib.Omega.{arith}
 use borrow.Author.Tests.{eqb-true, ltb-false, le-leb}
 use lib.Dec.{eqb, ltb}
-use Rattle.runs.proofs.Laws.{split}
+use Rattle.runs.proofs.Laws.{split, past}
 use lib.ListN.{length, length-append}
 use Rattle.log.specs.Records.{headerOf, recordAt}
 use Rattle.log.proofs.Places.{cell-facts}
@@ -15,7 +15,7 @@ use Rattle.receiver.specs.declared.Received.{Received}
 use Rattle.listing.specs.declared.Listed.{Listed}
 use Rattle.listing.specs.declared.records.Standing.{Standing}
 use Rattle.listing.specs.Lines.{formatLine, brokenLine, endLine, logRefusedLine}
-use Rattle.listing.specs.List.{startOf, gotAt, lineOf, afterOf, endLines, recordLines, linesFrom, listOf, Lists}
+use Rattle.listing.specs.List.{startOf, gotAt, lineOf, afterOf, endLines, recordLines, listRefusal, listOf, Lists}
 use Rattle.listing.specs.Text.{digitsOf, item}
 use Rattle.listing.specs.Words.{words}
 use Rattle.listing.proofs.Standings.{after-place}
@@ -58,13 +58,19 @@ line-short : (index : ℕ) (got : Received) → length (lineOf index got) ≤ 76
 unfolding lineOf
 line-short index got =
     split (eqb (got .refusal) 0)
-    (λ e. rw e (three-short (words "") (words " sound ") (words " number ") (words "\n") index (got .missing) (got .number) {i = 0} {j = 7} {k = 8} {l = 1} (omega arith) (omega arith) (omega arith) (omega arith)))
-    (λ e. rw e (omega (arith, two-short (words "") (words " refused ") (words "\n") index (got .refusal) {i = 0} {j = 9} {l = 1} (omega arith) (omega arith) (omega arith))))
+    (λ e. rw e (three-short (words "") (words " sound ") (words " number ") (words "\n") index (got .missing)
+    (got .number) {i = 0} {j = 7} {k = 8} {l = 1} (omega arith) (omega arith) (omega arith) (omega arith)))
+    (λ e. rw e (omega (
+      arith,
+      two-short (words "") (words " refused ") (words "\n") index (got .refusal) {i = 0} {j = 9} {l = 1} (omega arith)
+          (omega arith) (omega arith),
+    )))
 
 end-short : (here : Standing) (refusal : ℕ) → length (endLines here refusal) ≤ 140
 unfolding endLines
 end-short here refusal =
-    let end = three-short (words "end ") (words " sound ") (words " missing ") (words " refused\n") (here .sound) (here .missing) (here .refused) {i = 4} {j = 7} {k = 9} {l = 9} (omega arith) (omega arith) (omega arith) (omega arith) in
+    let end = three-short (words "end ") (words " sound ") (words " missing ") (words " refused\n") (here .sound) (here .missing)
+    (here .refused) {i = 4} {j = 7} {k = 9} {l = 9} (omega arith) (omega arith) (omega arith) (omega arith) in
     let broken = two-short (words "") (words " broken ") (words "\n") (here .index) refusal {i = 0} {j = 8} {l = 1} (omega arith) (omega arith) (omega arith) in
     split (eqb refusal 0)
     (λ e. rw e (omega (arith, end)))
@@ -82,26 +88,42 @@ lines-short (suc most) log here k h =
     let past : Standing = afterOf here (recordAt log (here .place) .next) (gotAt log here) in
     let place = after-place here (recordAt log (here .place) .next) (gotAt log here) in
     let rest = lines-short most log past (k - 1) (omega (arith, facts .0, facts .1, place)) in
-    rw e (omega (arith, facts .0, with-words (lineOf (here .index) (gotAt log here)) (recordLines most log past) (line-short (here .index) (gotAt log here)) rest)))
+    rw e (omega (
+      arith,
+      facts .0,
+      with-words (lineOf (here .index) (gotAt log here)) (recordLines most log past)
+          (line-short (here .index) (gotAt log here)) rest,
+    )))
     (λ e. rw e (omega (arith, end-short here (recordAt log (here .place) .refusal))))
+
+refused-short : (refusal : ℕ) → length (logRefusedLine refusal) ≤ 131072
+refused-short refusal =
+    omega (
+      arith,
+      with-words (item (words "log refused ") refusal) (words "\n") {a = 32} {b = 1}
+          (one-item (words "log refused ") refusal {b = 12} (omega arith)) (omega arith),
+    )
+
+format-short : (octet channels order : ℕ) → length (formatLine octet channels order) ≤ 70
+format-short octet channels order =
+    three-short (words "format ") (words " ") (words " ") (words "\n") octet channels order {i = 7} {j = 1} {k = 1} {l = 1}
+    (omega arith) (omega arith) (omega arith) (omega arith)
 
 -- a log of at most 65,536 octets has fewer than 1,338 records
 pub list-fits : (log : List ℕ) → length (listOf log) ≤ 131072
-unfolding listOf
+unfolding listOf listRefusal
 list-fits log =
-    let refused : (n : ℕ) → length (logRefusedLine n) ≤ 131072 =
-    λ n. omega (arith, with-words (item (words "log refused ") n) (words "\n") {a = 32} {b = 1} (one-item (words "log refused ") n {b = 12} (omega arith)) (omega arith)) in
-    split (ltb 65536 (length log))
-    (λ e. rw e (refused 13))
-    (λ e.
-    split (eqb (headerOf log .refusal) 0)
+    split (eqb (listRefusal log) 0)
     (λ ok.
-    let few = ltb-false 65536 (length log) e in
-    let head = three-short (words "format ") (words " ") (words " ") (words "\n") (headerOf log .format) (headerOf log .channels) (headerOf log .order) {i = 7} {j = 1} {k = 1} {l = 1} (omega arith) (omega arith) (omega arith) (omega arith) in
-    let rest = lines-short (suc (length log - 0)) log (startOf (headerOf log)) 1338 (omega arith) in
-    rw (e, ok)
-    (omega (arith, with-words (formatLine (headerOf log .format) (headerOf log .channels) (headerOf log .order)) (linesFrom log (startOf (headerOf log))) head rest)))
-    (λ ok. rw (e, ok) (refused (headerOf log .refusal))))
+    let few = ltb-false 65536 (length log) (past (ltb 65536 (length log)) 12 _ (eqb-true (listRefusal log) 0 ok) .0) in
+    let head = format-short (headerOf log .format) (headerOf log .channels) (headerOf log .order) in
+    let rest = lines-short (suc (length log)) log (startOf (headerOf log)) 1338 (omega arith) in
+    rw ok (omega (
+      arith,
+      with-words (formatLine (headerOf log .format) (headerOf log .channels) (headerOf log .order))
+          (recordLines (suc (length log)) log (startOf (headerOf log))) head rest,
+    )))
+    (λ refused. rw refused (refused-short (listRefusal log)))
 
 -- so a run of that many octets holds the whole list
 pub lists-whole : {log run after : List ℕ} {answer : Listed} → 131072 ≤ length run → Lists log run answer after → answer .whole ≡ true

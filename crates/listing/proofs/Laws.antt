@@ -14,7 +14,8 @@ use lib.Seq.{take-all, length-take-le, take-append-le, drop-cons, set-at, append
 use Rattle.runs.specs.Runs.{over}
 use Rattle.runs.proofs.Laws.{split}
 use Rattle.listing.specs.declared.Listed.{Listed}
-use Rattle.listing.specs.Text.{digitsOf, listed, Holds, Puts}
+use Rattle.listing.specs.Code.{Holds, Puts}
+use Rattle.listing.specs.Text.{digitsOf, listed}
 
 module _ {lent held now : List ℕ} {at : Listed} (h : Holds lent held now at) where
   place : at .octets ≡ length (take (length lent) held)

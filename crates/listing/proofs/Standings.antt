@@ -18,21 +18,9 @@ use Rattle.receiver.specs.declared.Received.{Received}
 use Rattle.listing.specs.declared.records.Standing.{Standing}
 use Rattle.listing.specs.declared.Listed.{Listed}
 use Rattle.listing.specs.Lines.{formatLine, soundLine, refusedLine, brokenLine, endLine, logRefusedLine}
-use Rattle.listing.specs.List.{
-  startOf,
-  judgedOf,
-  gotAt,
-  lineOf,
-  afterOf,
-  endLines,
-  recordLines,
-  linesFrom,
-  listOf,
-  Lists,
-  Counted,
-  Begun,
-}
-use Rattle.listing.specs.Text.{listed, Holds, Puts}
+use Rattle.listing.specs.Code.{linesFrom, Counted, Begun, Holds, Puts}
+use Rattle.listing.specs.List.{startOf, judgedOf, gotAt, lineOf, afterOf, endLines, recordLines, listRefusal, listOf, Lists}
+use Rattle.listing.specs.Text.{listed}
 use Rattle.listing.proofs.Laws.{puts-none, puts-then, puts-same}
 use Rattle.log.proofs.Places.{cell-facts}
 
@@ -215,18 +203,24 @@ from-start {run} {octets = octets} p =
 
 module _ (log : List ℕ) where
   pub list-large : 65536 < length log → logRefusedLine 13 ≡ listOf log
-  unfolding listOf
+  unfolding listOf listRefusal
   list-large h = rw (lt-ltb 65536 (length log) h)
 
   module _ {header : Header} (few : length log ≤ 65536) (e : header ≡ headerOf log) where
+    refusal : listRefusal log ≡ header .refusal
+    unfolding listRefusal
+    refusal = rw (le-ltb 65536 (length log) few, ← e)
+
     pub list-refused : (header .refusal ≡ 0 → ⊥) → logRefusedLine (header .refusal) ≡ listOf log
     unfolding listOf
-    list-refused some = rw (le-ltb 65536 (length log) few, ← e, ne-eqb (header .refusal) 0 some)
+    list-refused some = rw (refusal, ne-eqb (header .refusal) 0 some)
 
     pub list-lines : {start : Standing} → header .refusal ≡ 0 → start ≡ startOf header
         → formatLine (header .format) (header .channels) (header .order) ++ linesFrom log start ≡ listOf log
     unfolding listOf
-    list-lines ok s = rw (le-ltb 65536 (length log) few, ← e, eq-eqb (header .refusal) 0 ok, s)
+    list-lines ok s =
+        let all : length log - 0 ≡ length log = omega arith in
+        rw (refusal, eq-eqb (header .refusal) 0 ok, ← e, s, all)
 
 pub lists : {log run after : List ℕ} {answer : Listed} {octets : List ℕ} → octets ≡ listOf log
     → Puts run (record { octets = 0; whole = true }) after answer octets → Lists log run answer after

@@ -14,13 +14,13 @@ use Rattle.receiver.proofs.Wrong as receiver
 use Rattle.listing.specs.declared.Listed.{Listed}
 use Rattle.listing.specs.Text.{digitsOf}
 use Rattle.listing.specs.Words.{words}
-use Rattle.listing.specs.List.{judgedOf, lineOf, afterOf, endLines, recordLines, listOf}
+use Rattle.listing.specs.List.{judgedOf, lineOf, afterOf, endLines, recordLines, listRefusal, listOf}
 use Rattle.listing.proofs.list.Kinds as list-kinds
 use Rattle.listing.proofs.list.Reads as list-reads
 
 -- every definition on the way down to the numbers
 unfolded : Unit {0}
-unfolding over log.unfolded receiver.unfolded digitsOf judgedOf lineOf afterOf endLines recordLines listOf
+unfolding over log.unfolded receiver.unfolded digitsOf judgedOf lineOf afterOf endLines recordLines listRefusal listOf
 unfolded = tt
 
 -- the paper's zero cell, and its log: 56 02 00, then twice 00 and that cell
@@ -29,6 +29,13 @@ slots low rest = 0 ∷ 0 ∷ 0 ∷ low ∷ 0 ∷ 0 ∷ 0 ∷ low ∷ 0 ∷ 0 ∷
 
 abbrev twice : List ℕ
 twice = 0x56 ∷ 2 ∷ 0 ∷ 0 ∷ slots 7 (slots 15 (slots 7 (0 ∷ slots 7 (slots 15 (slots 7 [])))))
+
+-- the log of one cell numbered 5 that came with indication 1
+abbrev slot : ℕ → List ℕ → List ℕ
+slot low rest = 0 ∷ 0 ∷ 0 ∷ low ∷ rest
+
+abbrev indicated : List ℕ
+indicated = 0x56 ∷ 2 ∷ 0 ∷ 1 ∷ slot 15 (slot 7 (slot 15 (slot 7 (slot 15 (slot 7 (slot 7 (slot 15 (slots 7 []))))))))
 
 module _ (κs : Lfts 2) (p q : Place) where
   -- a log listed into a run of so many zeros
@@ -42,6 +49,20 @@ module _ (κs : Lfts 2) (p q : Place) where
   unfolding unfolded
   repeat-not-sound x v wrong s =
       let word : _≡_ {A = ℕ} 115 114 = ap (λ (l : List ℕ). getD l 35 0) (sym wrong ∙ s .left) in omega arith
+
+  -- the indication not looked at, and the cell told as sound
+  pub wrongly-indicated-not-sound : Listing indicated 100 (λ x run.
+      run ≡ over (words "format 86 2 0\n0 sound 0 number 5\nend 1 sound 0 missing 0 refused\n") (replicate 100 0))
+  unfolding unfolded
+  wrongly-indicated-not-sound x v wrong s =
+      let word : _≡_ {A = ℕ} 115 114 = ap (λ (l : List ℕ). getD l 16 0) (sym wrong ∙ s .left) in omega arith
+
+  -- refused 15 and not counted as refused
+  pub refused-15-not-passed-over : Listing indicated 100 (λ x run.
+      run ≡ over (words "format 86 2 0\n0 refused 15\nend 0 sound 0 missing 0 refused\n") (replicate 100 0))
+  unfolding unfolded
+  refused-15-not-passed-over x v wrong s =
+      let digit : _≡_ {A = ℕ} 48 49 = ap (λ (l : List ℕ). getD l 49 0) (sym wrong ∙ s .left) in omega arith
 
   -- a record that is broken counted as refused
   pub broken-not-refused : Listing (0x56 ∷ 2 ∷ 0 ∷ 2 ∷ []) 100 (λ x run.

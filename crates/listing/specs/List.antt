@@ -3,7 +3,7 @@
 use mathlib.Core.Bool.{Bool, cond}
 use mathlib.Core.List.{List, [], _++_}
 use mathlib.Core.Path.{_≡_}
-use Prim.Native.Nat.{ℕ, zero, suc, _+_, _*_, _-_, _≤_}
+use Prim.Native.Nat.{ℕ, zero, suc, _+_}
 use lib.Dec.{eqb, ltb}
 use lib.ListN.{length, take}
 use Rattle.runs.specs.Runs.{over}
@@ -80,30 +80,19 @@ recordLines (suc most) log here =
     ++ recordLines most log (afterOf here (recordAt log (here .place) .next) (gotAt log here)))
     (endLines here (recordAt log (here .place) .refusal))
 
--- the lines from a record on: a log has fewer records than octets
-abbrev pub linesFrom : List ℕ → Standing → List ℕ
-linesFrom log here = recordLines (suc (length log - here .index)) log here
+-- 13, "`linelist`: a log above 65,536 octets", comes before what the header is refused for
+unfoldable pub listRefusal : List ℕ → ℕ
+listRefusal log = cond (ltb 65536 (length log)) 13 (headerOf log .refusal)
 
--- "A fault in the header, or 13, prints only `log refused r`"
+-- "A fault in the header, or 13, prints only `log refused r`". A log has fewer records than octets.
 unfoldable pub listOf : List ℕ → List ℕ
 listOf log =
-    cond (ltb 65536 (length log)) (logRefusedLine 13)
-    (cond (eqb (headerOf log .refusal) 0)
-    (formatLine (headerOf log .format) (headerOf log .channels) (headerOf log .order) ++ linesFrom log (startOf (headerOf log)))
-    (logRefusedLine (headerOf log .refusal)))
+    cond (eqb (listRefusal log) 0)
+    (formatLine (headerOf log .format) (headerOf log .channels) (headerOf log .order)
+    ++ recordLines (suc (length log)) log (startOf (headerOf log)))
+    (logRefusedLine (listRefusal log))
 
 -- the whole promise of listing: the answer, and what the lent run holds afterwards
 pub record Lists (log run : List ℕ) (answer : Listed) (after : List ℕ) : Type 0 where
   pub answered : answer ≡ listed (length run) (listOf log)
   pub left : after ≡ over (take (length run) (listOf log)) run
-
--- counts that no sum can wrap: a log of 65,536 octets has fewer than 2,000 records, and a record's missing count is an octet
-pub record Counted (here : Standing) : Type 0 where
-  pub few : here .index ≤ 2000
-  pub sound : here .sound ≤ here .index
-  pub refused : here .refused ≤ here .index
-  pub missing : here .missing ≤ here .index * 255
-
--- before the first record
-abbrev pub Begun : Standing → Type 0
-Begun here = (here .index ≡ 0) × (here .sound ≡ 0) × (here .missing ≡ 0) × (here .refused ≡ 0)

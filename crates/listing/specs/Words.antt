@@ -1,4 +1,4 @@
--- The octets of words, as this file's reader sees them.
+-- The octets of a text, one for each letter.
 -- Assumes nothing.
 use mathlib.Core.List as List
 use Prim.Native.Char.{code}

@@ -3,7 +3,8 @@ use crate::Listed;
 use crate::text::put_all;
 use crate::text::put_item;
 ghost use mathlib.Core.List.{_++_};
-ghost use Rattle.listing.specs.Text.{Puts, item};
+ghost use Rattle.listing.specs.Code.{Puts};
+ghost use Rattle.listing.specs.Text.{item};
 ghost use Rattle.listing.specs.Words.{words};
 ghost use Rattle.listing.specs.Lines.{formatLine, soundLine, refusedLine, brokenLine, endLine, logRefusedLine};
 

@@ -7,8 +7,8 @@ use receiver::Receiver;
 ghost use mathlib.Core.Path.{_≡_};
 ghost use Prim.Native.Nat.{_≤_};
 ghost use lib.ListN.{length};
-ghost use Rattle.listing.specs.Text.{Puts};
-ghost use Rattle.listing.specs.List.{startOf, judgedOf, lineOf, afterOf, linesFrom, endLines, Counted, Begun};
+ghost use Rattle.listing.specs.Code.{Puts, linesFrom, Counted, Begun};
+ghost use Rattle.listing.specs.List.{startOf, judgedOf, lineOf, afterOf, endLines};
 
 // Where the list stands in its log: the place, the record's number, the counts of the end line, and the receiver's state.
 pub(crate) struct Standing {

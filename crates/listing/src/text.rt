@@ -3,7 +3,8 @@ use crate::Listed;
 ghost use mathlib.Core.List.{[], _∷_};
 ghost use mathlib.Core.Path.{_≡_};
 ghost use Prim.Native.Nat.{_+_, _%_};
-ghost use Rattle.listing.specs.Text.{Puts, decimal, item};
+ghost use Rattle.listing.specs.Code.{Puts};
+ghost use Rattle.listing.specs.Text.{decimal, item};
 
 pub(crate) fn put(run: &mut [u8], at: Listed, octet: u8) -> Listed
     ensures { λ r. ⌜ Puts (now (run .entry)) at (now (run .exit)) r (octet ∷ []) ⌝ }

@@ -13,7 +13,8 @@ use lib.Dec.{eqb, ltb}
 use lib.ListN.{length, getD, take, drop, length-append}
 use lib.Seq.{append-snoc, getD-at, length-take-le, take-at, drop-at, drop-cons}
 use Rattle.log.specs.declared.Number.{Number}
-use Rattle.log.specs.Numbers.{number, behind, numberIn, numberAt, groupsOf}
+use Rattle.log.specs.Code.{behind, numberWithin}
+use Rattle.log.specs.Numbers.{number, numberAt, groupsOf}
 use Rattle.runs.specs.Refusals.{orElse}
 use Rattle.runs.proofs.Laws.{split}
 use Rattle.formats.specs.Formats.{settingsRefusal}
@@ -23,6 +24,7 @@ use Rattle.log.specs.Written.{numberRefusal, headerRefused, headerOctets
 use Rattle.log.proofs.Headers.{header-fits, header-octets, format-small, channels-small, order-small}
 use Rattle.log.proofs.Keeping.{number-fits, record-fits}
 use Rattle.log.proofs.Places.{record-cell}
+use Rattle.log.proofs.Groups.{number-agrees}
 use Rattle.log.proofs.Laws.{number-whole, number-more, number-cases, number-some, value-small, groups-1, groups-more}
 
 -- a list with an entry behind a start
@@ -45,7 +47,7 @@ Stands : ℕ → ℕ → List ℕ → ℕ → Type 0
 Stands k n log at = (before : List ℕ) × (after : List ℕ) × (log ≡ before ++ groupsOf k n ++ after) × (length before ≡ at)
 
 read-one : (k n : ℕ) (log : List ℕ) (at : ℕ) → n < 128 → Stands (suc k) n log at
-    → numberIn (suc k) log at ≡ number n (at + length (groupsOf (suc k) n))
+    → numberWithin (suc k) log at ≡ number n (at + length (groupsOf (suc k) n))
 unfolding Stands
 read-one k n log at small (before, after, e, here) =
     let one : groupsOf (suc k) n ≡ n ∷ [] = groups-1 k n small in
@@ -63,8 +65,8 @@ stands-behind k n log at large (before, after, e, here) =
     )
 
 read-more : (k n : ℕ) (log : List ℕ) (at : ℕ) → 128 ≤ n → Stands (suc k) n log at
-    → numberIn k log (at + 1) ≡ number (n / 128) (at + 1 + length (groupsOf k (n / 128)))
-    → numberIn (suc k) log at ≡ number n (at + length (groupsOf (suc k) n))
+    → numberWithin k log (at + 1) ≡ number (n / 128) (at + 1 + length (groupsOf k (n / 128)))
+    → numberWithin (suc k) log at ≡ number n (at + length (groupsOf (suc k) n))
 unfolding Stands
 read-more k n log at large (before, after, e, here) rest =
     let many : groupsOf (suc k) n ≡ (128 + n % 128) ∷ groupsOf k (n / 128) = groups-more k n large in
@@ -79,7 +81,7 @@ read-more k n log at large (before, after, e, here) rest =
 
 -- a number's shortest form is read as the number
 read-groups : (k n : ℕ) (log : List ℕ) (at : ℕ) → n < 128 ^ suc k → Stands (suc k) n log at
-    → numberIn (suc k) log at ≡ number n (at + length (groupsOf (suc k) n))
+    → numberWithin (suc k) log at ≡ number n (at + length (groupsOf (suc k) n))
 read-groups zero n log at below s = read-one zero n log at below s
 read-groups (suc k) n log at below s =
     split (ltb n 128)
@@ -95,7 +97,8 @@ pub read-written-number : (log : List ℕ) (place n : ℕ) → numberRefusal log
 unfolding Stands
 read-written-number log place n ok =
     let fits = number-fits log place n ok in
-    read-groups 2 n (written log place (groupsOf 3 n)) place (omega (arith, fits .0))
+    number-agrees (written log place (groupsOf 3 n)) place
+    ∙ read-groups 2 n (written log place (groupsOf 3 n)) place (omega (arith, fits .0))
     (take place log, drop (place + length (groupsOf 3 n)) log, refl, length-take-le place log (omega (arith, fits .1)))
 
 -- the octets of a log are octets
@@ -125,8 +128,8 @@ whole-more k log at value next h large octet some after rest =
     groups-more k (getD log at 0 % 128 + value * 128) (omega (arith, some))
     ∙ rw (low, high, more, drop-cons log at 0 h, rest, add-one at)
 
-written-groups : (k : ℕ) (log : List ℕ) (at : ℕ) → Octets log → Whole k log at (numberIn k log at)
-unfolding numberIn
+written-groups : (k : ℕ) (log : List ℕ) (at : ℕ) → Octets log → Whole k log at (numberWithin k log at)
+unfolding numberWithin
 written-groups zero log at octets = λ ok. absurd (let z : _≡_ {A = ℕ} 11 0 = ok in omega arith)
 written-groups (suc k) log at octets =
     number-cases k log at (Whole (suc k) log at)
@@ -135,14 +138,15 @@ written-groups (suc k) log at octets =
     (λ h large some ok.
     let rest = written-groups k log (at + 1) octets (number-some k log (at + 1) some) in (
       omega (arith, rest .0),
-      whole-more k log at (numberIn k log (at + 1) .value) (numberIn k log (at + 1) .next) h large (octets at) some (rest .0) (rest .1),
+      whole-more k log at (numberWithin k log (at + 1) .value) (numberWithin k log (at + 1) .next) h large (octets at) some (rest .0) (rest .1),
     ))
 
 -- a number that was read is written as it stood, in at most three groups
 pub written-read-number : (log : List ℕ) (place : ℕ) → Octets log → numberAt log place .refusal ≡ 0
     → (groupsOf 3 (numberAt log place .value) ≡ between place (numberAt log place .next) log) × (numberAt log place .value ≤ 2097151)
-written-read-number log place octets ok =
-    (written-groups 3 log place octets ok .1, omega (arith, value-small 3 log place))
+written-read-number log place octets =
+    rw (number-agrees log place)
+    (λ ok. (written-groups 3 log place octets ok .1, omega (arith, value-small 3 log place)))
 
 module _ (log : List ℕ) (format channels order : ℕ) (ok : headerRefused log format channels order ≡ 0) where
   abbrev headed : List ℕ
@@ -155,13 +159,13 @@ module _ (log : List ℕ) (format channels order : ℕ) (ok : headerRefused log 
   octets = rw (header-octets format channels order (fits .0))
 
   first : numberAt headed 0 ≡ number format 1
-  first = number-whole 2 headed 0 (rw octets) (rw octets (omega arith)) (format-small format channels order (fits .0))
+  first = number-agrees headed 0 ∙ number-whole 2 headed 0 (rw octets) (rw octets (omega arith)) (format-small format channels order (fits .0))
 
   second : numberAt headed 1 ≡ number channels 2
-  second = number-whole 2 headed 1 (rw octets) (rw octets (omega arith)) (channels-small format channels order (fits .0))
+  second = number-agrees headed 1 ∙ number-whole 2 headed 1 (rw octets) (rw octets (omega arith)) (channels-small format channels order (fits .0))
 
   third : numberAt headed 2 ≡ number order 3
-  third = number-whole 2 headed 2 (rw octets) (rw octets (omega arith)) (order-small format channels order (fits .0))
+  third = number-agrees headed 2 ∙ number-whole 2 headed 2 (rw octets) (rw octets (omega arith)) (order-small format channels order (fits .0))
 
   -- a header that was written is read back
   pub read-written-header : headerOf headed ≡ record { refusal = 0; place = 3; format = format; channels = channels; order = order }

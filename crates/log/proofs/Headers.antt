@@ -3,7 +3,7 @@
 use mathlib.Core.Bool.{Bool, true, false, cond}
 use mathlib.Core.List.{List, [], _∷_}
 use mathlib.Core.Path.{_≡_, refl, sym, _∙_, subst}
-use Prim.Native.Nat.{ℕ, _≤_, _<_}
+use Prim.Native.Nat.{ℕ, _+_, _≤_, _<_}
 use native.Mathlib.Omega.{arith}
 use borrow.Author.Tests.{ne-eqb, ltb-true, ltb-false, lt-ltb, le-ltb}
 use lib.Dec.{T, eqb, ltb, ltb→lt}
@@ -11,7 +11,8 @@ use lib.ListN.{length, set}
 use Rattle.runs.specs.Refusals.{orElse}
 use Rattle.runs.specs.Test.{every}
 use Rattle.runs.proofs.Laws.{every-at, split, past, past-both}
-use Rattle.formats.specs.Formats.{eleven, isAmong, isBase, settingsRefusal, settingsOf}
+use Rattle.formats.specs.Formats.{eleven, isAmong, isBase, settingsRefusal}
+use Rattle.formats.specs.Settings.{settingsOf}
 use Rattle.formats.proofs.Laws.{beyond, Settles, settles-all, sound-fields, refusal-of, given-refusal}
 use Rattle.formats.specs.declared.Settled.{Settled}
 use Rattle.log.specs.declared.Header.{Header}
@@ -22,6 +23,7 @@ use Rattle.log.specs.Records.{noHeader, headerRefusal, headerOfNumbers, 
 use Rattle.log.specs.Written.{Keeps, kept, headerOctets, headerRefused}
 use Rattle.runs.proofs.Filling.{stored}
 use Rattle.log.proofs.Keeping.{keeps}
+use Rattle.log.proofs.Groups.{number-agrees}
 use Rattle.log.proofs.Laws.{next-small, groups-1}
 
 module _ (a b c : Number) where
@@ -44,7 +46,8 @@ module _ (log : List ℕ) {first : Number} (e₁ : first ≡ numberAt log 0) whe
 
   pub header-first : {answer : Header} → (first .refusal ≡ 0 → ⊥) → answer ≡ noHeader (first .refusal) → answer ≡ headerOf log
   unfolding headerRefusal orElse
-  header-first some is = numbers-not first (numberAt log (first .next)) (numberAt log (numberAt log (first .next) .next)) (rw (ne-eqb (first .refusal) 0 some)) some is ∙ headed refl refl
+  header-first some is = numbers-not first (numberAt log (first .next)) (numberAt log (numberAt log (first .next) .next))
+      (rw (ne-eqb (first .refusal) 0 some)) some is ∙ headed refl refl
 
   module _ {second : Number} (e₂ : second ≡ numberAt log (first .next)) (ok₁ : first .refusal ≡ 0) where
     pub header-second : {answer : Header} → (second .refusal ≡ 0 → ⊥) → answer ≡ noHeader (second .refusal) → answer ≡ headerOf log
@@ -68,6 +71,9 @@ module _ (log : List ℕ) {first : Number} (e₁ : first ≡ numberAt log 0) whe
             → record { refusal = 0; place = third .next; format = first .value; channels = second .value; order = third .value } ≡ headerOf log
         header-taken ok = numbers-taken first second third (judged ∙ ok) ∙ headed e₂ e₃
 
+next-to : (log : List ℕ) (at : ℕ) → numberAt log at .next ≤ at + 3
+next-to log at = rw (number-agrees log at) (next-small 3 log at)
+
 -- three numbers of three groups at most
 pub header-place : (log : List ℕ) → headerOf log .place ≤ 9
 unfolding headerOf headerOfNumbers
@@ -75,7 +81,7 @@ header-place log =
     split (eqb (headerRefusal (numberAt log 0) (secondNumber log) (thirdNumber log)) 0)
     (λ e.
     rw e
-    (omega (arith, next-small 3 log 0, next-small 3 log (numberAt log 0 .next), next-small 3 log (secondNumber log .next))))
+    (omega (arith, next-to log 0, next-to log (numberAt log 0 .next), next-to log (secondNumber log .next))))
     (λ e. rw e (omega arith))
 
 -- an octet of the eleven is one group

@@ -10,28 +10,29 @@ use lib.Dec.{eqb, leb, ltb}
 use lib.ListN.{length, getD}
 use Rattle.runs.proofs.Laws.{split}
 use Rattle.log.specs.declared.Number.{Number}
-use Rattle.log.specs.Numbers.{number, noNumber, behind, numberIn, groupsOf}
+use Rattle.log.specs.Code.{behind, numberWithin}
+use Rattle.log.specs.Numbers.{number, noNumber, groupsOf}
 
-pub number-none : (k : ℕ) (log : List ℕ) (at : ℕ) → k ≡ 0 → numberIn k log at ≡ noNumber
-unfolding numberIn
+pub number-none : (k : ℕ) (log : List ℕ) (at : ℕ) → k ≡ 0 → numberWithin k log at ≡ noNumber
+unfolding numberWithin
 number-none k log at none = rw none
 
-pub number-some-groups : (k : ℕ) (log : List ℕ) (at : ℕ) → (k ≡ 0 → ⊥) → numberIn k log at ≡ numberIn (suc (k - 1)) log at
-number-some-groups k log at some = ap (λ n. numberIn n log at) (omega (arith, some))
+pub number-some-groups : (k : ℕ) (log : List ℕ) (at : ℕ) → (k ≡ 0 → ⊥) → numberWithin k log at ≡ numberWithin (suc (k - 1)) log at
+number-some-groups k log at some = ap (λ n. numberWithin n log at) (omega (arith, some))
 
-pub number-cut : (k : ℕ) (log : List ℕ) (at : ℕ) → length log ≤ at → numberIn k log at ≡ noNumber
-unfolding numberIn
+pub number-cut : (k : ℕ) (log : List ℕ) (at : ℕ) → length log ≤ at → numberWithin k log at ≡ noNumber
+unfolding numberWithin
 number-cut zero log at h = refl
 number-cut (suc k) log at h = rw (le-leb (length log) at h)
 
 pub number-whole : (k : ℕ) (log : List ℕ) (at : ℕ) {group : ℕ} → group ≡ getD log at 0 → at < length log → group < 128
-    → numberIn (suc k) log at ≡ number group (at + 1)
-unfolding numberIn
+    → numberWithin (suc k) log at ≡ number group (at + 1)
+unfolding numberWithin
 number-whole k log at {group} e h small = rw (← e, lt-leb (length log) at h, lt-ltb group 128 small)
 
 pub number-more : (k : ℕ) (log : List ℕ) (at : ℕ) {group : ℕ} → group ≡ getD log at 0 → at < length log → 128 ≤ group
-    → numberIn (suc k) log at ≡ behind group (numberIn k log (at + 1))
-unfolding numberIn
+    → numberWithin (suc k) log at ≡ behind group (numberWithin k log (at + 1))
+unfolding numberWithin
 number-more k log at {group} e h large = rw (← e, lt-leb (length log) at h, le-ltb group 128 large)
 
 behind-small : (bound group : ℕ) (more : Number) → more .value < bound → 0 < bound → behind group more .value < bound * 128
@@ -45,8 +46,8 @@ pow-128 : (k : ℕ) → 0 < 128 ^ k
 pow-128 zero = rw pow-zero (omega arith)
 pow-128 (suc k) = rw pow-suc (omega (arith, pow-128 k))
 
-pub value-small : (k : ℕ) (log : List ℕ) (at : ℕ) → numberIn k log at .value < 128 ^ k
-unfolding numberIn
+pub value-small : (k : ℕ) (log : List ℕ) (at : ℕ) → numberWithin k log at .value < 128 ^ k
+unfolding numberWithin
 value-small zero log at = rw pow-zero (omega arith)
 value-small (suc k) log at =
     split (leb (length log) at)
@@ -54,9 +55,9 @@ value-small (suc k) log at =
     (λ e. split (ltb (getD log at 0) 128)
     (λ s. rw (e, s, pow-suc) (omega (arith, ltb-true (getD log at 0) 128 s, pow-128 k)))
     (λ s. rw (e, s, pow-suc)
-    (behind-small (128 ^ k) (getD log at 0) (numberIn k log (at + 1)) (value-small k log (at + 1)) (pow-128 k))))
+    (behind-small (128 ^ k) (getD log at 0) (numberWithin k log (at + 1)) (value-small k log (at + 1)) (pow-128 k))))
 
-pub value-below : (k : ℕ) (log : List ℕ) (at : ℕ) → k ≤ 2 → numberIn k log at .value < 16384
+pub value-below : (k : ℕ) (log : List ℕ) (at : ℕ) → k ≤ 2 → numberWithin k log at .value < 16384
 value-below k log at h =
     let p : 128 ^ k ≤ 128 ^ 2 = pow-le-pow-right (omega arith) h in
     omega (arith, value-small k log at, p)
@@ -65,31 +66,31 @@ value-below k log at h =
 pub number-cases : (k : ℕ) (log : List ℕ) (at : ℕ) (P : Number → Type 0)
     → P noNumber
     → (at < length log → getD log at 0 < 128 → P (number (getD log at 0) (at + 1)))
-    → (at < length log → 128 ≤ getD log at 0 → (numberIn k log (at + 1) .value ≡ 0 → ⊥)
-    → P (number (getD log at 0 % 128 + numberIn k log (at + 1) .value * 128) (numberIn k log (at + 1) .next)))
-    → P (numberIn (suc k) log at)
-unfolding numberIn behind
+    → (at < length log → 128 ≤ getD log at 0 → (numberWithin k log (at + 1) .value ≡ 0 → ⊥)
+    → P (number (getD log at 0 % 128 + numberWithin k log (at + 1) .value * 128) (numberWithin k log (at + 1) .next)))
+    → P (numberWithin (suc k) log at)
+unfolding numberWithin behind
 number-cases k log at P refused whole more =
     split (leb (length log) at)
     (λ e. rw e refused)
     (λ e. split (ltb (getD log at 0) 128)
     (λ s. rw (e, s) (whole (leb-false (length log) at e) (ltb-true (getD log at 0) 128 s)))
-    (λ s. split (eqb (numberIn k log (at + 1) .value) 0)
+    (λ s. split (eqb (numberWithin k log (at + 1) .value) 0)
     (λ z. rw (e, s, z) refused)
     (λ z.
     rw (e, s, z)
-    (more (leb-false (length log) at e) (ltb-false (getD log at 0) 128 s) (eqb-false (numberIn k log (at + 1) .value) 0 z)))))
+    (more (leb-false (length log) at e) (ltb-false (getD log at 0) 128 s) (eqb-false (numberWithin k log (at + 1) .value) 0 z)))))
 
 -- a refused number is 0
-pub number-some : (k : ℕ) (log : List ℕ) (at : ℕ) → (numberIn k log at .value ≡ 0 → ⊥) → numberIn k log at .refusal ≡ 0
-unfolding numberIn
+pub number-some : (k : ℕ) (log : List ℕ) (at : ℕ) → (numberWithin k log at .value ≡ 0 → ⊥) → numberWithin k log at .refusal ≡ 0
+unfolding numberWithin
 number-some zero log at = λ some. absurd (some refl)
 number-some (suc k) log at =
     number-cases k log at (λ n. (n .value ≡ 0 → ⊥) → n .refusal ≡ 0) (λ some. absurd (some refl)) (λ h s some. refl) (λ h s z some. refl)
 
 -- a number ends within its groups
-pub next-small : (k : ℕ) (log : List ℕ) (at : ℕ) → numberIn k log at .next ≤ at + k
-unfolding numberIn
+pub next-small : (k : ℕ) (log : List ℕ) (at : ℕ) → numberWithin k log at .next ≤ at + k
+unfolding numberWithin
 next-small zero log at = omega arith
 next-small (suc k) log at =
     number-cases k log at (λ n. n .next ≤ at + suc k) (omega arith) (λ h s. omega arith) (λ h s z. omega (arith, next-small k log (at + 1)))

@@ -1,8 +1,10 @@
 pub mod Converse
+pub mod Groups
 pub mod Headers
 pub mod Keeping
 pub mod Laws
 pub mod One
 pub mod Places
+pub mod Refused
 pub mod Walks
 pub mod Wrong

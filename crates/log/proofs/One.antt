@@ -20,7 +20,8 @@ use Rattle.runs.proofs.One.{One, both}
 use Rattle.log.specs.declared.Record.{Record}
 use Rattle.log.specs.declared.keep.Kept.{Kept}
 use Rattle.log.specs.declared.reader.Reader.{Reader}
-use Rattle.log.specs.Records.{recordAt, placeAfter, cellAt, from}
+use Rattle.log.specs.Code.{from}
+use Rattle.log.specs.Records.{recordAt, placeAfter, cellAt}
 use Rattle.log.specs.Written.{Keeps}
 use Rattle.log.proofs.read_number.Kinds as read-number-kinds
 use Rattle.log.proofs.read_number.Reads as read-number-reads
@@ -39,9 +40,9 @@ use Rattle.log.proofs.keep.write_header.Reads as write-header-reads
 use Rattle.log.proofs.keep.write_record.Kinds as write-record-kinds
 use Rattle.log.proofs.keep.write_record.Reads as write-record-reads
 use Rattle.log.proofs.reader.new as new
-use Rattle.log.proofs.reader.next as next
+use Rattle.log.proofs.reader.record_here as record-here
 use Rattle.log.proofs.reader.cell as cell
-use Rattle.log.proofs.reader.onward as onward
+use Rattle.log.proofs.reader.past_record as past-record
 use Rattle.log.proofs.reader.read as read
 
 pub read-number-one : One read-number-kinds.ps read-number-kinds.r read-number-reads.Pre read-number-reads.Post
@@ -92,13 +93,13 @@ module _ {M : Type 1} (𝓤 : URA M) (H : Heap 𝓤) (A : Atoms 𝓤) (mem : Mem
         both 𝓤 NewEnsures (λ x. (x .log ≡ a .0) × (x .place ≡ a .1 .0)) (λ x y. x ≡ y) (λ x. id⊢ 𝓤 _)
         (λ x y p q i. record { log = (p .0 ∙ sym (q .0)) i; place = (p .1 ∙ sym (q .1)) i })
 
-  module _ (a : Args next.signature κs) where
-    abbrev pub NextEnsures : Record → SProp 𝓤
-    NextEnsures x = next.clauses 𝓤 H A mem run κs a .ensures tt x (atExit next.ended κs a (tt, tt))
+  module _ (a : Args record-here.signature κs) where
+    abbrev pub RecordEnsures : Record → SProp 𝓤
+    RecordEnsures x = record-here.clauses 𝓤 H A mem run κs a .ensures tt x (atExit record-here.ended κs a (tt, tt))
 
-    pub next-one : (x y : Record) → ent 𝓤 (sep 𝓤 (NextEnsures x) (NextEnsures y)) (fact 𝓤 (x ≡ y))
-    next-one =
-        both 𝓤 NextEnsures (λ x. x ≡ recordAt (now (a .0 .log)) (a .0 .place)) (λ x y. x ≡ y) (λ x. id⊢ 𝓤 _) (λ x y p q. p ∙ sym q)
+    pub record-here-one : (x y : Record) → ent 𝓤 (sep 𝓤 (RecordEnsures x) (RecordEnsures y)) (fact 𝓤 (x ≡ y))
+    record-here-one =
+        both 𝓤 RecordEnsures (λ x. x ≡ recordAt (now (a .0 .log)) (a .0 .place)) (λ x y. x ≡ y) (λ x. id⊢ 𝓤 _) (λ x y p q. p ∙ sym q)
 
   module _ (a : Args cell.signature κs) where
     abbrev pub CellEnsures : RefT (List ℕ) → SProp 𝓤
@@ -112,13 +113,13 @@ module _ {M : Type 1} (𝓤 : URA M) (H : Heap 𝓤) (A : Atoms 𝓤) (mem : Mem
         Same (λ x. id⊢ 𝓤 _)
         (λ x y p q. (p .0 ∙ sym (q .0), p .1 ∙ sym (q .1)))
 
-  module _ (a : Args onward.signature κs) where
-    abbrev pub OnwardEnsures : Reader → SProp 𝓤
-    OnwardEnsures x = onward.clauses 𝓤 H A mem run κs a .ensures tt x (atExit onward.ended κs a (tt, tt))
+  module _ (a : Args past-record.signature κs) where
+    abbrev pub PastEnsures : Reader → SProp 𝓤
+    PastEnsures x = past-record.clauses 𝓤 H A mem run κs a .ensures tt x (atExit past-record.ended κs a (tt, tt))
 
-    pub onward-one : (x y : Reader) → ent 𝓤 (sep 𝓤 (OnwardEnsures x) (OnwardEnsures y)) (fact 𝓤 (x ≡ y))
-    onward-one =
-        both 𝓤 OnwardEnsures
+    pub past-record-one : (x y : Reader) → ent 𝓤 (sep 𝓤 (PastEnsures x) (PastEnsures y)) (fact 𝓤 (x ≡ y))
+    past-record-one =
+        both 𝓤 PastEnsures
         (λ x. (x .log ≡ a .0 .log) × (x .place ≡ placeAfter (now (a .0 .log)) (a .0 .place)))
         (λ x y. x ≡ y) (λ x. id⊢ 𝓤 _)
         (λ x y p q i. record { log = (p .0 ∙ sym (q .0)) i; place = (p .1 ∙ sym (q .1)) i })

@@ -8,7 +8,8 @@ use borrow.Author.Tests.{eq-eqb, ne-eqb, lt-ltb, le-ltb, le-leb, lt-leb, ltb-tru
 use lib.Dec.{eqb, leb, ltb}
 use lib.ListN.{length, getD, take, drop}
 use Rattle.log.specs.declared.Record.{Record}
-use Rattle.log.specs.Records.{recordAt, endAt, noRecord, placeAfter, cellAt, from}
+use Rattle.log.specs.Code.{from}
+use Rattle.log.specs.Records.{recordAt, endAt, noRecord, placeAfter, cellAt}
 use Rattle.runs.proofs.Laws.{split}
 
 module _ (log : List ℕ) (place : ℕ) where

@@ -19,9 +19,11 @@ use ghost.Atoms.{Atoms, sem}
 use contract.Lifetimes.{Lfts}
 use contract.Monad.{fact}
 use contract.Running.{Running, GhostRules, givenOf, tables}
-use types.Kit.{Given, ‵, raw, _⊛_, given, ⋆, some, later, _$_, _∵_, !, qed, by, move, drop, use1, use2, split, join, learn, pick, fsplit, fjoin, suffices, frame, await, done}
+use types.Kit.{Given, ‵, raw, _⊛_, given, ⋆, some, later, _$_, _∵_, !, qed, by}
+use types.Kit.{move, drop, use1, use2, split, join, learn, pick, fsplit, fjoin, suffices, frame, await, done}
 use types.Part.{whole, sub, look-in}
-use types.Run.{look, init, forget, stop, fld, from, load, of-opd, and-then, no-more, assigns, land, returns, enter, alloc1, alloc0, params1, pass1, pass0, free1, free0}
+use types.Run.{look, init, forget, stop, fld, from, load, of-opd, and-then, no-more}
+use types.Run.{assigns, land, returns, enter, alloc1, alloc0, params1, pass1, pass0, free1, free0}
 use sound.WpLaws.{FmC}
 use denote.RattleType.{RattleType, owns}
 use denote.Laws.{Is, shows}
@@ -102,8 +104,10 @@ module _ {M : Type 1} (𝓤 : URA M) (H : Heap 𝓤) (𝓜 : Model 𝓤 H) (𝓖
       (walkOf 𝓤 H (𝓖 .A) (of-log R) (stays-log R) c .post (((κ, tt), (q, tt), tt, (s, (n, tt)), (slice s ∷ [], (vint w64 n ∷ [], tt))), g))))
       → Triple 𝓤 (𝓡 .run (env key)) (tripleOf 𝓤 H (𝓖 .A) (of-log R .signature) (closing 𝓤 H (𝓖 .A) (of-log R) c))
   log-ends c walk =
-      walk-ends 𝓤 H 𝓜 𝓖 𝓡 env (of-log R) (stays-log R) c key code closed
-      (goes-none-slice 𝓤 H (𝓖 .A) (givenOf 𝓤 H 𝓜 𝓖) 1 (0 ∷ []) tt (plain (λ _. u8)) yes, (goes-none 𝓤 H (𝓖 .A) (givenOf 𝓤 H 𝓜 𝓖) 1 (λ _. usize) yes (λ κs x f. refl), tt))
+      walk-ends 𝓤 H 𝓜 𝓖 𝓡 env (of-log R) (stays-log R) c key code closed (
+        goes-none-slice 𝓤 H (𝓖 .A) (givenOf 𝓤 H 𝓜 𝓖) 1 (0 ∷ []) tt (plain (λ _. u8)) yes,
+        (goes-none 𝓤 H (𝓖 .A) (givenOf 𝓤 H 𝓜 𝓖) 1 (λ _. usize) yes (λ κs x f. refl), tt),
+      )
       (walked 𝓤 H (𝓖 .A) (of-log R) (stays-log R) c (WpFn 𝓤 H (tables 𝓤 H 𝓜 𝓡 env .C) (tables 𝓤 H 𝓜 𝓡 env .Λ) code)
       (λ κs. (slice-vals, (uint-vals w64, tt)))
       (λ κs. (shr-slice-tells (named 0) (κs .0) u8, (uint-tells w64, tt)))
@@ -142,13 +146,16 @@ module _ {M : Type 1} (𝓤 : URA M) (H : Heap 𝓤) (A : Atoms 𝓤) (W : Given
   apart fits =
       qed W ((‵ (flft κ q) ⊛ ‵ ftrue) ∷ ‵ (owns (B (κ, tt) ∷ []) (d, tt) (mach d ∷ [], tt)) ∷ []) ∵
       move ! (1 ∷ []) $ fsplit ! $ move ! (1 ∷ []) $ drop ! $ use1 W (‵ Own ⊛ ‵ Own) twice $ split ! $
-      use1 W (given (mach d ∷ [] ≡ mach d ∷ []) (‵ (all-own (D .parts) L vd))) (own-open 𝓤 H A W D L vd (mach d)) $ learn ! (λ _. use1 W (‵ (ownAt (D .parts) L 0 (d .log)) ⊛ ‵ (rest (D .parts) L 0 vd)) (own-out 𝓤 H A W (D .parts) L 0 vd) $ split ! $
+      use1 W (given (mach d ∷ [] ≡ mach d ∷ []) (‵ (all-own (D .parts) L vd))) (own-open 𝓤 H A W D L vd (mach d)) $
+      learn ! (λ _. use1 W (‵ (ownAt (D .parts) L 0 (d .log)) ⊛ ‵ (rest (D .parts) L 0 vd)) (own-out 𝓤 H A W (D .parts) L 0 vd) $ split ! $
       -- [what the log owns; what the place owns; what the struct owns; the token]
-      move ! (1 ∷ []) $ drop ! $ nothing ! $ owned ! usize (Is usize) (uint-makes 𝓤 H A W w64) (d .place) _ (refl, fits) $ fjoin ! $ move ! (1 ∷ 0 ∷ []) $ fjoin ! $
+      move ! (1 ∷ []) $ drop ! $ nothing ! $ owned ! usize (Is usize) (uint-makes 𝓤 H A W w64) (d .place) _ (refl, fits) $ fjoin ! $
+      move ! (1 ∷ 0 ∷ []) $ fjoin ! $
       move ! (2 ∷ 0 ∷ []) $ use2 W (raw Asked) asked $ frame ! $ done !)
 
 -- the call of a function of the log and the place, by what it answers of them
-module _ {M : Type 1} (𝓤 : URA M) (H : Heap 𝓤) (A : Atoms 𝓤) (W : Given 𝓤 H A) (R : Lfts 1 → RattleType) (Found : (κs : Lfts 1) → RefT (List ℕ) → ℕ → R κs .Denot → Type 0) where
+module _ {M : Type 1} (𝓤 : URA M) (H : Heap 𝓤) (A : Atoms 𝓤) (W : Given 𝓤 H A) (R : Lfts 1 → RattleType)
+    (Found : (κs : Lfts 1) → RefT (List ℕ) → ℕ → R κs .Denot → Type 0) where
   abbrev answers : Clauses 𝓤 (of-log (plain R))
   answers κs a = record { ghost = Unit {0}; requires = λ _. emp 𝓤; ensures = λ _ r _. fact 𝓤 (Found κs (a .0) (a .1 .0) r) }
 
@@ -173,7 +180,8 @@ hands-on τ callee =
       lifetimes = 1;
       outlives = [];
       params = 1;
-      locals = local τ valueLocal ∷ local (T′.mir (named 0)) valueLocal ∷ local (sliceTy (tyRef erased imm (tyInt w8))) valueLocal ∷ local (tyInt w64) valueLocal ∷ [];
+      locals = local τ valueLocal ∷ local (T′.mir (named 0)) valueLocal ∷ local (sliceTy (tyRef erased imm (tyInt w8))) valueLocal ∷ local
+          (tyInt w64) valueLocal ∷ [];
       body =
           seq (assign (place 2 []) (rvOpd (copy (place 1 (field 0 ∷ [])))))
           (seq (assign (place 3 []) (rvOpd (copy (place 1 (field 1 ∷ [])))))
@@ -199,29 +207,37 @@ module _ {M : Type 1} (𝓤 : URA M) (H : Heap 𝓤) (R : Lfts 1 → RattleType)
     abbrev Callee : Contract 𝓤
     Callee = Answers 𝓤 H A W R Found
 
-    exits : (r : Result .Denot) (u : Val) → Fine r → ent 𝓤 (⋆ 𝓤 H A (‵ (Result .own r (u ∷ [])) ∷ (‵ (flft κ q) ⊛ ‵ ftrue) ∷ ‵ (Own 𝓤 H A W κ q d) ∷ [])) (Post u)
+    exits : (r : Result .Denot) (u : Val) → Fine r → ent 𝓤 (⋆ 𝓤 H A
+        (‵ (Result .own r (u ∷ [])) ∷ (‵ (flft κ q) ⊛ ‵ ftrue) ∷ ‵ (Own 𝓤 H A W κ q d) ∷ [])) (Post u)
     exits r u e =
         qed W (‵ (Result .own r (u ∷ [])) ∷ (‵ (flft κ q) ⊛ ‵ ftrue) ∷ ‵ (Own 𝓤 H A W κ q d) ∷ []) ∵
-        suffices ! _ (ends-at 𝓤 H A (of-reader (plain R)) (stays-reader (plain R)) hands W (((κ, tt), (q, tt), tt, (d, tt), (mach d ∷ [], tt)), tt) u r (tt, tt) (tt, tt)) $ says ! e $
+        suffices ! _ (ends-at 𝓤 H A (of-reader (plain R)) (stays-reader (plain R)) hands W
+        (((κ, tt), (q, tt), tt, (d, tt), (mach d ∷ [], tt)), tt) u r (tt, tt) (tt, tt)) $ says ! e $
         move ! (1 ∷ []) $ frame ! $ nothing ! $ move ! (2 ∷ 0 ∷ []) $ fjoin ! $ frame ! $ done !
 
     module _ (C : Calls 𝓤 H) (Λ : Loops 𝓤 H) (fm : FmC 𝓤 H (W .laws) C) (callee : Name) (known : Triple 𝓤 (C callee) Callee) where
       walk : Holds (hasTy (T′.mir (named 0)) (mach d)) × WT (mach d)
-          → ent 𝓤 (onEntry 𝓤 H A (of-reader (plain R) .signature) (κ, tt) (q, tt) (d, tt) (mach d ∷ [], tt)) (WpFn 𝓤 H C Λ (hands-on τ callee) (mach d ∷ []) Post)
+          → ent 𝓤 (onEntry 𝓤 H A (of-reader (plain R) .signature) (κ, tt) (q, tt) (d, tt) (mach d ∷ [], tt))
+          (WpFn 𝓤 H C Λ (hands-on τ callee) (mach d ∷ []) Post)
       walk wt =
-          qed W (raw (onEntry 𝓤 H A (of-reader (plain R) .signature) (κ, tt) (q, tt) (d, tt) (mach d ∷ [], tt)) ∷ []) ∵ enter ! C Λ (hands-on τ callee) (mach d ∷ []) _ $
+          qed W (raw (onEntry 𝓤 H A (of-reader (plain R) .signature) (κ, tt) (q, tt) (d, tt) (mach d ∷ [], tt)) ∷ []) ∵ enter ! C Λ
+          (hands-on τ callee) (mach d ∷ []) _ $
           alloc1 ! (λ l₀. alloc1 ! (λ l₁. alloc1 ! (λ l₂. alloc1 ! (λ l₃. alloc0 ! $ params1 ! $ pass1 ! (init ! 4 refl wt) $ pass0 ! $
           assigns ! (of-opd ! (load ! (from ! (fld ! refl (stop !))) (look-in ! 4 (sub ! 0 refl (whole !))))) (from ! (stop !)) (init ! 2 refl (tt, wt .1 .0)) $
-          assigns ! (of-opd ! (load ! (from ! (fld ! refl (stop !))) (look-in ! 4 (sub ! 1 refl (whole !))))) (from ! (stop !)) (init ! 0 refl (tt, wt .1 .1 .0)) $
+          assigns ! (of-opd ! (load ! (from ! (fld ! refl (stop !))) (look-in ! 4 (sub ! 1 refl (whole !))))) (from ! (stop !))
+          (init ! 0 refl (tt, wt .1 .1 .0)) $
           move ! (8 ∷ []) $ use1 W (raw (Asked 𝓤 H A W κ q d) ⊛ ‵ (Own 𝓤 H A W κ q d)) (apart 𝓤 H A W κ q d (wt .1 .1 .0 .fits)) $ split ! $
-          calls-at ! fm Callee known (to 𝓤 H A W R Found κ q d) (and-then ! (load ! (from ! (stop !)) (look ! 4 refl)) (and-then ! (load ! (from ! (stop !)) (look ! 2 refl)) (no-more !))) (λ u.
-          use1 W (later (some (λ (r : Result .Denot). ((‵ (flft κ q) ⊛ ‵ ftrue) ⊛ ‵ (Result .own r (u ∷ []))) ⊛ raw (Said 𝓤 H A W R Found κ q d r)))) (id⊢ 𝓤 _) $ await ! tt $ pick ! (λ r.
+          calls-at ! fm Callee known (to 𝓤 H A W R Found κ q d)
+          (and-then ! (load ! (from ! (stop !)) (look ! 4 refl)) (and-then ! (load ! (from ! (stop !)) (look ! 2 refl)) (no-more !))) (λ u.
+          use1 W (later (some (λ (r : Result .Denot). ((‵ (flft κ q) ⊛ ‵ ftrue) ⊛ ‵ (Result .own r (u ∷ []))) ⊛ raw (Said 𝓤 H A W R Found κ q d r))))
+          (id⊢ 𝓤 _) $ await ! tt $ pick ! (λ r.
           split ! $ move ! (1 ∷ []) $ use1 W (raw (fact 𝓤 (Fine r))) (said 𝓤 H A W R Found κ q d r) $ heard ! (Fine r) (λ e. split ! $ move ! (1 ∷ []) $
           -- [the result; the token; what the struct owns; _3; …; _2; …; _1; …; room for _0; …]
           peeks ! Result (Is Result) (shows 𝓤 H A Result) r (u ∷ []) (λ is.
           land ! (from ! (stop !)) (init ! 9 refl (typed (κ, tt) r u is)) $
           returns ! (look ! 9 refl) $ forget ! 3 refl $ forget ! 5 refl $ forget ! 7 refl $ forget ! 9 refl $
-          move ! (9 ∷ 10 ∷ []) $ free1 ! $ move ! (7 ∷ 8 ∷ []) $ free1 ! $ move ! (5 ∷ 6 ∷ []) $ free1 ! $ move ! (3 ∷ 4 ∷ []) $ free1 ! $ free0 ! $ by ! (exits r u e)))))))))
+          move ! (9 ∷ 10 ∷ []) $ free1 ! $ move ! (7 ∷ 8 ∷ []) $ free1 ! $ move ! (5 ∷ 6 ∷ []) $ free1 ! $ move ! (3 ∷ 4 ∷ []) $ free1 ! $ free0 ! $
+          by ! (exits r u e)))))))))
 
   pub handed-on : (𝓜 : Model 𝓤 H) (𝓖 : GhostRules 𝓤 H) (𝓡 : Running 𝓤 H 𝓜) (env : Env) (τ : Ty)
       → ((κs : Lfts 1) (r : R κs .Denot) (u : Val) → Is (R κs) r (u ∷ []) → Holds (hasTy τ u) × WT u) → (key callee : Name)

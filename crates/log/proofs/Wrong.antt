@@ -23,10 +23,10 @@ use Rattle.log.specs.declared.Header.{Header}
 use Rattle.log.specs.declared.Record.{Record}
 use Rattle.log.specs.declared.keep.Kept.{Kept}
 use Rattle.log.specs.declared.reader.Reader.{Reader}
-use Rattle.log.specs.Numbers.{behind, numberIn, groupsOf}
+use Rattle.log.specs.Numbers.{groupsAt, isCut, isLong, isPadded, valueAt, numberAt, groupsOf}
 use Rattle.log.specs.Records.{headerRefusal, headerOfNumbers, headerOf, recordAt, placeAfter, cellAt}
 use Rattle.log.specs.Written.{numberRefusal, headerRefused, recordRefusal}
-use Rattle.log.proofs.One.{NewEnsures, NextEnsures, CellEnsures, OnwardEnsures, ReadEnsures}
+use Rattle.log.proofs.One.{NewEnsures, RecordEnsures, CellEnsures, PastEnsures, ReadEnsures}
 use Rattle.log.proofs.read_number.Kinds as read-number-kinds
 use Rattle.log.proofs.read_number.Reads as read-number-reads
 use Rattle.log.proofs.read_header.Kinds as read-header-kinds
@@ -44,9 +44,13 @@ use Rattle.log.proofs.keep.write_header.Reads as write-header-reads
 use Rattle.log.proofs.keep.write_record.Kinds as write-record-kinds
 use Rattle.log.proofs.keep.write_record.Reads as write-record-reads
 
--- every definition on the way down to the numbers
+-- every definition on the way down to the numbers: of numbers, and of all else
+unfoldable numbers-unfolded : Unit {0}
+unfolding groupsAt isCut isLong isPadded valueAt numberAt groupsOf numberRefusal
+numbers-unfolded = tt
+
 unfoldable pub unfolded : Unit {0}
-unfolding orElse formats.unfolded behind numberIn groupsOf headerRefusal headerOfNumbers headerOf recordAt placeAfter cellAt numberRefusal headerRefused recordRefusal
+unfolding orElse formats.unfolded numbers-unfolded headerRefusal headerOfNumbers headerOf recordAt placeAfter cellAt headerRefused recordRefusal
 unfolded = tt
 
 -- a log's part with one record, its indication 1 and its cell of nines, and an octet behind it where none can begin
@@ -222,13 +226,13 @@ module _ {M : Type 1} (𝓤 : URA M) (H : Heap 𝓤) (A : Atoms 𝓤) (mem : Mem
       ruled-out 𝓤 _ (id⊢ 𝓤 _) (λ q. let lengths : _≡_ {A = ℕ} 0 50 = ap length (sym wrong ∙ ap now (q .0)) in omega arith)
 
   -- the end answered at a record, and the record before told again at an octet where none can begin
-  pub next-not-the-end-early : (x : Record) → x .what ≡ 0 → ent 𝓤 (NextEnsures 𝓤 H A mem run κs (at 0, tt) x) (fact 𝓤 ⊥)
+  pub record-here-not-the-end-early : (x : Record) → x .what ≡ 0 → ent 𝓤 (RecordEnsures 𝓤 H A mem run κs (at 0, tt) x) (fact 𝓤 ⊥)
   unfolding unfolded
-  next-not-the-end-early x wrong = ruled-out 𝓤 _ (id⊢ 𝓤 _) (λ q. let right : x .what ≡ 1 = ap (λ (r : Record). r .what) q in omega arith)
+  record-here-not-the-end-early x wrong = ruled-out 𝓤 _ (id⊢ 𝓤 _) (λ q. let right : x .what ≡ 1 = ap (λ (r : Record). r .what) q in omega arith)
 
-  pub next-not-always-the-first : (x : Record) → x .what ≡ 1 → ent 𝓤 (NextEnsures 𝓤 H A mem run κs (at 49, tt) x) (fact 𝓤 ⊥)
+  pub record-here-not-always-the-first : (x : Record) → x .what ≡ 1 → ent 𝓤 (RecordEnsures 𝓤 H A mem run κs (at 49, tt) x) (fact 𝓤 ⊥)
   unfolding unfolded
-  next-not-always-the-first x wrong = ruled-out 𝓤 _ (id⊢ 𝓤 _) (λ q. let right : x .what ≡ 0 = ap (λ (r : Record). r .what) q in omega arith)
+  record-here-not-always-the-first x wrong = ruled-out 𝓤 _ (id⊢ 𝓤 _) (λ q. let right : x .what ≡ 0 = ap (λ (r : Record). r .what) q in omega arith)
 
   -- 48 octets from the indication on, and the right ones at another place in memory
   pub reader's-cell-not-with-its-indication : (x : RefT (List ℕ)) → now x ≡ take 48 tape → ent 𝓤 (CellEnsures 𝓤 H A mem run κs (at 0, tt) x) (fact 𝓤 ⊥)
@@ -242,13 +246,13 @@ module _ {M : Type 1} (𝓤 : URA M) (H : Heap 𝓤) (A : Atoms 𝓤) (mem : Mem
       ruled-out 𝓤 _ (id⊢ 𝓤 _) (λ q. let on : p .ptr .1 ≡ 1 + p .ptr .1 = ap (λ (t : ℕ × ℕ). t .1) (sym wrong ∙ q .1) in omega arith)
 
   -- the same record for ever, and back to the log's start from where no record can be read
-  pub onward-not-standing-still : (x : Reader) → x .place ≡ 0 → ent 𝓤 (OnwardEnsures 𝓤 H A mem run κs (at 0, tt) x) (fact 𝓤 ⊥)
+  pub past-record-not-standing-still : (x : Reader) → x .place ≡ 0 → ent 𝓤 (PastEnsures 𝓤 H A mem run κs (at 0, tt) x) (fact 𝓤 ⊥)
   unfolding unfolded
-  onward-not-standing-still x wrong = ruled-out 𝓤 _ (id⊢ 𝓤 _) (λ q. let right : x .place ≡ 49 = q .1 in omega arith)
+  past-record-not-standing-still x wrong = ruled-out 𝓤 _ (id⊢ 𝓤 _) (λ q. let right : x .place ≡ 49 = q .1 in omega arith)
 
-  pub onward-not-lost : (x : Reader) → x .place ≡ 0 → ent 𝓤 (OnwardEnsures 𝓤 H A mem run κs (at 49, tt) x) (fact 𝓤 ⊥)
+  pub past-record-not-lost : (x : Reader) → x .place ≡ 0 → ent 𝓤 (PastEnsures 𝓤 H A mem run κs (at 49, tt) x) (fact 𝓤 ⊥)
   unfolding unfolded
-  onward-not-lost x wrong = ruled-out 𝓤 _ (id⊢ 𝓤 _) (λ q. let right : x .place ≡ 49 = q .1 in omega arith)
+  past-record-not-lost x wrong = ruled-out 𝓤 _ (id⊢ 𝓤 _) (λ q. let right : x .place ≡ 49 = q .1 in omega arith)
 
   -- the end answered at a record, and its indication told as no
   pub read-not-the-end-early : (x : Record) → x .what ≡ 0 → ent 𝓤 (ReadEnsures 𝓤 H A mem run κs (lent p tape, (0, tt)) x) (fact 𝓤 ⊥)

@@ -59,7 +59,3 @@ placeAfter log place = cond (eqb (recordAt log place .what) 1) (recordAt log pla
 -- "it hands each cell back as that part of the log itself": 48 octets from where the cell starts, none where no cell is there
 unfoldable pub cellAt : List ℕ → ℕ → List ℕ
 cellAt log place = take (recordAt log place .what * 48) (drop (recordAt log place .start) log)
-
--- where the part of a slice stands that starts so many octets on
-abbrev pub from : ℕ × ℕ → ℕ → ℕ × ℕ
-from p n = (p .0, n + p .1)

@@ -1,4 +1,4 @@
-// Writing a log, document 01, "The log": the sender's box keeps one in a run that is lent to it.
+// Writes a log into a lent run: its numbers, its header and its records (document 01, "The log").
 ghost use mathlib.Core.Path.{_≡_};
 ghost use Prim.Native.Nat.{_+_, _≤_};
 ghost use lib.ListN.{length};

@@ -2,8 +2,9 @@
 // log's start.
 ghost use mathlib.Core.Path.{_≡_};
 ghost use Prim.Native.Nat.{_<_, _≤_};
-ghost use Rattle.log.specs.Numbers.{numberAt, numberIn, behind, noNumber};
-ghost use Rattle.log.specs.Records.{headerOf, noHeader, recordAt, noRecord, placeAfter, cellAt, from};
+ghost use Rattle.log.specs.Code.{numberWithin, behind, from};
+ghost use Rattle.log.specs.Numbers.{numberAt, noNumber};
+ghost use Rattle.log.specs.Records.{headerOf, noHeader, recordAt, noRecord, placeAfter, cellAt};
 
 pub mod keep; // keep.rt: writing a log
 pub mod reader; // reader.rt: the reader that holds a lent log and a place
@@ -50,7 +51,8 @@ fn no_number() -> Number
     }
 }
 
-// A group with more behind it. The number there is 0 where it is refused, and where the form is not the shortest.
+// Joins a group and the number that the groups behind it hold. That number is 0 where it was refused itself, and where its last
+// group is 0, so that the form is not the shortest: 11 in both cases.
 fn behind(group: u32, more: Number) -> Number
     requires { ⌜ more .value < 16384 ⌝ }
     ensures { λ r. ⌜ r ≡ behind group more ⌝ }
@@ -66,10 +68,10 @@ fn behind(group: u32, more: Number) -> Number
     }
 }
 
-// The number at a place, in at most so many groups.
+// Reads the number at a place, which may have at most `groups` groups.
 fn number_in(log: &[u8], place: usize, groups: u8) -> Number
     requires { ⌜ groups ≤ 3 ⌝ }
-    ensures { λ r. ⌜ r ≡ numberIn groups (now (log .entry)) place ⌝ }
+    ensures { λ r. ⌜ r ≡ numberWithin groups (now (log .entry)) place ⌝ }
 {
     if groups == 0 {
         return no_number();

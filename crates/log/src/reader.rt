@@ -1,8 +1,9 @@
-// The reader over a lent log, document 01: it "holds the octets and a place only". Thin functions over those on a slice and a
-// place, proved by hand. `read` is for all callers that hold the log as a slice themselves.
+// A reader over a lent log. Document 01: it "holds the octets and a place only". Its functions call those of lib.rt with the slice
+// and the place that it holds, and are proved by hand. A caller that has the log as a slice uses `read`.
 use crate::Record;
 ghost use mathlib.Core.Path.{_≡_};
-ghost use Rattle.log.specs.Records.{recordAt, placeAfter, cellAt, from};
+ghost use Rattle.log.specs.Code.{from};
+ghost use Rattle.log.specs.Records.{recordAt, placeAfter, cellAt};
 
 pub struct Reader<'a> {
     pub log: &'a [u8],
@@ -17,7 +18,7 @@ pub fn new<'a>(log: &'a [u8], place: usize) -> Reader<'a>
 }
 
 // The record where the reader stands.
-pub fn next<'a>(r: Reader<'a>) -> Record
+pub fn record_here<'a>(r: Reader<'a>) -> Record
     ensures { λ s. ⌜ s ≡ recordAt (now (r .entry .log)) (r .entry .place) ⌝ }
 {
     crate::read_record(r.log, r.place)
@@ -32,7 +33,7 @@ pub fn cell<'a>(r: Reader<'a>) -> &'a [u8]
 }
 
 // The reader past the record where it stands; where there is no cell, its place stays as given.
-pub fn onward<'a>(r: Reader<'a>) -> Reader<'a>
+pub fn past_record<'a>(r: Reader<'a>) -> Reader<'a>
     ensures { λ q. ⌜ (q .log ≡ r .entry .log) × (q .place ≡ placeAfter (now (r .entry .log)) (r .entry .place)) ⌝ }
 {
     let place = crate::next_place(r.log, r.place);
@@ -43,5 +44,5 @@ pub fn onward<'a>(r: Reader<'a>) -> Reader<'a>
 pub fn read(log: &[u8], place: usize) -> Record
     ensures { λ s. ⌜ s ≡ recordAt (now (log .entry)) place ⌝ }
 {
-    next(new(log, place))
+    record_here(new(log, place))
 }

@@ -14,12 +14,29 @@ use lib.Count.{ones, onesIn}
 use lib.Dec.{T, eqb, leb, ltb, leb→le, eqb→eq}
 use lib.ListN.{length, getD}
 use lib.Pow.{pow-mono}
-use Rattle.runs.specs.Division.{coefficients, divided, takenDown}
+use Rattle.runs.specs.Division.{coefficients, divided, takenDown, remainder}
 use Rattle.runs.specs.Test.{every}
-use Rattle.runs.proofs.Arms.{NoneOf, orListed, others, singles}
 use Rattle.runs.proofs.Laws.{every-at, split, or-right}
+use Rattle.numbers.specs.declared.Found.{Found}
 use Rattle.numbers.specs.declared.Found.the-variants.{Number, Nothing}
-use Rattle.numbers.specs.Numbers.{tableA1, entryOf, turned, protectionOf, sevenOf, dividedEntry, placeIn, numberIn, foundOf, wordBit, gathered, eightOf, secondOf, differenceOf}
+use Rattle.numbers.specs.Numbers.{
+  tableA1,
+  entryOf,
+  turned,
+  protectionOf,
+  sevenOf,
+  dividedEntry,
+  placeIn,
+  numberIn,
+  foundOf,
+  refusalOf,
+  valueOf,
+  wordBit,
+  gathered,
+  eightOf,
+  secondOf,
+  differenceOf,
+}
 use Rattle.numbers.specs.Code.{sequenceOf}
 
 -- each entry is what the division and the parity make of its number
@@ -47,14 +64,70 @@ pub turned-lt : (n : ℕ) → turned n < 16
 unfolding turned
 turned-lt n = omega arith
 
--- what parity and one look into the table find: the number, and 16 for none
+-- the division as the code does it, the first bit lowest: one term of four is taken off at each step
+abbrev pub fromFive : ℕ → ℕ
+fromFive n = bitXor n (n % 2 * 13)
+
+abbrev pub fromFour : ℕ → ℕ
+fromFour n = bitXor (fromFive n) (fromFive n / 2 % 2 * 26)
+
+abbrev pub fromThree : ℕ → ℕ
+fromThree n = bitXor (fromFour n) (fromFour n / 4 % 2 * 52)
+
+abbrev pub leftLow : ℕ → ℕ
+leftLow n = bitXor (fromThree n) (fromThree n / 8 % 2 * 104)
+
+-- what it leaves is the paper's remainder, turned round, in bits 5 to 7
+abbrev pub turnedRemainder : ℕ → ℕ
+turnedRemainder number = turned (remainder 3 0b1011 7 (turned number * 8) * 2) * 16
+
+pub left-right : (number : ℕ) → number < 16 → leftLow number ≡ turnedRemainder number
+unfolding every turned coefficients divided takenDown
+left-right number h = eqb→eq _ _ (every-at (λ n. eqb (leftLow n) (turnedRemainder n)) 16 tt number h)
+
+-- with the number's own bits before its complement and the parity after it, that is the table's entry, the first bit lowest
+abbrev pub sevenLow : ℕ → ℕ → ℕ
+sevenLow number rest = (number + bitXor rest 112) % 256
+
+abbrev pub complemented : ℕ → ℕ
+complemented number = bitXor (turnedRemainder number) 112
+
+pub complement-lt : (number : ℕ) → number < 16 → complemented number < 128
+unfolding every turned coefficients divided takenDown
+complement-lt number h = leb→le _ _ (every-at (λ n. ltb (complemented n) 128) 16 tt number h)
+
+eightLow : ℕ → ℕ
+eightLow number =
+    sevenLow number (turnedRemainder number) + ones (sevenLow number (turnedRemainder number)) % 2 * 128
+
+pub eight-right : (number : ℕ) {rest : ℕ} → number < 16 → rest ≡ turnedRemainder number
+    → sevenLow number rest + ones (sevenLow number rest) % 2 * 128 ≡ sequenceOf (entryOf number) 0
+unfolding every eightLow tableA1 turned sequenceOf coefficients divided takenDown ones onesIn
+eight-right number h e =
+    ap (λ (r : ℕ). sevenLow number r + ones (sevenLow number r) % 2 * 128) e
+    ∙ eqb→eq _ _ (every-at (λ n. eqb (eightLow n) (sequenceOf (entryOf n) 0)) 16 tt number h)
+
+pub seven-lt : (number : ℕ) {rest : ℕ} → number < 16 → rest ≡ turnedRemainder number → sevenLow number rest < 128
+unfolding every turned coefficients divided takenDown
+seven-lt number {rest} h e =
+    rw e (leb→le _ _ (every-at (λ n. ltb (sevenLow n (turnedRemainder n)) 128) 16 tt number h))
+
+-- turned round it is the entry
+pub entry-right : (number : ℕ) {eight : ℕ} → number < 16 → eight ≡ sequenceOf (entryOf number) 0
+    → turned eight * 16 + turned (eight / 16) ≡ entryOf number
+unfolding every tableA1 turned sequenceOf
+entry-right number h e =
+    ap (λ (n : ℕ). turned n * 16 + turned (n / 16)) e
+    ∙ eqb→eq _ _
+    (every-at (λ n. eqb (turned (sequenceOf (entryOf n) 0) * 16 + turned (sequenceOf (entryOf n) 0 / 16)) (entryOf n)) 16 tt number h)
+
+-- what the number in the first four bits asks of the other four finds: the number, and 16 for none
 looked : ℕ → ℕ
 looked word =
-    cond (eqb (ones word % 2) 1) 16
-    (cond (eqb (entryOf (turned (word / 16) % 16)) word) (turned (word / 16)) 16)
+    cond (eqb (sequenceOf (entryOf (turned (word / 16) % 16)) 0 / 16) (turned word)) (turned (word / 16)) 16
 
 looked-right : {word : ℕ} → word < 256 → looked word ≡ numberIn word
-unfolding every looked tableA1 turned placeIn ones onesIn
+unfolding every looked tableA1 turned placeIn sequenceOf
 looked-right {word} h =
     eqb→eq (looked word) (numberIn word) (every-at (λ w. eqb (looked w) (numberIn w)) 256 tt word h)
 
@@ -66,20 +139,18 @@ found-number : (word : ℕ) {n : ℕ} → numberIn word ≡ n → n < 16 → Num
 unfolding foundOf
 found-number word e h = rw (e, lt-ltb _ _ h)
 
+-- what the number in a word's first four bits asks of the other four
+abbrev pub otherFour : ℕ → ℕ
+otherFour word = sequenceOf (entryOf (turned (word / 16) % 16)) 0 / 16
+
 module _ {word : ℕ} (h : word < 256) where
-  pub odd-nothing : ones word % 2 ≡ 1 → Nothing ≡ foundOf word
+  pub four-number : otherFour word ≡ turned word → Number (turned (word / 16)) ≡ foundOf word
   unfolding looked
-  odd-nothing odd = found-none word (sym (looked-right h) ∙ rw (eq-eqb _ _ odd))
+  four-number e = found-number word (sym (looked-right h) ∙ rw (eq-eqb _ _ e)) (turned-lt (word / 16))
 
-  module _ (even : ones word % 2 ≡ 1 → ⊥) where
-    pub entry-number : entryOf (turned (word / 16) % 16) ≡ word → Number (turned (word / 16)) ≡ foundOf word
-    unfolding looked
-    entry-number e =
-        found-number word (sym (looked-right h) ∙ rw (ne-eqb _ _ even, eq-eqb _ _ e)) (turned-lt (word / 16))
-
-    pub other-nothing : (entryOf (turned (word / 16) % 16) ≡ word → ⊥) → Nothing ≡ foundOf word
-    unfolding looked
-    other-nothing e = found-none word (sym (looked-right h) ∙ rw (ne-eqb _ _ even, ne-eqb _ _ e))
+  pub four-nothing : (otherFour word ≡ turned word → ⊥) → Nothing ≡ foundOf word
+  unfolding looked
+  four-nothing e = found-none word (sym (looked-right h) ∙ rw (ne-eqb _ _ e))
 
 -- a number's entry is that number, and eight bits that are a number are its entry: sound and complete
 pub number-entry : {number : ℕ} → number < 16 → numberIn (entryOf number) ≡ number
@@ -113,6 +184,17 @@ unfolding every wordBit
 second-back word {second} h =
     eqb→eq (secondOf (wordBit word second)) second (every-at (λ s. eqb (secondOf (wordBit word s)) s) 16 tt second h)
 
+-- bits 9 to 12 of a word one by one, and those after them
+pub second-bit : (word second : ℕ) {i : ℕ} → i < 4 → wordBit word second (8 + i) ≡ second / 2 ^ i % 2
+unfolding wordBit
+second-bit word second {i} h =
+    rw (le-ltb (8 + i) 8 (omega arith), lt-ltb (8 + i) 12 (omega arith))
+    (ap (λ (k : ℕ). second / 2 ^ k % 2) (let place : 8 + i - 8 ≡ i = omega arith in place))
+
+pub later-bit : (word second : ℕ) {slot : ℕ} → 12 ≤ slot → wordBit word second slot ≡ 0
+unfolding wordBit
+later-bit word second {slot} h = rw (le-ltb slot 8 (omega arith), le-ltb slot 12 h)
+
 pub entry-lt : {number : ℕ} → number < 16 → entryOf number < 256
 unfolding every tableA1
 entry-lt {number} h = leb→le _ _ (every-at (λ n. ltb (entryOf n) 256) 16 tt number h)
@@ -126,11 +208,6 @@ pub eight-and-second : (number second : ℕ) {first : ℕ} → first ≡ sequenc
     → first + second * 256 ≡ sequenceOf (entryOf number) second
 unfolding sequenceOf
 eight-and-second number second e = omega (arith, e)
-
-pub last-eight : (X : Type 0) (number : ℕ) → number < 16 → NoneOf X (singles 15) number → 0x0F ≡ sequenceOf (entryOf number) 0
-unfolding every orListed tableA1 turned sequenceOf
-last-eight X number less none =
-    eqb→eq _ _ (others X (singles 15) (λ n. eqb 0x0F (sequenceOf (entryOf n) 0)) 16 tt number less none)
 
 pub bit-lt : (word second slot : ℕ) → wordBit word second slot < 2
 unfolding wordBit
@@ -229,3 +306,36 @@ found-not word e =
   where
     never : Number (numberIn word) ≡ Nothing → ⊥
     never h = let z : _≡_ {A = ℕ} 0 1 = cc in omega arith
+
+-- a number's entry is found to be that number
+pub entry-found : {number : ℕ} → number < 16 → foundOf (entryOf number) ≡ Number number
+entry-found {number} h = sym (found-number (entryOf number) (number-entry h) h)
+
+-- what is found is refused 8 or not at all; where it isn't, its entry is the eight bits, and where it is, they are no entry
+pub found-either : (word : ℕ) (P : Found → Type 0) → (numberIn word < 16 → P (Number (numberIn word))) → (numberIn word ≡ 16 → P Nothing) → P (foundOf word)
+unfolding foundOf tableA1
+found-either word P here there =
+    split (ltb (numberIn word) 16)
+    (λ t. rw t (here (ltb-true (numberIn word) 16 t)))
+    (λ t. rw t (there (let above = ltb-false (numberIn word) 16 t in let low = place-le word tableA1 in omega arith)))
+
+pub value-lt : (word : ℕ) → valueOf (foundOf word) < 16
+unfolding valueOf
+value-lt word = found-either word (λ f. valueOf f < 16) (λ h. h) (λ e. omega arith)
+
+pub found-entry : (word : ℕ) → refusalOf (foundOf word) ≡ 0 → entryOf (valueOf (foundOf word)) ≡ word
+unfolding refusalOf valueOf
+found-entry word =
+    found-either word (λ f. refusalOf f ≡ 0 → entryOf (valueOf f) ≡ word)
+    (λ h e. entry-number-in word h)
+    (λ none e. absurd (let never : _≡_ {A = ℕ} 8 0 = e in omega arith))
+
+pub no-entry-refused : (word : ℕ) → ((number : ℕ) → number < 16 → entryOf number ≡ word → ⊥) → refusalOf (foundOf word) ≡ 8
+unfolding refusalOf
+no-entry-refused word never =
+    found-either word (λ f. refusalOf f ≡ 8) (λ h. absurd (never (numberIn word) h (entry-number-in word h))) (λ e. refl)
+
+pub refused-8 : (word : ℕ) → (refusalOf (foundOf word) ≡ 0 → ⊥) → refusalOf (foundOf word) ≡ 8
+unfolding refusalOf
+refused-8 word =
+    found-either word (λ f. (refusalOf f ≡ 0 → ⊥) → refusalOf f ≡ 8) (λ h some. absurd (some refl)) (λ none some. refl)

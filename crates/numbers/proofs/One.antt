@@ -11,6 +11,8 @@ use Rattle.numbers.proofs.sequence_of.Kinds as sequence-of-kinds
 use Rattle.numbers.proofs.sequence_of.Reads as sequence-of-reads
 use Rattle.numbers.proofs.difference.Kinds as difference-kinds
 use Rattle.numbers.proofs.difference.Reads as difference-reads
+use Rattle.numbers.proofs.indication_refused.Kinds as indication-refused-kinds
+use Rattle.numbers.proofs.indication_refused.Reads as indication-refused-reads
 
 pub entry-of-one : One entry-of-kinds.ps entry-of-kinds.r entry-of-reads.Pre entry-of-reads.Post
 entry-of-one κs a x y v w pre p q = (p ∙ sym q, refl)
@@ -23,3 +25,6 @@ sequence-of-one κs a x y v w pre p q = (p ∙ sym q, refl)
 
 pub difference-one : One difference-kinds.ps difference-kinds.r difference-reads.Pre difference-reads.Post
 difference-one κs a x y v w pre p q = (p ∙ sym q, refl)
+
+pub indication-refused-one : One indication-refused-kinds.ps indication-refused-kinds.r indication-refused-reads.Pre indication-refused-reads.Post
+indication-refused-one κs a x y v w pre p q = (p ∙ sym q, refl)

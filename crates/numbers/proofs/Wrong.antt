@@ -1,11 +1,12 @@
 -- Wrong answers, two for each public function: its contract rules them out. Stated over the contracts themselves.
 -- Assumes nothing.
+use mathlib.Core.Bool.{true, false, true≢false}
 use mathlib.Core.Path.{_≡_, sym, _∙_}
 use Prim.Native.Nat.{ℕ}
 use native.Mathlib.Omega.{arith}
 use contract.Lifetimes.{Lfts}
 use Rattle.runs.proofs.Wrong.{Never}
-use Rattle.numbers.specs.Numbers.{tableA1, turned, placeIn, foundOf, wordBit, gathered, differenceOf}
+use Rattle.numbers.specs.Numbers.{tableA1, turned, placeIn, foundOf, wordBit, gathered, differenceOf, indicationRefused}
 use Rattle.numbers.specs.Code.{sequenceOf}
 use Rattle.numbers.specs.declared.Found.the-variants.{Number, Nothing}
 use Rattle.numbers.proofs.entry_of.Kinds as entry-of-kinds
@@ -16,10 +17,12 @@ use Rattle.numbers.proofs.sequence_of.Kinds as sequence-of-kinds
 use Rattle.numbers.proofs.sequence_of.Reads as sequence-of-reads
 use Rattle.numbers.proofs.difference.Kinds as difference-kinds
 use Rattle.numbers.proofs.difference.Reads as difference-reads
+use Rattle.numbers.proofs.indication_refused.Kinds as indication-refused-kinds
+use Rattle.numbers.proofs.indication_refused.Reads as indication-refused-reads
 
 -- every definition on the way down to the numbers
 unfoldable pub unfolded : Unit {0}
-unfolding tableA1 turned placeIn foundOf wordBit sequenceOf gathered differenceOf
+unfolding tableA1 turned placeIn foundOf wordBit sequenceOf gathered differenceOf indicationRefused
 unfolded = tt
 
 apart : (n : ℕ) → Nothing ≡ Number n → ⊥
@@ -65,3 +68,15 @@ module _ (κs : Lfts 0) where
   pub difference-not-modulo-256 : Never difference-kinds.ps difference-kinds.r difference-reads.Post κs (2, (3, tt)) (λ x v. x ≡ 255)
   unfolding unfolded
   difference-not-modulo-256 x v wrong p = omega arith
+
+  -- a box that lets any number carry the indication
+  pub indication-not-always-taken :
+      Never indication-refused-kinds.ps indication-refused-kinds.r indication-refused-reads.Post κs (12, (true, tt)) (λ x v. x ≡ false)
+  unfolding unfolded
+  indication-not-always-taken x v wrong p = true≢false (sym p ∙ wrong)
+
+  -- one that turns down a cell without it
+  pub no-indication-not-refused :
+      Never indication-refused-kinds.ps indication-refused-kinds.r indication-refused-reads.Post κs (12, (false, tt)) (λ x v. x ≡ true)
+  unfolding unfolded
+  no-indication-not-refused x v wrong p = true≢false (sym wrong ∙ p)

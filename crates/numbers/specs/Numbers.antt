@@ -1,6 +1,6 @@
 -- The sequencing word, document 01. A list of bits is told as a function of the bit's place, counted from 0.
 -- Assumes nothing.
-use mathlib.Core.Bool.{cond}
+use mathlib.Core.Bool.{Bool, cond, not, _&&_}
 use mathlib.Core.List.{List, [], _∷_}
 use Prim.Native.Nat.{ℕ, zero, suc, _+_, _*_, _/_, _%_, _-_, _^_}
 use lib.Count.{ones}
@@ -47,6 +47,15 @@ numberIn word = placeIn word tableA1
 unfoldable pub foundOf : ℕ → Found
 foundOf word = cond (ltb (numberIn word) 16) (Number (numberIn word)) Nothing
 
+-- what is found as the paper has it: the refusal, 8 "the eight number bits aren't in the table", and the number, 0 where there is none
+unfoldable pub refusalOf : Found → ℕ
+refusalOf (Number n) = 0
+refusalOf Nothing = 8
+
+unfoldable pub valueOf : Found → ℕ
+valueOf (Number n) = n
+valueOf Nothing = 0
+
 -- the sequencing bit of a slot: the eight number bits, then "Bits 9 to 12: the second number, least significant first", and
 -- "Later bits are sent as zero"
 unfoldable pub wordBit : ℕ → ℕ → ℕ → ℕ
@@ -68,3 +77,7 @@ secondOf bit = bit 8 + bit 9 * 2 + bit 10 * 4 + bit 11 * 8
 -- "d is the difference of numbers modulo 16"
 unfoldable pub differenceOf : ℕ → ℕ → ℕ
 differenceOf number last = (number + (16 - last % 16)) % 16
+
+-- "The user indication may be 1 only where the number is a multiple of 8": whether it is 1 elsewhere
+unfoldable pub indicationRefused : ℕ → Bool → Bool
+indicationRefused number indication = indication && not (eqb (number % 8) 0)

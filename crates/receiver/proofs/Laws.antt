@@ -1,4 +1,4 @@
--- Laws of the receiver's refusals: what each check gives in its turn, what is known where none refuses, and what a call leaves.
+-- Laws of the receiver's answers: what each check gives in its turn, what is known where none refuses, and what a call leaves.
 -- Assumes nothing.
 use mathlib.Core.Bool.{Bool, true, false, true≢false, cond, not, _||_}
 use mathlib.Core.List.{List, _++_}
@@ -9,9 +9,10 @@ use native.Mathlib.Omega.{arith}
 use borrow.Author.Tests.{lt-ltb, le-ltb, eq-eqb, ne-eqb, ltb-false, eqb-true, eqb-false, not-false}
 use lib.Dec.{T, eqb, ltb, eqb→eq}
 use lib.ListN.{length, replicate}
+use Rattle.runs.specs.Refusals.{orElse}
 use Rattle.runs.specs.Runs.{over}
 use Rattle.runs.specs.Test.{every}
-use Rattle.runs.proofs.Laws.{every-at, first-refuses, then-later, past, past-both, neither}
+use Rattle.runs.proofs.Laws.{every-at, first-refuses, then-later, past, past-both, neither, split}
 use Rattle.formats.specs.declared.Format.{Format}
 use Rattle.formats.specs.declared.Settled.{Settled}
 use Rattle.formats.specs.Formats.{
@@ -25,15 +26,28 @@ use Rattle.formats.specs.Formats.{
   widthOf,
   slotsOf,
   formatOf,
-  settingsOf,
   settingsRefusal,
-  settled,
 }
+use Rattle.formats.specs.Settings.{settingsOf, settled}
 use Rattle.formats.specs.Sound.{Limits}
-use Rattle.formats.proofs.Laws.{base-octet, base-format, settles-all, settled-of, settled-limits, given-refusal, given-refuses, given-none, given-settled, given-later}
-use Rattle.numbers.specs.Numbers.{differenceOf}
-use Rattle.cells.specs.Cells.{sampleIn, ancillaryIn, markIn}
+use Rattle.formats.proofs.Laws.{
+  base-octet,
+  base-format,
+  settles-all,
+  settled-of,
+  settled-limits,
+  given-refusal,
+  given-refuses,
+  given-none,
+  given-settled,
+  given-later,
+}
+use Rattle.numbers.specs.declared.Found.{Found}
+use Rattle.numbers.specs.declared.Found.the-variants.{Number, Nothing}
+use Rattle.numbers.specs.Numbers.{foundOf, refusalOf, valueOf, differenceOf, indicationRefused}
+use Rattle.cells.specs.Cells.{sampleIn, ancillaryIn, markIn, eightIn, secondIn}
 use Rattle.receiver.specs.declared.Receiver.{Receiver}
+use Rattle.receiver.specs.declared.Received.{Received}
 use Rattle.receiver.specs.Receiver.{
   zeroState,
   openState,
@@ -42,18 +56,18 @@ use Rattle.receiver.specs.Receiver.{
   stateRefusal,
   usedNow,
   lengthsRefused,
+  foundNow,
   numberNow,
-  gapNow,
   gapOf,
   receiveRefusal,
   entriesNow,
   secondNow,
   after,
   receivedOf,
-  given,
+  entriesGiven,
   Receives,
 }
-use Rattle.receiver.specs.Unpacking.{ownEntries, Writes, Roomy, Together}
+use Rattle.receiver.specs.Unpacking.{usedIn, ownEntries, Fills, Room, Together, earlyRefusal, refusedBy, takenAs}
 
 -- an opening, refused and taken
 module _ {set : Settled} (octet channels order : ℕ) (settles : set ≡ settingsOf octet channels order) where
@@ -68,124 +82,226 @@ module _ {set : Settled} (octet channels order : ℕ) (settles : set ≡ setting
   opens none = rw (given-none octet channels order 0 settles none)
 
 -- a gap is at most fifteen
-pub gap-to : (f : Format) (started : Bool) (last number : ℕ) → gapNow f started last number ≤ 15
-unfolding gapNow differenceOf
-gap-to f started last number = either (not started || eqb (f .«overhead_bits») 0)
+pub gap-to : (st : Receiver) (cell : List ℕ) → gapOf st cell ≤ 15
+unfolding gapOf differenceOf
+gap-to st cell = either (not (st .started) || eqb (formatOf (st .format) .«overhead_bits») 0)
   where
-    either : (b : Bool) → cond b 1 ((number + (16 - last % 16)) % 16) ≤ 15
+    either : (b : Bool) → cond b 1 ((numberNow st cell + (16 - st .last % 16)) % 16) ≤ 15
     either true = omega arith
     either false = le-of-suc-le-suc (mod-lt _ (omega arith))
 
--- checks 1 to 5 and 8 to 10 in their turn, by the settings
-module _ {set : Settled} (st : Receiver) (cell : List ℕ) (samples ancillary marks : ℕ)
-    (settles : set ≡ settingsOf (st .format) (st .channels) (st .order))
-  where
-    abbrev refusal : ℕ
-    refusal = receiveRefusal st cell samples ancillary marks
+-- checks 1 to 5 in their turn, by the settings
+module _ {set : Settled} (st : Receiver) (settles : set ≡ settingsOf (st .format) (st .channels) (st .order)) where
+  pub settled-format : set .refusal ≡ 0 → set .format ≡ formatOf (st .format)
+  settled-format none = ap (λ (x : Settled). x .format) (given-settled (st .format) (st .channels) (st .order) 0 settles none)
 
-    first : {n : ℕ} → (n ≡ 0 → ⊥) → n ≡ stateRefusal st → n ≡ refusal
-    unfolding receiveRefusal
+  module _ (cell samples ancillary marks : ℕ) where
+    first : {n : ℕ} → (n ≡ 0 → ⊥) → n ≡ stateRefusal st → n ≡ earlyRefusal st cell samples ancillary marks
+    unfolding earlyRefusal
     first some e = e ∙ sym (first-refuses _ (λ z. some (e ∙ z)))
 
-    pub receives-settings : (set .refusal ≡ 0 → ⊥) → set .refusal ≡ refusal
+    pub early-settings : (set .refusal ≡ 0 → ⊥) → set .refusal ≡ earlyRefusal st cell samples ancillary marks
     unfolding stateRefusal
-    receives-settings some = first some (given-refuses (st .format) (st .channels) (st .order) _ settles some)
+    early-settings some = first some (given-refuses (st .format) (st .channels) (st .order) _ settles some)
 
     module _ (none : set .refusal ≡ 0) where
-      is : set ≡ settled (st .format) (st .channels) (st .order)
-      is = given-settled (st .format) (st .channels) (st .order) 0 settles none
-
-      pub limits : Limits set
-      limits =
-          settled-limits (st .format) (st .channels) (st .order) is
-          (given-none (st .format) (st .channels) (st .order) 0 settles none)
-
-      by-last : {b : Bool} → b ≡ lastRefused (set .format) (st .started) (st .last) → cond b 4 0 ≡ stateRefusal st
+      by-last : {b : Bool} → b ≡ lastRefused st → cond b 4 0 ≡ stateRefusal st
       unfolding stateRefusal
       by-last e =
-          ap (λ (b : Bool). cond b 4 0) (e ∙ ap (λ (x : Settled). lastRefused (x .format) (st .started) (st .last)) is)
-          ∙ sym (given-later (st .format) (st .channels) (st .order) _ settles none)
+          ap (λ (b : Bool). cond b 4 0) e ∙ sym (given-later (st .format) (st .channels) (st .order) _ settles none)
 
-      pub receives-4 : true ≡ lastRefused (set .format) (st .started) (st .last) → 4 ≡ refusal
-      receives-4 e = first (suc-ne-zero 3) (by-last e)
+      pub early-4 : true ≡ lastRefused st → 4 ≡ earlyRefusal st cell samples ancillary marks
+      early-4 e = first (suc-ne-zero 3) (by-last e)
 
-      module _ (fourth : false ≡ lastRefused (set .format) (st .started) (st .last)) where
-        -- the later checks, of the settings' format and C×T
-        abbrev from-8 : Format → ℕ → ℕ → ℕ
-        from-8 f used number =
-            cond (ltb 15 number) 8
-            (cond (eqb (gapNow f (st .started) (st .last) number) 0) 9
-            (cond (ltb samples (gapNow f (st .started) (st .last) number * used)) 10 0))
+      pub early-5 : {b : Bool} → false ≡ lastRefused st → b ≡ lengthsRefused cell samples ancillary marks
+          → cond b 5 0 ≡ earlyRefusal st cell samples ancillary marks
+      unfolding earlyRefusal
+      early-5 fourth fifth = ap (λ (b : Bool). cond b 5 0) fifth ∙ sym (then-later _ (sym (by-last fourth)))
 
-        later : refusal
-            ≡ cond (lengthsRefused (length cell) samples ancillary marks) 5
-            (from-8 (set .format) (set .channels * set .times) (numberNow (set .format) cell))
-        unfolding receiveRefusal
-        later =
-            then-later _ (sym (by-last fourth))
-            ∙ ap
-            (λ (x : Settled).
-            cond (lengthsRefused (length cell) samples ancillary marks) 5
-            (from-8 (x .format) (x .channels * x .times) (numberNow (x .format) cell)))
-            (sym is)
+-- what is known where checks 1 to 5 refuse nothing
+pub record Whole (st : Receiver) (cell samples ancillary marks : ℕ) : Type 0 where
+  pub state-none : stateRefusal st ≡ 0
+  pub settings : settingsRefusal (st .format) (st .channels) (st .order) ≡ 0
+  pub lengths-none : lengthsRefused cell samples ancillary marks ≡ false
+  pub whole : cell ≡ 48
+  pub ancillary-length : ancillary ≡ samples
+  pub marks-length : marks ≡ samples
 
-        pub receives-5 : true ≡ lengthsRefused (length cell) samples ancillary marks → 5 ≡ refusal
-        receives-5 e = sym (later ∙ rw (← e))
+fits-lengths : (st : Receiver) (cell samples ancillary marks : ℕ) → stateRefusal st ≡ 0
+    → lengthsRefused cell samples ancillary marks ≡ false → Whole st cell samples ancillary marks
+unfolding stateRefusal lengthsRefused
+fits-lengths st cell samples ancillary marks state lengths =
+    let cells = neither (not (eqb cell 48)) _ lengths in
+    let runs = neither (not (eqb ancillary samples)) _ (cells .1) in
+    record {
+      state-none = state;
+      settings = past-both (settingsRefusal (st .format) (st .channels) (st .order)) _ state .0;
+      lengths-none = lengths;
+      whole = eqb-true cell 48 (not-false _ (cells .0));
+      ancillary-length = eqb-true ancillary samples (not-false _ (runs .0));
+      marks-length = eqb-true marks samples (not-false _ (runs .1));
+    }
 
-        module _ (fit : false ≡ lengthsRefused (length cell) samples ancillary marks) where
-          pub whole : length cell ≡ 48
-          unfolding lengthsRefused
-          whole = eqb-true (length cell) 48 (not-false _ (neither (not (eqb (length cell) 48)) _ (sym fit) .0))
-
-          module _ {number : ℕ} (number-is : number ≡ numberNow (set .format) cell) where
-            by-number : refusal ≡ from-8 (set .format) (set .channels * set .times) number
-            by-number = later ∙ rw (← fit) (ap (from-8 (set .format) (set .channels * set .times)) (sym number-is))
-
-            pub receives-8 : 15 < number → 8 ≡ refusal
-            receives-8 off = sym (by-number ∙ rw (lt-ltb _ _ off))
-
-            module _ (on : number ≤ 15) {gap : ℕ} (gap-is : gap ≡ gapNow (set .format) (st .started) (st .last) number) where
-              pub receives-9 : gap ≡ 0 → 9 ≡ refusal
-              receives-9 e = sym (by-number ∙ rw (le-ltb _ _ on, ← gap-is, eq-eqb _ _ e))
-
-              module _ (some : gap ≡ 0 → ⊥) where
-                pub receives-10 : samples < gap * (set .channels * set .times) → 10 ≡ refusal
-                receives-10 short = sym (by-number ∙ rw (le-ltb _ _ on, ← gap-is, ne-eqb _ _ some, lt-ltb _ _ short))
-
-                pub receives-0 : gap * (set .channels * set .times) ≤ samples → 0 ≡ refusal
-                receives-0 room = sym (by-number ∙ rw (le-ltb _ _ on, ← gap-is, ne-eqb _ _ some, le-ltb _ _ room))
+pub early-none : (st : Receiver) (cell samples ancillary marks : ℕ) → earlyRefusal st cell samples ancillary marks ≡ 0
+    → Whole st cell samples ancillary marks
+unfolding earlyRefusal
+early-none st cell samples ancillary marks e =
+    let state = past-both (stateRefusal st) _ e in
+    fits-lengths st cell samples ancillary marks (state .0) (past (lengthsRefused cell samples ancillary marks) 4 0 (state .1) .0)
 
 -- what is known where nothing is refused
 pub record Passes (st : Receiver) (cell : List ℕ) (samples ancillary marks : ℕ) : Type 0 where
-  pub settings : settingsRefusal (st .format) (st .channels) (st .order) ≡ 0
-  pub whole : length cell ≡ 48
-  pub ancillary-length : ancillary ≡ samples
-  pub marks-length : marks ≡ samples
-  pub number-to : numberNow (formatOf (st .format)) cell ≤ 15
+  pub early : Whole st (length cell) samples ancillary marks
+  pub found : refusalOf (foundNow st cell) ≡ 0
   pub gap-from : 1 ≤ gapOf st cell
   pub room : gapOf st cell * usedNow st ≤ samples
 
-pub passes : (st : Receiver) (cell : List ℕ) (samples ancillary marks : ℕ) → receiveRefusal st cell samples ancillary marks ≡ 0
-    → Passes st cell samples ancillary marks
-unfolding receiveRefusal stateRefusal lengthsRefused
-passes st cell samples ancillary marks e =
+pub passes : (st : Receiver) (cell : List ℕ) (indication : Bool) (samples ancillary marks : ℕ)
+    → receiveRefusal st cell indication samples ancillary marks ≡ 0 → Passes st cell samples ancillary marks
+unfolding receiveRefusal
+passes st cell indication samples ancillary marks e =
     let state = past-both (stateRefusal st) _ e in
-    let settings = past-both (settingsRefusal (st .format) (st .channels) (st .order)) _ (state .0) in
     let fifth = past (lengthsRefused (length cell) samples ancillary marks) 4 _ (state .1) in
-    let eighth = past (ltb 15 (numberNow (formatOf (st .format)) cell)) 7 _ (fifth .1) in
-    let ninth = past (eqb (gapOf st cell) 0) 8 _ (eighth .1) in
+    let eighth = past-both (refusalOf (foundNow st cell)) _ (fifth .1) in
+    let fifteenth = past (indicationRefused (numberNow st cell) indication) 14 _ (eighth .1) in
+    let ninth = past (eqb (gapOf st cell) 0) 8 _ (fifteenth .1) in
     let tenth = past (ltb samples (gapOf st cell * usedNow st)) 9 _ (ninth .1) in
-    let cells = neither (not (eqb (length cell) 48)) _ (fifth .0) in
-    let runs = neither (not (eqb ancillary samples)) _ (cells .1) in
     record {
-      settings = settings .0;
-      whole = eqb-true (length cell) 48 (not-false _ (cells .0));
-      ancillary-length = eqb-true ancillary samples (not-false _ (runs .0));
-      marks-length = eqb-true marks samples (not-false _ (runs .1));
-      number-to = ltb-false 15 _ (eighth .0);
+      early = fits-lengths st (length cell) samples ancillary marks (state .0) (fifth .0);
+      found = eighth .0;
       gap-from = pos-of-ne-zero (eqb-false (gapOf st cell) 0 (ninth .0));
       room = ltb-false samples _ (tenth .0);
     }
+
+-- what checks 1 to 5 refuse is refused
+as-first : {n : ℕ} → (n ≡ 0 → ⊥) → (state : ℕ) (fifth : Bool) (rest : ℕ) → n ≡ orElse state (cond fifth 5 0)
+    → n ≡ orElse state (cond fifth 5 rest)
+unfolding orElse
+as-first some state true rest is = is
+as-first some state false rest is =
+    split (eqb state 0) (λ z. absurd (some (is ∙ rw z))) (λ z. is ∙ rw z)
+
+early-first : (st : Receiver) (cell : List ℕ) (indication : Bool) (samples ancillary marks : ℕ) {n : ℕ} → (n ≡ 0 → ⊥)
+    → n ≡ earlyRefusal st (length cell) samples ancillary marks → n ≡ receiveRefusal st cell indication samples ancillary marks
+unfolding earlyRefusal receiveRefusal
+early-first st cell indication samples ancillary marks some e =
+    as-first some (stateRefusal st) (lengthsRefused (length cell) samples ancillary marks) _ e
+
+-- the answer, by the refusal
+module _ (st : Receiver) (cell : List ℕ) (indication : Bool) (samples ancillary marks : ℕ) where
+  pub answer-refused : {n : ℕ} → (n ≡ 0 → ⊥) → n ≡ receiveRefusal st cell indication samples ancillary marks
+      → refusedBy n st ≡ receivedOf st cell indication samples ancillary marks
+  unfolding receivedOf
+  answer-refused some e = rw (← e, ne-eqb _ _ some)
+
+  pub answer-taken : {missing number second : ℕ} → 0 ≡ receiveRefusal st cell indication samples ancillary marks
+      → missing ≡ gapOf st cell - 1 → number ≡ numberNow st cell → second ≡ secondNow st cell
+      → takenAs st missing number second indication ≡ receivedOf st cell indication samples ancillary marks
+  unfolding receivedOf after
+  answer-taken none missing-is number-is second-is = rw (← none, missing-is, number-is, second-is)
+
+  pub answer-refusal : receivedOf st cell indication samples ancillary marks .refusal
+      ≡ receiveRefusal st cell indication samples ancillary marks
+  unfolding receivedOf
+  answer-refusal =
+      split (eqb (receiveRefusal st cell indication samples ancillary marks) 0) (λ e. rw e (sym (eqb-true _ 0 e))) (λ e. rw e)
+
+  pub answer-missing : receiveRefusal st cell indication samples ancillary marks ≡ 0
+      → receivedOf st cell indication samples ancillary marks .missing ≡ gapOf st cell - 1
+  unfolding receivedOf
+  answer-missing none = rw none
+
+-- checks 8, 15, 9 and 10 in their turn, where the earlier ones refuse nothing; the runs are equally long
+module _ {set : Settled} (st : Receiver) (cell : List ℕ) (indication : Bool) (samples : ℕ)
+    (settles : set ≡ settingsOf (st .format) (st .channels) (st .order))
+    (early : earlyRefusal st (length cell) samples samples samples ≡ 0)
+  where
+    abbrev wanted : Received
+    wanted = receivedOf st cell indication samples samples samples
+
+    whole-call : Whole st (length cell) samples samples samples
+    whole-call = early-none st (length cell) samples samples samples early
+
+    is : set ≡ settled (st .format) (st .channels) (st .order)
+    is = settles ∙ settled-of (st .format) (st .channels) (st .order) (whole-call .settings)
+
+    pub judged-limits : Limits set
+    judged-limits = settled-limits (st .format) (st .channels) (st .order) is (whole-call .settings)
+
+    pub judged-format : set .format ≡ formatOf (st .format)
+    judged-format = ap (λ (x : Settled). x .format) is
+
+    pub judged-whole : length cell ≡ 48
+    judged-whole = whole-call .whole
+
+    -- what the later checks say of a cell found so, with these settings
+    abbrev later-of : Found → Settled → ℕ
+    later-of found s =
+        orElse (refusalOf found)
+        (cond (indicationRefused (valueOf found) indication) 15
+        (cond (eqb (gapOf st cell) 0) 9 (cond (ltb samples (gapOf st cell * usedIn s)) 10 0)))
+
+    later : (found : Found) → found ≡ foundNow st cell → receiveRefusal st cell indication samples samples samples ≡ later-of found set
+    unfolding receiveRefusal
+    later found e =
+        then-later _ (whole-call .state-none)
+        ∙ rw (whole-call .lengths-none) (ap₂ (λ (x : Found) (s : Settled). later-of x s) (sym e) (sym is))
+
+    pub judged-8 : Nothing ≡ foundNow st cell → refusedBy 8 st ≡ wanted
+    unfolding orElse refusalOf
+    judged-8 e = answer-refused st cell indication samples samples samples (suc-ne-zero 7) (sym (later Nothing e))
+
+    module _ {number : ℕ} (found : Number number ≡ foundNow st cell) where
+      pub judged-15 : true ≡ indicationRefused number indication → refusedBy 15 st ≡ wanted
+      unfolding orElse refusalOf valueOf
+      judged-15 e =
+          answer-refused st cell indication samples samples samples (suc-ne-zero 14) (sym (later (Number number) found ∙ rw (← e)))
+
+      module _ (rightly : false ≡ indicationRefused number indication) {gap : ℕ} (gap-is : gap ≡ gapOf st cell) where
+        from-9 : receiveRefusal st cell indication samples samples samples
+            ≡ cond (eqb gap 0) 9 (cond (ltb samples (gap * usedIn set)) 10 0)
+        unfolding orElse refusalOf valueOf
+        from-9 = later (Number number) found ∙ rw (← rightly, ← gap-is)
+
+        pub judged-9 : gap ≡ 0 → refusedBy 9 st ≡ wanted
+        judged-9 e = answer-refused st cell indication samples samples samples (suc-ne-zero 8) (sym (from-9 ∙ rw (eq-eqb _ _ e)))
+
+        module _ (some : gap ≡ 0 → ⊥) where
+          pub judged-10 : samples < gap * usedIn set → refusedBy 10 st ≡ wanted
+          judged-10 short =
+              answer-refused st cell indication samples samples samples (suc-ne-zero 9)
+              (sym (from-9 ∙ rw (ne-eqb _ _ some, lt-ltb _ _ short)))
+
+          pub judged-0 : gap * usedIn set ≤ samples → {second : ℕ} → second ≡ secondNow st cell
+              → takenAs st (gap - 1) number second indication ≡ wanted
+          unfolding valueOf
+          judged-0 room second-is =
+              answer-taken st cell indication samples samples samples
+              (sym (from-9 ∙ rw (ne-eqb _ _ some, le-ltb _ _ room))) (ap (λ (n : ℕ). n - 1) gap-is) (ap valueOf found) second-is
+
+-- what is found and the second number where the format has overhead
+module _ {f : Format} (st : Receiver) (cell : List ℕ) (is : formatOf (st .format) ≡ f) (over : f .«overhead_bits» ≡ 0 → ⊥) where
+  pub found-over : foundNow st cell ≡ foundOf (eightIn f cell)
+  unfolding foundNow
+  found-over = rw (is, ne-eqb (f .«overhead_bits») 0 over)
+
+  pub second-over : secondNow st cell ≡ secondIn f cell
+  unfolding secondNow
+  second-over = rw (is, ne-eqb (f .«overhead_bits») 0 over)
+
+pub gap-by : (st : Receiver) (cell : List ℕ) {started none : Bool} {number : ℕ} → st .started ≡ started
+    → eqb (formatOf (st .format) .«overhead_bits») 0 ≡ none → numberNow st cell ≡ number
+    → gapOf st cell ≡ cond (not started || none) 1 (differenceOf number (st .last))
+unfolding gapOf
+gap-by st cell a b e = λ i. cond (not (a i) || b i) 1 (differenceOf (e i) (st .last))
+
+pub found-passes : (st : Receiver) (cell : List ℕ) {number : ℕ} → foundNow st cell ≡ Number number → refusalOf (foundNow st cell) ≡ 0
+unfolding refusalOf
+found-passes st cell found = ap refusalOf found
+
+pub number-found : (st : Receiver) (cell : List ℕ) {number : ℕ} → Number number ≡ foundNow st cell → number ≡ numberNow st cell
+unfolding valueOf
+number-found st cell found = ap valueOf found
 
 -- overhead comes with ancillary bits in each of the eleven
 base-together : (octet : ℕ) → isBase octet ≡ true → Together (formatOf octet)
@@ -202,114 +318,137 @@ base-together octet h some =
     third true false c ha hb t = t
     third false b c ha hb t = absurd (true≢false (sym ha))
 
--- a call of `receive`, refused and taken
-module _ (st : Receiver) (cell : List ℕ) (indication : Bool) (samples ancillary marks : List ℕ) where
-  pub receives-refused : {n : ℕ} → (n ≡ 0 → ⊥) → n ≡ receiveRefusal st cell (length samples) (length ancillary) (length marks)
-      → Receives st cell indication samples ancillary marks
-      (record { refusal = n; state = st; missing = 0; number = 0; second = 0; indication = false })
-      samples ancillary marks
-  unfolding receivedOf given over
-  receives-refused some e =
+-- a call of `receive`
+pub record Call : Type 0 where
+  pub state : Receiver
+  pub cell : List ℕ
+  pub indication : Bool
+  pub samples : List ℕ
+  pub ancillary : List ℕ
+  pub marks : List ℕ
+
+-- it is answered so, and leaves its runs so
+abbrev pub Answered : Call → Received → List ℕ → List ℕ → List ℕ → Type 0
+Answered k answer samples₁ ancillary₁ marks₁ =
+    Receives (k .state) (k .cell) (k .indication) (k .samples) (k .ancillary) (k .marks) answer samples₁ ancillary₁ marks₁
+
+abbrev pub early-of : Call → ℕ
+early-of k = earlyRefusal (k .state) (length (k .cell)) (length (k .samples)) (length (k .ancillary)) (length (k .marks))
+
+abbrev pub answer-of : Call → Received
+answer-of k = receivedOf (k .state) (k .cell) (k .indication) (length (k .samples)) (length (k .ancillary)) (length (k .marks))
+
+module _ (k : Call) where
+  abbrev refusal : ℕ
+  refusal = receiveRefusal (k .state) (k .cell) (k .indication) (length (k .samples)) (length (k .ancillary)) (length (k .marks))
+
+  -- refused by whatever check: the runs stay
+  stays : {answer : Received} → answer ≡ answer-of k → (refusal ≡ 0 → ⊥) → Answered k answer (k .samples) (k .ancillary) (k .marks)
+  unfolding entriesGiven over
+  stays is some =
       record {
-        answered = rw (← e, ne-eqb _ _ some);
-        samples-after = rw (← e, ne-eqb _ _ some);
-        ancillary-after = rw (← e, ne-eqb _ _ some);
-        marks-after = rw (← e, ne-eqb _ _ some);
+        answered = is;
+        samples-after = rw (ne-eqb _ _ some);
+        ancillary-after = rw (ne-eqb _ _ some);
+        marks-after = rw (ne-eqb _ _ some);
       }
 
-  module _ {set : Settled} (settles : set ≡ settingsOf (st .format) (st .channels) (st .order))
-      (none : 0 ≡ receiveRefusal st cell (length samples) (length ancillary) (length marks))
-    where
-      passed : Passes st cell (length samples) (length ancillary) (length marks)
-      passed = passes st cell (length samples) (length ancillary) (length marks) (sym none)
+  -- refused by checks 1 to 5
+  pub early-refused : {n : ℕ} → (n ≡ 0 → ⊥) → n ≡ early-of k → Answered k (refusedBy n (k .state)) (k .samples) (k .ancillary) (k .marks)
+  early-refused {n} some e =
+      let all : n ≡ refusal = early-first (k .state) (k .cell) (k .indication) _ _ _ some e in
+      stays (answer-refused (k .state) (k .cell) (k .indication) _ _ _ some all) (λ z. some (all ∙ z))
 
-      set-is : set ≡ settled (st .format) (st .channels) (st .order)
-      set-is = settles ∙ settled-of (st .format) (st .channels) (st .order) (passed .settings)
+  -- checks 1 to 5 refuse nothing: the runs are equally long
+  module _ (none : early-of k ≡ 0) where
+    fits : Whole (k .state) (length (k .cell)) (length (k .samples)) (length (k .ancillary)) (length (k .marks))
+    fits = early-none (k .state) (length (k .cell)) _ _ _ none
 
-      pub set-limits : Limits set
-      set-limits = settled-limits (st .format) (st .channels) (st .order) set-is (passed .settings)
+    pub equal-early : earlyRefusal (k .state) (length (k .cell)) (length (k .samples)) (length (k .samples)) (length (k .samples)) ≡ 0
+    equal-early =
+        ap₂ (λ (a m : ℕ). earlyRefusal (k .state) (length (k .cell)) (length (k .samples)) a m) (sym (fits .ancillary-length))
+        (sym (fits .marks-length))
+        ∙ none
 
-      pub set-together : Together (set .format)
-      set-together =
-          subst (λ (x : Settled). Together (x .format)) (sym set-is)
-          (base-together (st .format) (settles-all (st .format) (st .channels) (st .order) (passed .settings) .base))
+    module _ {answer : Received}
+        (equal-is : answer ≡ receivedOf (k .state) (k .cell) (k .indication) (length (k .samples)) (length (k .samples)) (length (k .samples)))
+      where
+        answer-is : answer ≡ answer-of k
+        answer-is =
+            equal-is
+            ∙ ap₂ (λ (a m : ℕ). receivedOf (k .state) (k .cell) (k .indication) (length (k .samples)) a m)
+            (sym (fits .ancillary-length)) (sym (fits .marks-length))
 
-      pub set-taken : set .refusal ≡ 0
-      set-taken = ap (λ (x : Settled). x .refusal) set-is
+        refusal-is : answer .refusal ≡ refusal
+        refusal-is = ap (λ (r : Received). r .refusal) answer-is ∙ answer-refusal (k .state) (k .cell) (k .indication) _ _ _
 
-      pub cell-whole : length cell ≡ 48
-      cell-whole = passed .whole
+        pub judged-refused : (answer .refusal ≡ 0 → ⊥) → Answered k answer (k .samples) (k .ancillary) (k .marks)
+        judged-refused some = stays answer-is (λ z. some (refusal-is ∙ z))
 
-      module _ {number gap : ℕ} (number-is : number ≡ numberNow (set .format) cell)
-          (gap-is : gap ≡ gapNow (set .format) (st .started) (st .last) number)
-        where
-          number-now : number ≡ numberNow (formatOf (st .format)) cell
-          number-now = number-is ∙ ap (λ (x : Settled). numberNow (x .format) cell) set-is
+        -- taken
+        module _ {set : Settled} (settles : set ≡ settingsOf (k .state .format) (k .state .channels) (k .state .order)) (took : answer .refusal ≡ 0)
+          where
+            taken : refusal ≡ 0
+            taken = sym refusal-is ∙ took
 
-          gap-of : gap ≡ gapOf st cell
-          gap-of =
-              gap-is
-              ∙ ap₂ (λ (x : Settled) (n : ℕ). gapNow (x .format) (st .started) (st .last) n) set-is number-now
+            passed : Passes (k .state) (k .cell) (length (k .samples)) (length (k .ancillary)) (length (k .marks))
+            passed = passes (k .state) (k .cell) (k .indication) _ _ _ taken
 
-          pub gap-some : 1 ≤ gap
-          gap-some = rw gap-of (passed .gap-from)
+            set-is : set ≡ settled (k .state .format) (k .state .channels) (k .state .order)
+            set-is = settles ∙ settled-of (k .state .format) (k .state .channels) (k .state .order) (fits .settings)
 
-          pub gap-few : gap ≤ 15
-          gap-few = rw gap-of (gap-to (formatOf (st .format)) (st .started) (st .last) (numberNow (formatOf (st .format)) cell))
+            pub set-limits : Limits set
+            set-limits = settled-limits (k .state .format) (k .state .channels) (k .state .order) set-is (fits .settings)
 
-          used-is : set .channels * set .times ≡ usedNow st
-          used-is = ap (λ (x : Settled). x .channels * x .times) set-is
+            pub set-together : Together (set .format)
+            set-together =
+                subst (λ (x : Settled). Together (x .format)) (sym set-is)
+                (base-together (k .state .format)
+                (settles-all (k .state .format) (k .state .channels) (k .state .order) (fits .settings) .base))
 
-          last-part : (gap - 1) * (set .channels * set .times) + set .channels * set .times ≡ gap * (set .channels * set .times)
-          last-part = whole-of gap (set .channels * set .times) gap-some
-            where
-              whole-of : (g u : ℕ) → 1 ≤ g → (g - 1) * u + u ≡ g * u
-              whole-of g u h =
-                  sym (suc-mul (g - 1) u) ∙ ap (λ (n : ℕ). n * u) (let whole : suc (g - 1) ≡ g = omega arith in whole)
+            pub cell-whole : length (k .cell) ≡ 48
+            cell-whole = fits .whole
 
-          room : gap * (set .channels * set .times) ≤ length samples
-          room = rw (gap-of, used-is) (passed .room)
+            missing-is : answer .missing ≡ gapOf (k .state) (k .cell) - 1
+            missing-is =
+                ap (λ (r : Received). r .missing) answer-is ∙ answer-missing (k .state) (k .cell) (k .indication) _ _ _ taken
 
-          pub roomy : Roomy set ((gap - 1) * (set .channels * set .times)) samples ancillary marks
-          roomy =
-              record {
-                samples-room = rw last-part room;
-                ancillary-room = rw (last-part, passed .ancillary-length) room;
-                marks-room = rw (last-part, passed .marks-length) room;
-              }
+            pub missing-few : answer .missing ≤ 14
+            missing-few = rw missing-is (omega (arith, gap-to (k .state) (k .cell)))
 
-          entries-are : (read : Format → ℕ → ℕ) (missing : ℕ)
-              → replicate ((gap - 1) * (set .channels * set .times)) missing ++ ownEntries (read (set .format)) set cell
-              ≡ given st cell (length samples) (length ancillary) (length marks)
-              (entriesNow (read (formatOf (st .format))) missing st cell)
-          unfolding given entriesNow
-          entries-are read missing =
-              ap₂
-              (λ (g : ℕ) (x : Settled).
-              replicate ((g - 1) * (x .channels * x .times)) missing ++ ownEntries (read (x .format)) x cell)
-              gap-of set-is
-              ∙ rw (← none)
+            enough : answer .missing * usedIn set + usedIn set ≤ length (k .samples)
+            enough =
+                rw (missing-is, set-is, last-part (gapOf (k .state) (k .cell)) (usedNow (k .state)) (passed .gap-from)) (passed .room)
+              where
+                last-part : (g u : ℕ) → 1 ≤ g → (g - 1) * u + u ≡ g * u
+                last-part g u h =
+                    sym (suc-mul (g - 1) u) ∙ ap (λ (n : ℕ). n * u) (let whole : suc (g - 1) ≡ g = omega arith in whole)
 
-          pub receives-taken : {second : ℕ} {samples₁ ancillary₁ marks₁ : List ℕ} → second ≡ secondNow (set .format) cell
-              → Writes set cell ((gap - 1) * (set .channels * set .times)) samples ancillary marks samples₁ ancillary₁ marks₁
-              → Receives st cell indication samples ancillary marks
-              (record {
-                refusal = 0;
-                state =
-                    record { format = st .format; channels = st .channels; order = st .order; started = true; last = number };
-                missing = gap - 1;
-                number = number;
-                second = second;
-                indication = indication;
-              })
-              samples₁ ancillary₁ marks₁
-          unfolding receivedOf after
-          receives-taken {second} second-is wrote =
-              let second-now : second ≡ secondNow (formatOf (st .format)) cell
-              = second-is ∙ ap (λ (x : Settled). secondNow (x .format) cell) set-is in
-              record {
-                answered = rw (← none, number-now, gap-of, second-now);
-                samples-after = wrote .samples-are ∙ ap (λ (new : List ℕ). over new samples) (entries-are sampleIn 0);
-                ancillary-after = wrote .ancillary-is ∙ ap (λ (new : List ℕ). over new ancillary) (entries-are ancillaryIn 0);
-                marks-after = wrote .marks-are ∙ ap (λ (new : List ℕ). over new marks) (entries-are markIn 2);
-              }
+            pub roomy : Room (answer .missing * usedIn set) (usedIn set) (k .samples) (k .ancillary) (k .marks)
+            roomy =
+                record {
+                  samples-room = enough;
+                  ancillary-room = rw (fits .ancillary-length) enough;
+                  marks-room = rw (fits .marks-length) enough;
+                }
+
+            entries-are : (read : Format → ℕ → ℕ) (missing : ℕ)
+                → replicate (answer .missing * usedIn set) missing ++ ownEntries (read (set .format)) set (k .cell)
+                ≡ entriesGiven (k .state) (k .cell) (k .indication) (length (k .samples)) (length (k .ancillary)) (length (k .marks))
+                (entriesNow (read (formatOf (k .state .format))) missing (k .state) (k .cell))
+            unfolding entriesGiven entriesNow
+            entries-are read missing =
+                ap₂ (λ (n : ℕ) (x : Settled). replicate (n * usedIn x) missing ++ ownEntries (read (x .format)) x (k .cell))
+                missing-is set-is
+                ∙ rw taken
+
+            pub judged-taken : {samples₁ ancillary₁ marks₁ : List ℕ}
+                → Fills set (k .cell) (answer .missing * usedIn set) (k .samples) (k .ancillary) (k .marks) samples₁ ancillary₁ marks₁
+                → Answered k answer samples₁ ancillary₁ marks₁
+            judged-taken wrote =
+                record {
+                  answered = answer-is;
+                  samples-after = wrote .samples-are ∙ ap (λ (new : List ℕ). over new (k .samples)) (entries-are sampleIn 0);
+                  ancillary-after = wrote .ancillary-is ∙ ap (λ (new : List ℕ). over new (k .ancillary)) (entries-are ancillaryIn 0);
+                  marks-after = wrote .marks-are ∙ ap (λ (new : List ℕ). over new (k .marks)) (entries-are markIn 2);
+                }

@@ -1,5 +1,5 @@
--- No second answer: two answers, and two contents of each lent run at exit, that meet a public function's contract for the same inputs are equal. Stated over the contracts
--- themselves.
+-- No second answer: two answers, and two contents of each lent run at exit, that meet a public function's contract for the same
+-- inputs are equal. Stated over the contracts themselves.
 -- Assumes nothing.
 use mathlib.Core.Path.{refl, sym, _∙_}
 use Rattle.runs.proofs.One.{One}

@@ -19,7 +19,9 @@ use Rattle.formats.specs.Sound.{Sound}
 use Rattle.cells.proofs.Subframes.{slot-room}
 use Rattle.cells.specs.Cells.{subframeAt}
 use Rattle.cells.specs.Placement.{slotOf, slotOfEntry}
-use Rattle.receiver.specs.Unpacking.{twoAt, turnedTwo}
+use Rattle.cells.specs.Code.{turnedTwo, turnedFour}
+use Rattle.cells.proofs.Places.{turned-halves}
+use Rattle.receiver.specs.Unpacking.{twoAt}
 
 -- the number of the octets from `at` on, one octet more at a time
 module _ (octets : List ℕ) (at : ℕ) where
@@ -95,18 +97,15 @@ two-turned a b ha hb =
     let whole : a + b * 256 ≡ b * 256 + a = omega arith in
     rw (whole, digits-mod b ha, digits-div b ha, mod-eq-of-lt hb)
 
-pub four-low : (a b c d first second : ℕ) → a < 256 → b < 256 → c < 256 → d < 256 → a * 256 + b ≡ first → c * 256 + d ≡ second
-    → (a + b * 256 + c * 65536 + d * 16777216 < 4294967296)
-    × (turnedTwo ((a + b * 256 + c * 65536 + d * 16777216) % 65536) ≡ first)
-    × (turnedTwo ((a + b * 256 + c * 65536 + d * 16777216) / 65536) ≡ second)
-four-low a b c d first second ha hb hc hd e₁ e₂ =
+pub four-turned : (a b c d : ℕ) → a < 256 → b < 256 → c < 256 → d < 256
+    → turnedFour (a + b * 256 + c * 65536 + d * 16777216) ≡ (a * 256 + b) * 65536 + (c * 256 + d)
+four-turned a b c d ha hb hc hd =
     let whole : a + b * 256 + c * 65536 + d * 16777216 ≡ (c + d * 256) * 65536 + (a + b * 256) = omega arith in
     let low : a + b * 256 < 65536 = omega arith in
-    let high : c + d * 256 < 65536 = omega arith in (
-      rw whole (omega arith),
-      rw (whole, digits-mod (c + d * 256) low) (two-turned a b ha hb ∙ e₁),
-      rw (whole, digits-div (c + d * 256) low) (two-turned c d hc hd ∙ e₂),
-    )
+    ap turnedFour whole
+    ∙ turned-halves ((c + d * 256) * 65536 + (a + b * 256))
+    ∙ ap₂ (λ (x y : ℕ). turnedTwo x * 65536 + turnedTwo y) (digits-mod (c + d * 256) low) (digits-div (c + d * 256) low)
+    ∙ ap₂ (λ (x y : ℕ). x * 65536 + y) (two-turned a b ha hb) (two-turned c d hc hd)
 
 -- bits gathered one more
 module _ (bit : ℕ → ℕ) where

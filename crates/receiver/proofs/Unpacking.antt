@@ -2,8 +2,8 @@
 -- Assumes nothing.
 use mathlib.Core.Bool.{false}
 use mathlib.Core.List.{List, _++_}
-use mathlib.Core.Path.{_≡_, sym, _∙_, ap, ap₂}
-use Prim.Native.Nat.{ℕ, _+_, _/_, _%_, _≤_, _<_}
+use mathlib.Core.Path.{_≡_, sym, _∙_, ap, ap₂, subst}
+use Prim.Native.Nat.{ℕ, _+_, _-_, _/_, _%_, _≤_, _<_}
 use native.Mathlib.Nat.{div-add-mod', zero-add, add-zero}
 use native.Mathlib.Omega.{arith}
 use borrow.Author.Tests.{eq-eqb}
@@ -11,7 +11,7 @@ use lib.ListN as L
 use lib.ListN.{length, getD, take, drop, replicate, length-drop, length-append, length-replicate, getD-replicate, List·getD-append, take-append-drop}
 use lib.Seq.{take-at, drop-at, drop-append-add, drop-drop, take-append-le, take-add, length-take-le, getD-drop, getD-take, getD-append-add, drop-paste}
 use Rattle.runs.specs.Runs.{over, written}
-use Rattle.runs.proofs.Filling.{Filled, turned, done}
+use Rattle.runs.proofs.Filling.{Filled, begun, turned, done}
 use Rattle.runs.proofs.Laws.{length-tab, getD-tab, tab-is}
 use Rattle.formats.specs.declared.Format.{Format}
 use Rattle.formats.specs.declared.Settled.{Settled}
@@ -19,7 +19,8 @@ use Rattle.formats.specs.Sound.{Limits}
 use Rattle.cells.specs.Cells.{subframeAt, sampleIn, ancillaryIn, markIn, entriesOf}
 use Rattle.cells.specs.Placement.{slotOf, slotOfEntry}
 use Rattle.cells.proofs.Placement.{slot-lt}
-use Rattle.receiver.specs.Unpacking.{usedIn, ownEntries, Unpacks, Writes, Room, Misses, Roomy, held, Splits}
+use Rattle.receiver.proofs.Marking.{sample-over, ancillary-over}
+use Rattle.receiver.specs.Unpacking.{usedIn, ownEntries, Unpacks, Fills, Room, Misses, held, Splits}
 
 -- a run that a loop fills with as many entries as it counts
 module _ (d₀ : List ℕ) (at : ℕ) (vs : List ℕ) {used : ℕ} (long : length vs ≡ used) (room : at + used ≤ length d₀) where
@@ -60,6 +61,94 @@ module _ (read : ℕ → ℕ) (run : List ℕ) (at used : ℕ) where
   pub held-all : {v : ℕ} → ((x : ℕ) → read x ≡ v) → held read run at used ≡ replicate used v
   held-all {v} each =
       held-is (length-replicate used v) (λ i h. each (getD run (at + i) 0) ∙ sym (getD-replicate used i v 0 h))
+
+-- a run that is filled with them
+module _ (read : ℕ → ℕ) (run d₀ : List ℕ) (at used : ℕ) (room : at + used ≤ length d₀) where
+  pub held-on : {d : List ℕ} {i v : ℕ} → Filled d d₀ at (held read run at used) i → i < used → v ≡ read (getD run (at + i) 0)
+      → Filled (L.set d (at + i) v) d₀ at (held read run at used) (i + 1)
+  held-on so-far less e =
+      fill-on d₀ at _ (held-length read run at used) room so-far less (e ∙ held-at read run at used less)
+
+  pub held-done : {d : List ℕ} {i : ℕ} → Filled d d₀ at (held read run at used) i → used ≤ i → d ≡ written d₀ at (held read run at used)
+  held-done so-far all = fill-done d₀ at _ (held-length read run at used) room so-far all
+
+  pub held-ahead : {d : List ℕ} {i : ℕ} → Filled d d₀ at (held read run at used) i → getD d (at + i) 0 ≡ getD d₀ (at + i) 0
+  held-ahead so-far = fill-ahead d₀ at _ (held-length read run at used) room so-far
+
+-- subframes with ancillary bits and overhead, taken apart in place by a loop that counts from `at` on
+pub record Parted (f : Format) (at used : ℕ) (samples₀ ancillary₀ marks₀ samples ancillary marks : List ℕ) (i : ℕ) : Type 0 where
+  pub from : at ≤ i
+  pub samples-so-far : Filled samples samples₀ at (held (sampleIn f) samples₀ at used) (i - at)
+  pub ancillary-so-far : Filled ancillary ancillary₀ at (held (ancillaryIn f) samples₀ at used) (i - at)
+  pub marks-so-far : Filled marks marks₀ at (held (markIn f) samples₀ at used) (i - at)
+
+module _ (f : Format) (four-a : f .«ancillary_bits» ≡ 4) (four-o : f .«overhead_bits» ≡ 4) (at used : ℕ)
+    (samples₀ ancillary₀ marks₀ : List ℕ) (room : Room at used samples₀ ancillary₀ marks₀)
+  where
+    abbrev vs : (ℕ → ℕ) → List ℕ
+    vs read = held read samples₀ at used
+
+    long : (read : ℕ → ℕ) → length (vs read) ≡ used
+    long read = held-length read samples₀ at used
+
+    pub parted-begun : Parted f at used samples₀ ancillary₀ marks₀ samples₀ ancillary₀ marks₀ at
+    parted-begun =
+        let none : 0 ≡ at - at = omega arith in
+        record {
+          from = omega arith;
+          samples-so-far = subst (Filled samples₀ samples₀ at (vs (sampleIn f))) none (begun samples₀ at _);
+          ancillary-so-far = subst (Filled ancillary₀ ancillary₀ at (vs (ancillaryIn f))) none (begun ancillary₀ at _);
+          marks-so-far = subst (Filled marks₀ marks₀ at (vs (markIn f))) none (begun marks₀ at _);
+        }
+
+    module _ {samples ancillary marks : List ℕ} {i : ℕ} (so-far : Parted f at used samples₀ ancillary₀ marks₀ samples ancillary marks i) where
+      pub parted-on : {mark : ℕ} → i < at + used → mark ≡ markIn f (getD samples i 0)
+          → Parted f at used samples₀ ancillary₀ marks₀ (L.set samples i (getD samples i 0 / 256))
+          (L.set ancillary i (getD samples i 0 / 16 % 16)) (L.set marks i mark) (i + 1)
+      parted-on less mark-is =
+          record {
+            from = omega (arith, so-far .from);
+            samples-so-far =
+                on (long (sampleIn f)) (room .samples-room) (so-far .samples-so-far)
+                (sample-over f four-a four-o (getD samples i 0) ∙ was (sampleIn f));
+            ancillary-so-far =
+                on (long (ancillaryIn f)) (room .ancillary-room) (so-far .ancillary-so-far)
+                (ancillary-over f four-a four-o (getD samples i 0) ∙ was (ancillaryIn f));
+            marks-so-far = on (long (markIn f)) (room .marks-room) (so-far .marks-so-far) (mark-is ∙ was (markIn f));
+          }
+        where
+          here : at + (i - at) ≡ i
+          here = omega (arith, so-far .from)
+
+          ahead : i - at < used
+          ahead = omega (arith, so-far .from, less)
+
+          next : i - at + 1 ≡ i + 1 - at
+          next = omega (arith, so-far .from)
+
+          on : {d d₀ new : List ℕ} {v : ℕ} → length new ≡ used → at + used ≤ length d₀ → Filled d d₀ at new (i - at)
+              → v ≡ getD new (i - at) 0 → Filled (L.set d i v) d₀ at new (i + 1 - at)
+          on {d} {d₀} {new} {v} long-new fit done-yet v-is =
+              subst (λ (k : ℕ). Filled (L.set d i v) d₀ at new k) next
+              (subst (λ (k : ℕ). Filled (L.set d k v) d₀ at new (i - at + 1)) here
+              (fill-on d₀ at new long-new fit done-yet ahead v-is))
+
+          was : (read : ℕ → ℕ) → read (getD samples i 0) ≡ getD (vs read) (i - at) 0
+          was read =
+              ap read
+              (subst (λ (k : ℕ). getD samples k 0 ≡ getD samples₀ k 0) here
+              (fill-ahead samples₀ at (vs (sampleIn f)) (long (sampleIn f)) (room .samples-room) (so-far .samples-so-far)))
+              ∙ ap (λ (k : ℕ). read (getD samples₀ k 0)) (sym here)
+              ∙ held-at read samples₀ at used ahead
+
+      pub parted-done : at + used ≤ i → Splits f at used samples₀ ancillary₀ marks₀ samples ancillary marks
+      parted-done all =
+          let over-all : used ≤ i - at = omega arith in
+          record {
+            samples-are = fill-done samples₀ at _ (long (sampleIn f)) (room .samples-room) (so-far .samples-so-far) over-all;
+            ancillary-is = fill-done ancillary₀ at _ (long (ancillaryIn f)) (room .ancillary-room) (so-far .ancillary-so-far) over-all;
+            marks-are = fill-done marks₀ at _ (long (markIn f)) (room .marks-room) (so-far .marks-so-far) over-all;
+          }
 
 -- entries written stand in the run, and others written over them take their place
 module _ (run : List ℕ) (at : ℕ) (ws : List ℕ) (room : at + length ws ≤ length run) where
@@ -166,13 +255,25 @@ module _ (set : Settled) (cell : List ℕ) where
       rw e (omega arith)
 
   -- order 0: an entry's slot is the entry
-  pub straight : set .«by_channel» ≡ false → (i : ℕ) → i ≡ slotOfEntry (set .«by_channel») (set .channels) (set .times) i
+  pub slot-straight : set .«by_channel» ≡ false → (i : ℕ) → i ≡ slotOfEntry (set .«by_channel») (set .channels) (set .times) i
   unfolding slotOfEntry slotOf
-  straight e i = rw e (sym (div-add-mod' i (set .channels)))
+  slot-straight e i = rw e (sym (div-add-mod' i (set .channels)))
+
+  -- a run that is filled with the subframes
+  module _ (run₀ : List ℕ) (at : ℕ) (room : at + usedIn set ≤ length run₀) where
+    pub own-on : {run : List ℕ} {i slot v : ℕ} → Filled run run₀ at (ownEntries (λ x. x) set cell) i → i < usedIn set
+        → slot ≡ slotOfEntry (set .«by_channel») (set .channels) (set .times) i → v ≡ subframeAt (set .format) cell slot
+        → Filled (L.set run (at + i) v) run₀ at (ownEntries (λ x. x) set cell) (i + 1)
+    own-on so-far less slot-is e =
+        fill-on run₀ at _ (own-length (λ x. x)) room so-far less (e ∙ ap (subframeAt (set .format) cell) slot-is ∙ own-at (λ x. x) less)
+
+    pub own-done : {run : List ℕ} {i : ℕ} → Filled run run₀ at (ownEntries (λ x. x) set cell) i → usedIn set ≤ i
+        → run ≡ written run₀ at (ownEntries (λ x. x) set cell)
+    own-done so-far all = fill-done run₀ at _ (own-length (λ x. x)) room so-far all
 
   -- subframes put into the first run, and taken apart there
   pub unpacks : (at : ℕ) (samples ancillary marks : List ℕ) {samples₁ samples₂ ancillary₂ marks₂ : List ℕ}
-      → Roomy set at samples ancillary marks → samples₁ ≡ written samples at (ownEntries (λ x. x) set cell)
+      → Room at (usedIn set) samples ancillary marks → samples₁ ≡ written samples at (ownEntries (λ x. x) set cell)
       → Splits (set .format) at (usedIn set) samples₁ ancillary marks samples₂ ancillary₂ marks₂
       → Unpacks set cell at samples ancillary marks samples₂ ancillary₂ marks₂
   unpacks at samples ancillary marks {samples₁} {samples₂} {ancillary₂} {marks₂} room e parts =
@@ -215,21 +316,21 @@ unfolding over
 from-front run new = rw (zero-add (length new))
 
 -- missing entries and then the cell's own
-pub writes : (set : Settled) (cell : List ℕ) (missing : ℕ) (samples ancillary marks : List ℕ)
+pub fills : (set : Settled) (cell : List ℕ) (missing : ℕ) (samples ancillary marks : List ℕ)
     {samples₁ ancillary₁ marks₁ samples₂ ancillary₂ marks₂ : List ℕ}
-    → Roomy set missing samples ancillary marks
+    → Room missing (usedIn set) samples ancillary marks
     → Misses missing samples ancillary marks samples₁ ancillary₁ marks₁
     → Unpacks set cell missing samples₁ ancillary₁ marks₁ samples₂ ancillary₂ marks₂
-    → Writes set cell missing samples ancillary marks samples₂ ancillary₂ marks₂
-writes set cell missing samples ancillary marks roomy lost own =
+    → Fills set cell missing samples ancillary marks samples₂ ancillary₂ marks₂
+fills set cell missing samples ancillary marks roomy lost own =
     record {
       samples-are =
           over-then (replicate missing 0) _ samples (length-replicate missing 0) (omega (arith, roomy .samples-room)) (lost .samples-are)
           (own .samples-are);
       ancillary-is =
-          over-then (replicate missing 0) _ ancillary (length-replicate missing 0) (omega (arith, roomy .ancillary-room)) (lost .ancillary-is ∙ from-front ancillary _)
-          (own .ancillary-is);
+          over-then (replicate missing 0) _ ancillary (length-replicate missing 0) (omega (arith, roomy .ancillary-room))
+          (lost .ancillary-is ∙ from-front ancillary _) (own .ancillary-is);
       marks-are =
-          over-then (replicate missing 2) _ marks (length-replicate missing 2) (omega (arith, roomy .marks-room)) (lost .marks-are ∙ from-front marks _)
-          (own .marks-are);
+          over-then (replicate missing 2) _ marks (length-replicate missing 2) (omega (arith, roomy .marks-room))
+          (lost .marks-are ∙ from-front marks _) (own .marks-are);
     }

@@ -1,6 +1,6 @@
 -- Wrong answers to the public functions: their contracts rule them out. Stated over the contracts themselves.
 -- Assumes nothing.
-use mathlib.Core.Bool.{true, false, true≢false}
+use mathlib.Core.Bool.{Bool, true, false, true≢false}
 use mathlib.Core.List.{List, [], _∷_}
 use mathlib.Core.Path.{_≡_, sym, _∙_, ap}
 use Prim.Native.Nat.{ℕ}
@@ -12,7 +12,7 @@ use Rattle.runs.specs.Runs.{tab, joined, octetsOf, readOn, over}
 use Rattle.runs.proofs.Wrong.{Never, Place, lent}
 use Rattle.formats.specs.Formats.{formatOf}
 use Rattle.formats.proofs.Wrong as formats
-use Rattle.numbers.specs.Numbers.{entryOf}
+use Rattle.numbers.specs.Numbers.{refusalOf, valueOf, entryOf}
 use Rattle.numbers.proofs.Wrong as numbers
 use Rattle.guards.proofs.Wrong as guards
 use Rattle.cells.specs.Cells.{
@@ -38,14 +38,14 @@ use Rattle.receiver.specs.Receiver.{
   lastRefused,
   stateRefusal,
   lengthsRefused,
-  numberNow,
-  gapNow,
+  foundNow,
+  gapOf,
   receiveRefusal,
   entriesNow,
   secondNow,
   after,
   receivedOf,
-  given,
+  entriesGiven,
 }
 use Rattle.receiver.proofs.opened.Kinds as opened-kinds
 use Rattle.receiver.proofs.opened.Reads as opened-reads
@@ -53,8 +53,16 @@ use Rattle.receiver.proofs.receive.Kinds as receive-kinds
 use Rattle.receiver.proofs.receive.Reads as receive-reads
 
 -- every definition on the way down to the numbers
+unfoldable cells-unfolded : Unit {0}
+unfolding tab joined octetsOf readOn overheadOf subframeOf slotOctets cellOf subframeAt sampleIn ancillaryIn markIn bitIn eightIn secondIn
+cells-unfolded = tt
+
+unfoldable placed-unfolded : Unit {0}
+unfolding entriesOf slotOf slotOfEntry entryOfSlot carried over orElse refusalOf valueOf openedOf lastRefused stateRefusal lengthsRefused after
+placed-unfolded = tt
+
 unfoldable pub unfolded : Unit {0}
-unfolding orElse tab joined octetsOf readOn over formats.unfolded numbers.unfolded guards.unfolded overheadOf subframeOf slotOctets cellOf subframeAt sampleIn ancillaryIn markIn bitIn eightIn secondIn entriesOf slotOf slotOfEntry entryOfSlot carried openedOf lastRefused stateRefusal lengthsRefused numberNow gapNow receiveRefusal entriesNow secondNow after receivedOf given
+unfolding formats.unfolded numbers.unfolded guards.unfolded cells-unfolded placed-unfolded foundNow gapOf receiveRefusal entriesNow secondNow receivedOf entriesGiven
 unfolded = tt
 
 -- openings: format, C, order
@@ -81,17 +89,27 @@ archive last = record { format = 0x5A; channels = 1; order = 0; started = true; 
 abbrev eight : List ℕ
 eight = 1 ∷ 2 ∷ 3 ∷ 4 ∷ 5 ∷ 6 ∷ 7 ∷ 8 ∷ []
 
--- cell number 3, with the eight samples
+-- the cell of a number, with the eight samples
+abbrev cellNumbered : ℕ → List ℕ
+cellNumbered number = cellOf (formatOf 0x5A) false 1 8 (entryOf number) 0 eight (replicate 8 0)
+
 abbrev third : List ℕ
-third = cellOf (formatOf 0x5A) false 1 8 (entryOf 3) 0 eight (replicate 8 0)
+third = cellNumbered 3
+
+-- a receiver of 32-bit samples without overhead
+abbrev bare : Receiver
+bare = record { format = 0x08; channels = 12; order = 0; started = true; last = 0 }
 
 module _ (κs : Lfts 4) (c s a m : Place) where
-  -- a call with this cell, on three runs of so many sevens
-  abbrev Receiving : Receiver → List ℕ → ℕ → (Received → List ℕ → List ℕ → List ℕ → Type 0) → Type 0
-  Receiving st cell room Wrong =
+  -- a call with this cell and this indication, on three runs of so many sevens
+  abbrev Indicated : Bool → Receiver → List ℕ → ℕ → (Received → List ℕ → List ℕ → List ℕ → Type 0) → Type 0
+  Indicated indication st cell room Wrong =
       Never receive-kinds.ps receive-kinds.r receive-reads.Post κs
-      (st, (lent c cell, (false, (lent s (replicate room 7), (lent a (replicate room 7), (lent m (replicate room 7), tt))))))
+      (st, (lent c cell, (indication, (lent s (replicate room 7), (lent a (replicate room 7), (lent m (replicate room 7), tt))))))
       (λ x v. Wrong x (v .1 .1 .1 .0) (v .1 .1 .1 .1 .0) (v .1 .1 .1 .1 .1 .0))
+
+  abbrev Receiving : Receiver → List ℕ → ℕ → (Received → List ℕ → List ℕ → List ℕ → Type 0) → Type 0
+  Receiving = Indicated false
 
   -- refused although nothing is wrong, by whatever number
   pub not-always-refused : Receiving (archive 2) third 9 (λ x samples ancillary marks. x .refusal ≡ 0 → ⊥)
@@ -155,3 +173,35 @@ module _ (κs : Lfts 4) (c s a m : Place) where
   unfolding unfolded
   refused-not-written x v wrong p =
       let right : getD (v .1 .1 .1 .1 .1 .0) 0 0 ≡ 7 = ap (λ (l : List ℕ). getD l 0 0) (p .marks-after) in omega arith
+
+  -- a cell numbered 5 taken with indication 1
+  pub indication-not-at-5 : Indicated true (archive 4) (cellNumbered 5) 9 (λ x samples ancillary marks. x .refusal ≡ 0)
+  unfolding unfolded
+  indication-not-at-5 x v wrong p = let right : x .refusal ≡ 15 = ap (λ (r : Received). r .refusal) (p .answered) in omega arith
+
+  -- 9 before 15: the same taken for a repeat
+  pub indication-not-after-9 : Indicated true (archive 5) (cellNumbered 5) 9 (λ x samples ancillary marks. x .refusal ≡ 9)
+  unfolding unfolded
+  indication-not-after-9 x v wrong p = let right : x .refusal ≡ 15 = ap (λ (r : Received). r .refusal) (p .answered) in omega arith
+
+  -- 15 before 8: a spoiled number's cell turned down for its indication
+  pub indication-not-before-8 : Indicated true (archive 2) (set third 5 7) 9 (λ x samples ancillary marks. x .refusal ≡ 15)
+  unfolding unfolded
+  indication-not-before-8 x v wrong p = let right : x .refusal ≡ 8 = ap (λ (r : Received). r .refusal) (p .answered) in omega arith
+
+  -- 15 at a multiple of 8
+  pub indication-not-against-8 : Indicated true (archive 7) (cellNumbered 8) 9 (λ x samples ancillary marks. x .refusal ≡ 15)
+  unfolding unfolded
+  indication-not-against-8 x v wrong p = let right : x .refusal ≡ 0 = ap (λ (r : Received). r .refusal) (p .answered) in omega arith
+
+  -- 15 in a format without overhead
+  pub indication-not-without-overhead : Indicated true bare (cellNumbered 5) 12 (λ x samples ancillary marks. x .refusal ≡ 15)
+  unfolding unfolded
+  indication-not-without-overhead x v wrong p =
+      let right : x .refusal ≡ 0 = ap (λ (r : Received). r .refusal) (p .answered) in omega arith
+
+  -- a first cell refused 15 that starts the receiver all the same
+  pub wrongly-indicated-not-counted : Indicated true (record { format = 0x5A; channels = 1; order = 0; started = false; last = 0 }) (cellNumbered 5) 9
+      (λ x samples ancillary marks. x .state .started ≡ true)
+  unfolding unfolded
+  wrongly-indicated-not-counted x v wrong p = true≢false (sym wrong ∙ ap (λ (r : Received). r .state .started) (p .answered))

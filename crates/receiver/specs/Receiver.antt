@@ -8,10 +8,12 @@ use lib.Dec.{eqb, ltb}
 use lib.ListN.{length, replicate}
 use Rattle.runs.specs.Refusals.{orElse}
 use Rattle.runs.specs.Runs.{over}
-use Rattle.formats.specs.declared.Format.{Format}
 use Rattle.formats.specs.Formats.{timesOf, formatOf, settingsRefusal}
-use Rattle.numbers.specs.Numbers.{numberIn, differenceOf}
+use Rattle.numbers.specs.declared.Found.{Found}
+use Rattle.numbers.specs.declared.Found.the-variants.{Number}
+use Rattle.numbers.specs.Numbers.{foundOf, refusalOf, valueOf, differenceOf, indicationRefused}
 use Rattle.cells.specs.Cells.{sampleIn, ancillaryIn, markIn, eightIn, secondIn, entriesOf}
+use Rattle.cells.specs.Placement.{usedOf}
 use Rattle.receiver.specs.declared.Receiver.{Receiver}
 use Rattle.receiver.specs.declared.Ready.{Ready}
 use Rattle.receiver.specs.declared.Received.{Received}
@@ -30,48 +32,51 @@ openedOf octet channels order =
     (record { refusal = settingsRefusal octet channels order; state = zeroState })
 
 -- 4: "a state .. number above 15; .. a receiver not started, or without overhead, whose last number isn't 0"
-unfoldable pub lastRefused : Format → Bool → ℕ → Bool
-lastRefused f started last = ltb 15 last || (not (eqb last 0) && (not started || eqb (f .«overhead_bits») 0))
+unfoldable pub lastRefused : Receiver → Bool
+lastRefused st =
+    ltb 15 (st .last)
+    || (not (eqb (st .last) 0) && (not (st .started) || eqb (formatOf (st .format) .«overhead_bits») 0))
 
 -- checks 1 to 4 of a state
 unfoldable pub stateRefusal : Receiver → ℕ
-stateRefusal st =
-    orElse (settingsRefusal (st .format) (st .channels) (st .order))
-    (cond (lastRefused (formatOf (st .format)) (st .started) (st .last)) 4 0)
+stateRefusal st = orElse (settingsRefusal (st .format) (st .channels) (st .order)) (cond (lastRefused st) 4 0)
 
 -- T and C×T, as the state has them
 abbrev pub timesNow : Receiver → ℕ
 timesNow st = timesOf (formatOf (st .format) .slots) (st .channels)
 
 abbrev pub usedNow : Receiver → ℕ
-usedNow st = st .channels * timesNow st
+usedNow st = usedOf (st .format) (st .channels)
 
 -- 5: "a cell not of 48 octets; .. receiver runs of unequal length"
 unfoldable pub lengthsRefused : ℕ → ℕ → ℕ → ℕ → Bool
 lengthsRefused cell samples ancillary marks =
     not (eqb cell 48) || (not (eqb ancillary samples) || not (eqb marks samples))
 
--- the cell's number, 16 where the eight bits are none; "Without overhead .. the reported and stored numbers stay 0"
-unfoldable pub numberNow : Format → List ℕ → ℕ
-numberNow f cell = cond (eqb (f .«overhead_bits») 0) 0 (numberIn (eightIn f cell))
+-- what the cell's eight number bits are; "Without overhead .. the reported and stored numbers stay 0"
+unfoldable pub foundNow : Receiver → List ℕ → Found
+foundNow st cell =
+    cond (eqb (formatOf (st .format) .«overhead_bits») 0) (Number 0) (foundOf (eightIn (formatOf (st .format)) cell))
 
--- d: "The first accepted cell starts it, with none missing. Afterwards d is the difference of numbers modulo 16"; "Without overhead
--- d is always 1"
-unfoldable pub gapNow : Format → Bool → ℕ → ℕ → ℕ
-gapNow f started last number = cond (not started || eqb (f .«overhead_bits») 0) 1 (differenceOf number last)
+abbrev pub numberNow : Receiver → List ℕ → ℕ
+numberNow st cell = valueOf (foundNow st cell)
 
--- the gap that a cell leaves in this state
-abbrev pub gapOf : Receiver → List ℕ → ℕ
-gapOf st cell = gapNow (formatOf (st .format)) (st .started) (st .last) (numberNow (formatOf (st .format)) cell)
+-- d, the gap that a cell leaves: "The first accepted cell starts it, with none missing. Afterwards d is the difference of numbers
+-- modulo 16"; "Without overhead d is always 1"
+unfoldable pub gapOf : Receiver → List ℕ → ℕ
+gapOf st cell =
+    cond (not (st .started) || eqb (formatOf (st .format) .«overhead_bits») 0) 1 (differenceOf (numberNow st cell) (st .last))
 
--- checks 1 to 4, then 5, then 8, 9, 10; the runs are told by their lengths
-unfoldable pub receiveRefusal : Receiver → List ℕ → ℕ → ℕ → ℕ → ℕ
-receiveRefusal st cell samples ancillary marks =
+-- checks 1 to 4, then 5, then 8, 15, 9, 10; the runs are told by their lengths. 15 is "for indication 1 with a number not a multiple
+-- of 8", and only "where the format carries overhead": without overhead the number is 0, a multiple of 8
+unfoldable pub receiveRefusal : Receiver → List ℕ → Bool → ℕ → ℕ → ℕ → ℕ
+receiveRefusal st cell indication samples ancillary marks =
     orElse (stateRefusal st)
     (cond (lengthsRefused (length cell) samples ancillary marks) 5
-    (cond (ltb 15 (numberNow (formatOf (st .format)) cell)) 8
+    (orElse (refusalOf (foundNow st cell))
+    (cond (indicationRefused (numberNow st cell) indication) 15
     (cond (eqb (gapOf st cell) 0) 9
-    (cond (ltb samples (gapOf st cell * usedNow st)) 10 0))))
+    (cond (ltb samples (gapOf st cell * usedNow st)) 10 0)))))
 
 -- "C×T entries of zero with mark 2 for each missing cell, then the cell's own entries": what one run is given
 unfoldable pub entriesNow : (ℕ → ℕ) → ℕ → Receiver → List ℕ → List ℕ
@@ -89,33 +94,27 @@ abbrev pub marksNow : Receiver → List ℕ → List ℕ
 marksNow st cell = entriesNow (markIn (formatOf (st .format))) 2 st cell
 
 -- "second number (0 where there is none)"
-unfoldable pub secondNow : Format → List ℕ → ℕ
-secondNow f cell = cond (eqb (f .«overhead_bits») 0) 0 (secondIn f cell)
+unfoldable pub secondNow : Receiver → List ℕ → ℕ
+secondNow st cell = cond (eqb (formatOf (st .format) .«overhead_bits») 0) 0 (secondIn (formatOf (st .format)) cell)
 
 unfoldable pub after : Receiver → List ℕ → Receiver
 after st cell =
-    record {
-      format = st .format;
-      channels = st .channels;
-      order = st .order;
-      started = true;
-      last = numberNow (formatOf (st .format)) cell;
-    }
+    record { format = st .format; channels = st .channels; order = st .order; started = true; last = numberNow st cell }
 
 -- "Reported: missing count, number, second number .., and the indication as it came"
 unfoldable pub receivedOf : Receiver → List ℕ → Bool → ℕ → ℕ → ℕ → Received
 receivedOf st cell indication samples ancillary marks =
-    cond (eqb (receiveRefusal st cell samples ancillary marks) 0)
+    cond (eqb (receiveRefusal st cell indication samples ancillary marks) 0)
     (record {
       refusal = 0;
       state = after st cell;
       missing = gapOf st cell - 1;
-      number = numberNow (formatOf (st .format)) cell;
-      second = secondNow (formatOf (st .format)) cell;
+      number = numberNow st cell;
+      second = secondNow st cell;
       indication = indication;
     })
     (record {
-      refusal = receiveRefusal st cell samples ancillary marks;
+      refusal = receiveRefusal st cell indication samples ancillary marks;
       state = st;
       missing = 0;
       number = 0;
@@ -124,17 +123,17 @@ receivedOf st cell indication samples ancillary marks =
     })
 
 -- what the call gives each run: nothing where it is refused
-unfoldable pub given : Receiver → List ℕ → ℕ → ℕ → ℕ → List ℕ → List ℕ
-given st cell samples ancillary marks entries =
-    cond (eqb (receiveRefusal st cell samples ancillary marks) 0) entries []
+unfoldable pub entriesGiven : Receiver → List ℕ → Bool → ℕ → ℕ → ℕ → List ℕ → List ℕ
+entriesGiven st cell indication samples ancillary marks entries =
+    cond (eqb (receiveRefusal st cell indication samples ancillary marks) 0) entries []
 
 -- the whole promise of receiving: "Entries past these stay"
 pub record Receives (st : Receiver) (cell : List ℕ) (indication : Bool) (samples ancillary marks : List ℕ)
     (answer : Received) (samples₁ ancillary₁ marks₁ : List ℕ) : Type 0 where
   pub answered : answer ≡ receivedOf st cell indication (length samples) (length ancillary) (length marks)
   pub samples-after : samples₁
-      ≡ over (given st cell (length samples) (length ancillary) (length marks) (samplesNow st cell)) samples
+      ≡ over (entriesGiven st cell indication (length samples) (length ancillary) (length marks) (samplesNow st cell)) samples
   pub ancillary-after : ancillary₁
-      ≡ over (given st cell (length samples) (length ancillary) (length marks) (ancillaryNow st cell)) ancillary
+      ≡ over (entriesGiven st cell indication (length samples) (length ancillary) (length marks) (ancillaryNow st cell)) ancillary
   pub marks-after : marks₁
-      ≡ over (given st cell (length samples) (length ancillary) (length marks) (marksNow st cell)) marks
+      ≡ over (entriesGiven st cell indication (length samples) (length ancillary) (length marks) (marksNow st cell)) marks

@@ -1,23 +1,32 @@
-// What the receiver refuses, in the table's order, and the gap that a cell leaves.
+// What a call is answered: the checks in the table's order, and the report. Both ways of receiving take it from here.
+ghost use mathlib.Core.Bool.{true, false};
+ghost use mathlib.Core.List.{List};
 ghost use mathlib.Core.Path.{_≡_};
+ghost use Prim.Native.Nat.{ℕ};
 ghost use lib.ListN.{length};
-ghost use Rattle.formats.specs.Formats.{settingsOf};
-ghost use Rattle.receiver.specs.Receiver.{numberNow, lastRefused, lengthsRefused, gapNow, receiveRefusal};
+ghost use Rattle.formats.specs.Formats.{formatOf};
+ghost use Rattle.formats.specs.Settings.{settingsOf};
+ghost use Rattle.receiver.specs.Receiver.{lastRefused, lengthsRefused, foundNow, numberNow, gapOf, receivedOf};
+ghost use Rattle.receiver.specs.Unpacking.{earlyRefusal, refusedBy, takenAs};
+use crate::Received;
 use crate::Receiver;
+use crate::bits;
 use formats::Format;
 use formats::Settled;
+use numbers::Found;
 
 // Check 4, beside checks 1 to 3.
-fn last_refused(format: Format, started: bool, last: u8) -> bool
-    ensures { λ r. ⌜ r ≡ lastRefused format started last ⌝ }
+fn last_refused(format: Format, state: Receiver) -> bool
+    requires { ⌜ format ≡ formatOf (state .format) ⌝ }
+    ensures { λ r. ⌜ r ≡ lastRefused state ⌝ }
 {
-    if 15 < last {
+    if 15 < state.last {
         return true;
     }
-    if last == 0 {
+    if state.last == 0 {
         return false;
     }
-    if !started {
+    if !state.started {
         return true;
     }
     format.overhead_bits == 0
@@ -36,52 +45,106 @@ fn lengths_refused(cell: usize, samples: usize, ancillary: usize, marks: usize) 
     marks != samples
 }
 
-// d: how many cells on from the last one a cell with this number is.
-pub(crate) fn gap_now(format: Format, started: bool, last: u8, number: u8) -> u8
-    ensures { λ r. ⌜ r ≡ gapNow format started last number ⌝ }
-{
-    if !started {
-        return 1;
-    }
-    if format.overhead_bits == 0 {
-        return 1;
-    }
-    numbers::difference(number, last)
-}
-
-// Checks 1 to 5, 8, 9 and 10 of a call of `receive`, by the settings of its state; the runs are told by their lengths.
-pub(crate) fn receive_refusal(
+// Checks 1 to 5, by the settings of the state; the cell and the runs are told by their lengths. 0 where they refuse nothing.
+pub(crate) fn early_refusal(
     set: Settled,
     state: Receiver,
-    cell: &[u8],
-    number: u8,
+    cell: usize,
     samples: usize,
     ancillary: usize,
     marks: usize,
 ) -> u8
-    requires { ⌜ (set ≡ settingsOf (state .format) (state .channels) (state .order)) × (set .refusal ≡ 0 → length (now cell) ≡ 48 → number ≡ numberNow (set .format) (now cell)) ⌝ }
-    ensures { λ r. ⌜ r ≡ receiveRefusal state (now (cell .entry)) samples ancillary marks ⌝ }
+    requires { ⌜ set ≡ settingsOf (state .format) (state .channels) (state .order) ⌝ }
+    ensures { λ r. ⌜ r ≡ earlyRefusal state cell samples ancillary marks ⌝ }
 {
     let refusal = set.refusal;
     if refusal != 0 {
         return refusal;
     }
-    let format = set.format;
-    if last_refused(format, state.started, state.last) {
+    if last_refused(set.format, state) {
         return 4;
     }
-    if lengths_refused(cell.len(), samples, ancillary, marks) {
+    if lengths_refused(cell, samples, ancillary, marks) {
         return 5;
     }
-    if 15 < number {
-        return 8;
+    0
+}
+
+// d: how many cells on from the last one the cell with this number is.
+fn gap_now(format: Format, state: Receiver, number: u8) -> u8
+    requires { ⌜ format ≡ formatOf (state .format) ⌝ }
+    ensures { λ r. ⌜ ((cell : List ℕ) → number ≡ numberNow state cell → r ≡ gapOf state cell) ⌝ }
+{
+    if !state.started {
+        return 1;
     }
-    let gap = gap_now(format, state.started, state.last, number);
+    if format.overhead_bits == 0 {
+        return 1;
+    }
+    numbers::difference(number, state.last)
+}
+
+// The answer to a refused call: the state as it came, and zeros.
+pub(crate) fn refused(refusal: u8, state: Receiver) -> Received
+    ensures { λ r. ⌜ r ≡ refusedBy refusal state ⌝ }
+{
+    Received {
+        refusal,
+        state,
+        missing: 0,
+        number: 0,
+        second: 0,
+        indication: false,
+    }
+}
+
+// The answer to a call that is taken.
+fn taken(state: Receiver, missing: u8, number: u8, second: u8, indication: bool) -> Received
+    ensures { λ r. ⌜ r ≡ takenAs state missing number second indication ⌝ }
+{
+    Received {
+        refusal: 0,
+        state: Receiver {
+            format: state.format,
+            channels: state.channels,
+            order: state.order,
+            started: true,
+            last: number,
+        },
+        missing,
+        number,
+        second,
+        indication,
+    }
+}
+
+// Checks 8, 15, 9 and 10 where the earlier ones refuse nothing, and the answer. `found` is the cell's number, which is 0 where the
+// format has no overhead, so that 15 is never given there. `samples` is how long each run is.
+pub(crate) fn judged(
+    set: Settled,
+    state: Receiver,
+    found: Found,
+    cell: &[u8],
+    indication: bool,
+    samples: usize,
+) -> Received
+    requires { ⌜ (set ≡ settingsOf (state .format) (state .channels) (state .order)) × (earlyRefusal state (length (now cell)) samples samples samples ≡ 0) × (found ≡ foundNow state (now cell)) ⌝ }
+    ensures { λ r. ⌜ r ≡ receivedOf state (now (cell .entry)) indication samples samples samples ⌝ }
+{
+    let Found::Number(number) = found else {
+        return refused(8, state);
+    };
+    if numbers::indication_refused(number, indication) {
+        return refused(15, state);
+    }
+    // read before the last two checks, which takes fewer instructions
+    let second = bits::second_now(set.format, cell);
+    let gap = gap_now(set.format, state, number);
     if gap == 0 {
-        return 9;
+        return refused(9, state);
     }
     if samples < gap as usize * (set.channels * set.times) {
-        return 10;
+        return refused(10, state);
     }
-    0
+    taken(state, gap - 1, number, second, indication)
 }

@@ -1,9 +1,11 @@
-// The receiver's box, document 01: opening and receiving, refusals 1 to 5 and 8 to 10.
+// The receiver's box, document 01: opening and receiving, refusals 1 to 5, 8 to 10 and 15.
 ghost use mathlib.Core.Path.{_≡_};
 ghost use Rattle.receiver.specs.Receiver.{openedOf, Receives};
 
+mod bits;
+mod entries;
 mod judge;
-mod unpack;
+mod octets;
 mod usual;
 
 // A receiver's state, in the paper's words: the subframe octet, C, the order, whether it is started, and the last number.
@@ -61,7 +63,7 @@ pub fn opened(format: u32, channels: u32, order: u32) -> Ready
     }
 }
 
-// Takes a cell, whatever the call.
+// Takes a cell, whatever the settings.
 fn receive_any(
     state: Receiver,
     cell: &[u8],
@@ -77,49 +79,29 @@ fn receive_any(
         state.channels as u32,
         state.order as u32,
     );
-    let format = set.format;
-    let number = unpack::number_now(set, cell);
-    let refusal = judge::receive_refusal(
+    let early = judge::early_refusal(
         set,
         state,
-        cell,
-        number,
+        cell.len(),
         samples.len(),
         ancillary.len(),
         marks.len(),
     );
-    if refusal != 0 {
-        return Received {
-            refusal,
-            state,
-            missing: 0,
-            number: 0,
-            second: 0,
-            indication: false,
-        };
+    if early != 0 {
+        return judge::refused(early, state);
     }
-    let missing = judge::gap_now(format, state.started, state.last, number) - 1;
-    let place = missing as usize * (set.channels * set.times);
-    unpack::write(set, cell, place, samples, ancillary, marks);
-    let second = unpack::second_now(format, cell);
-    Received {
-        refusal: 0,
-        state: Receiver {
-            format: state.format,
-            channels: state.channels,
-            order: state.order,
-            started: true,
-            last: number,
-        },
-        missing,
-        number,
-        second,
-        indication,
+    let found = bits::found_now(set.format, cell);
+    let answer = judge::judged(set, state, found, cell, indication, samples.len());
+    if answer.refusal != 0 {
+        return answer;
     }
+    let place = answer.missing as usize * (set.channels * set.times);
+    entries::write(set, cell, place, samples, ancillary, marks);
+    answer
 }
 
 // Takes a cell: C×T entries of zero with mark 2 for each missing cell, then the cell's own, go into the three runs from their
-// start; what stands past these stays. Refused: 1 to 5, 8, 9, 10, and then the state comes back as it went in and nothing is
+// start; what stands past these stays. Refused: 1 to 5, 8, 15, 9, 10, and then the state comes back as it went in and nothing is
 // written.
 pub fn receive(
     state: Receiver,
@@ -131,13 +113,7 @@ pub fn receive(
 ) -> Received
     ensures { λ r. ⌜ Receives state (now (cell .entry)) indication (now (samples .entry)) (now (ancillary .entry)) (now (marks .entry)) r (now (samples .exit)) (now (ancillary .exit)) (now (marks .exit)) ⌝ }
 {
-    if usual::is_usual(
-        state,
-        cell.len(),
-        samples.len(),
-        ancillary.len(),
-        marks.len(),
-    ) {
+    if formats::is_usual(state.format, state.channels, state.order) {
         return usual::receive(state, cell, indication, samples, ancillary, marks);
     }
     receive_any(state, cell, indication, samples, ancillary, marks)

@@ -1,64 +1,58 @@
-// The usual call: 56 hex in order 0 with one channel or two, and lengths that check 5 takes. Its answer is that of every call, at less
-// cost: the settings are constants, and a subframe is read, taken apart and marked in one turn of one loop.
+// The usual call: 56 hex in order 0 with one channel or two. It is answered as every call is, by fewer instructions: the settings are
+// constants, and one loop reads a subframe, takes it apart and marks it.
 ghost use mathlib.Core.Bool.{true};
 ghost use mathlib.Core.Path.{_≡_};
 ghost use lib.ListN.{length};
+ghost use Rattle.formats.specs.Code.{isUsual};
 ghost use Rattle.formats.specs.Sound.{Sound};
-ghost use Rattle.numbers.specs.Numbers.{numberIn};
+ghost use Rattle.numbers.specs.Numbers.{foundOf};
 ghost use Rattle.cells.specs.Cells.{eightIn};
 ghost use Rattle.receiver.specs.Receiver.{Receives};
-ghost use Rattle.receiver.specs.Unpacking.{Unpacks, Writes, Room, straightWith, fours, Usual};
+ghost use Rattle.receiver.specs.Unpacking.{Unpacks, Fills, Room, Enters, straight, fours};
 use crate::Received;
 use crate::Receiver;
+use crate::bits;
+use crate::entries;
 use crate::judge;
-use crate::unpack;
+use crate::octets;
 use formats::Format;
 use numbers::Found;
 
-// Whether a call is usual.
-pub(crate) fn is_usual(
-    state: Receiver,
-    cell: usize,
-    samples: usize,
-    ancillary: usize,
-    marks: usize,
-) -> bool
-    ensures { λ r. ⌜ (r ≡ true → Usual state cell) ⌝ }
+// What the cell's number is found to be. This is no part of `found_now`, which is too long to be compiled into both ways.
+fn found_in(format: Format, cell: &[u8]) -> Found
+    requires { ⌜ Sound format × (length (now cell) ≡ 48) ⌝ }
+    ensures { λ r. ⌜ r ≡ foundOf (eightIn format (now (cell .entry))) ⌝ }
 {
-    if cell != 48 {
-        return false;
-    }
-    if ancillary != samples {
-        return false;
-    }
-    if marks != samples {
-        return false;
-    }
-    formats::is_usual(state.format, state.channels, state.order)
+    numbers::number_of(bits::eight_in(format, cell))
 }
 
-// The cell's number, 16 where its eight bits are none.
-fn number_in(format: Format, cell: &[u8]) -> u8
-    requires { ⌜ Sound format × (length (now cell) ≡ 48) ⌝ }
-    ensures { λ r. ⌜ r ≡ numberIn (eightIn format (now (cell .entry))) ⌝ }
+// Writes one entry to the three runs: a subframe with overhead, and the marks of its sample bits with each five low bits.
+fn enter(
+    subframe: u64,
+    bits: u64,
+    at: usize,
+    samples: &mut [u64],
+    ancillary: &mut [u8],
+    marks: &mut [u8],
+)
+    requires { ⌜ Room at 1 (now samples) (now ancillary) (now marks) ⌝ }
+    ensures { λ r. ⌜ Enters subframe bits at (now (samples .entry)) (now (ancillary .entry)) (now (marks .entry)) (now (samples .exit)) (now (ancillary .exit)) (now (marks .exit)) ⌝ }
 {
-    let found = numbers::number_of(unpack::eight_in(format, cell));
-    match found {
-        Found::Number(number) => number,
-        Found::Nothing => 16,
-    }
+    samples[at] = subframe / 256;
+    ancillary[at] = (subframe / 16 % 16) as u8;
+    marks[at] = ((bits >> (subframe % 32)) % 2) as u8;
 }
 
 // Writes the cell's own entries, which are those of all slots, to the three runs from `at` on.
 fn own_entries(cell: &[u8], at: usize, samples: &mut [u64], ancillary: &mut [u8], marks: &mut [u8])
     requires { ⌜ (length (now cell) ≡ 48) × Room at 12 (now samples) (now ancillary) (now marks) ⌝ }
-    ensures { λ r. ⌜ Unpacks (straightWith fours 12) (now (cell .entry)) at (now (samples .entry)) (now (ancillary .entry)) (now (marks .entry)) (now (samples .exit)) (now (ancillary .exit)) (now (marks .exit)) ⌝ }
+    ensures { λ r. ⌜ Unpacks straight (now (cell .entry)) at (now (samples .entry)) (now (ancillary .entry)) (now (marks .entry)) (now (samples .exit)) (now (ancillary .exit)) (now (marks .exit)) ⌝ }
 {
     let mut i = 0;
     while i < 12 {
-        let subframe = unpack::in4(cell, i * 4);
-        let bits = tables::marks_at(subframe / 8388608);
-        unpack::enter(subframe, bits, at + i, samples, ancillary, marks);
+        let subframe = octets::in4(cell, i * 4);
+        let bits = tables::marks_for_usual(subframe / 8388608);
+        enter(subframe, bits, at + i, samples, ancillary, marks);
         i += 1;
     }
 }
@@ -66,9 +60,9 @@ fn own_entries(cell: &[u8], at: usize, samples: &mut [u64], ancillary: &mut [u8]
 // Writes `missing` entries of zero with mark 2 to the three runs, and the cell's own entries after them.
 fn write(cell: &[u8], missing: usize, samples: &mut [u64], ancillary: &mut [u8], marks: &mut [u8])
     requires { ⌜ (length (now cell) ≡ 48) × Room missing 12 (now samples) (now ancillary) (now marks) ⌝ }
-    ensures { λ r. ⌜ Writes (straightWith fours 12) (now (cell .entry)) missing (now (samples .entry)) (now (ancillary .entry)) (now (marks .entry)) (now (samples .exit)) (now (ancillary .exit)) (now (marks .exit)) ⌝ }
+    ensures { λ r. ⌜ Fills straight (now (cell .entry)) missing (now (samples .entry)) (now (ancillary .entry)) (now (marks .entry)) (now (samples .exit)) (now (ancillary .exit)) (now (marks .exit)) ⌝ }
 {
-    unpack::missing_entries(missing, samples, ancillary, marks);
+    entries::missing_entries(missing, samples, ancillary, marks);
     own_entries(cell, missing, samples, ancillary, marks);
 }
 
@@ -81,47 +75,27 @@ pub(crate) fn receive(
     ancillary: &mut [u8],
     marks: &mut [u8],
 ) -> Received
-    requires { ⌜ Usual state (length (now cell)) ⌝ }
+    requires { ⌜ isUsual (state .format) (state .channels) (state .order) ≡ true ⌝ }
     ensures { λ r. ⌜ Receives state (now (cell .entry)) indication (now (samples .entry)) (now (ancillary .entry)) (now (marks .entry)) r (now (samples .exit)) (now (ancillary .exit)) (now (marks .exit)) ⌝ }
 {
     let set = formats::usual(state.channels == 2);
-    let format = set.format;
-    let number = number_in(format, cell);
-    let refusal = judge::receive_refusal(
+    let early = judge::early_refusal(
         set,
         state,
-        cell,
-        number,
+        cell.len(),
         samples.len(),
         ancillary.len(),
         marks.len(),
     );
-    if refusal != 0 {
-        return Received {
-            refusal,
-            state,
-            missing: 0,
-            number: 0,
-            second: 0,
-            indication: false,
-        };
+    if early != 0 {
+        return judge::refused(early, state);
     }
-    let missing = judge::gap_now(format, state.started, state.last, number) - 1;
-    let place = missing as usize * 12;
+    let found = found_in(set.format, cell);
+    let answer = judge::judged(set, state, found, cell, indication, samples.len());
+    if answer.refusal != 0 {
+        return answer;
+    }
+    let place = answer.missing as usize * 12;
     write(cell, place, samples, ancillary, marks);
-    let second = unpack::second_now(format, cell);
-    Received {
-        refusal: 0,
-        state: Receiver {
-            format: state.format,
-            channels: state.channels,
-            order: state.order,
-            started: true,
-            last: number,
-        },
-        missing,
-        number,
-        second,
-        indication,
-    }
+    answer
 }

@@ -76,7 +76,8 @@ module _ (state cell : List ℕ) (indication : Bool) (samples ancillary marks : 
           refused = ap (λ (x : Received). x .refusal) (taken .answered);
           leaves = after-refused _ state (ap (λ (x : Received). x .refusal) (taken .answered)) some;
           reports = reported ∙ ap reportOctets (taken .answered);
-          receives = subst (λ (x : Received). Receives (receiverOf state) cell indication samples ancillary marks x samples₁ ancillary₁ marks₁) (taken .answered) taken;
+          receives = subst (λ (x : Received). Receives (receiverOf state) cell indication samples ancillary marks x samples₁ ancillary₁ marks₁)
+              (taken .answered) taken;
         }
 
     pub received-taken : answer .refusal ≡ 0 → {left : List ℕ} → left ≡ receiverOctets (answer .state)
@@ -88,5 +89,6 @@ module _ (state cell : List ℕ) (indication : Bool) (samples ancillary marks : 
               after-taken _ state (ap (λ (x : Received). x .refusal) (taken .answered)) none
               (e ∙ ap (λ (x : Received). receiverOctets (x .state)) (taken .answered));
           reports = reported ∙ ap reportOctets (taken .answered);
-          receives = subst (λ (x : Received). Receives (receiverOf state) cell indication samples ancillary marks x samples₁ ancillary₁ marks₁) (taken .answered) taken;
+          receives = subst (λ (x : Received). Receives (receiverOf state) cell indication samples ancillary marks x samples₁ ancillary₁ marks₁)
+              (taken .answered) taken;
         }

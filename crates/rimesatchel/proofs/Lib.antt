@@ -1,6 +1,11 @@
 pub mod BoxesOne
+pub mod FramesOne
+pub mod FramesWrong
 pub mod Leaves
 pub mod LogsOne
+pub mod NetworkLeaves
+pub mod NetworkOne
+pub mod NetworkWrong
 pub mod PlansOne
 pub mod PlansWrong
 pub mod StatusesOne

@@ -135,12 +135,15 @@ module _ (κs : Lfts 4) (l s a c : Place) where
   refused-send-not-counted x v wrong p = let right : getD (v .0) 3 0 ≡ 4 = ap (λ (l : List ℕ). getD l 3 0) (p .leaves) in omega arith
 
 module _ (κs : Lfts 6) (l c s a m r : Place) where
-  -- a call with cell number 3 on three runs of nine sevens, with a report lent as nines
-  abbrev Receiving : List ℕ → (ℕ → List ℕ → List ℕ → List ℕ → Type 0) → Type 0
-  Receiving state Wrong =
+  -- a call with cell number 3 and this indication on three runs of nine sevens, with a report lent as nines
+  abbrev Indicated : Bool → List ℕ → (ℕ → List ℕ → List ℕ → List ℕ → Type 0) → Type 0
+  Indicated indication state Wrong =
       Never receive-kinds.ps receive-kinds.r receive-reads.Post κs
-      (lent l state, (lent c third, (true, (lent s (replicate 9 7), (lent a (replicate 9 7), (lent m (replicate 9 7), (lent r (replicate 4 9), tt)))))))
+      (lent l state, (lent c third, (indication, (lent s (replicate 9 7), (lent a (replicate 9 7), (lent m (replicate 9 7), (lent r (replicate 4 9), tt)))))))
       (λ x v. Wrong x (v .0) (v .1 .1 .1 .0) (v .1 .1 .1 .1 .1 .1 .0))
+
+  abbrev Receiving : List ℕ → (ℕ → List ℕ → List ℕ → List ℕ → Type 0) → Type 0
+  Receiving = Indicated false
 
   -- refused although nothing is wrong, by whatever number
   pub receive-not-always-refused : Receiving (archive 2) (λ x state samples report. x ≡ 0 → ⊥)
@@ -167,6 +170,11 @@ module _ (κs : Lfts 6) (l c s a m r : Place) where
   pub refused-report-not-told : Receiving (archive 3) (λ x state samples report. getD report 1 0 ≡ 3)
   unfolding unfolded
   refused-report-not-told x v wrong p = let right : getD (v .1 .1 .1 .1 .1 .1 .0) 1 0 ≡ 0 = ap (λ (l : List ℕ). getD l 1 0) (p .reports) in omega arith
+
+  -- the indication dropped on its way to the receiver, and the cell taken
+  pub indication-not-dropped : Indicated true (archive 2) (λ x state samples report. x ≡ 0)
+  unfolding unfolded
+  indication-not-dropped x v wrong p = let right : x ≡ 15 = p .refused in omega arith
 
   -- a call refused for room, and the state moved
   pub refused-receive-not-counted : Receiving (archive 1) (λ x state samples report. getD state 4 0 ≡ 3)
@@ -237,7 +245,12 @@ module _ (κs : Lfts 2) (l k : Place) where
   -- a finished block's answer lost
   pub answer-not-lost : Stepping 191 0 (λ x block out. getD out 0 0 ≡ 0)
   unfolding unfolded
-  answer-not-lost x v wrong p = let right : getD (v .1 .1 .1 .0) 0 0 ≡ 1 = ap (λ (l : List ℕ). getD l 0 0) (p .hands) in omega arith
+  answer-not-lost x v wrong p = let right : getD (v .1 .1 .1 .0) 0 0 ≡ 3 = ap (λ (l : List ℕ). getD l 0 0) (p .hands) in omega arith
+
+  -- a block of consumer use answered "doesn't fit"
+  pub consumer-not-judged : Stepping 191 0 (λ x block out. getD out 0 0 ≡ 1)
+  unfolding unfolded
+  consumer-not-judged x v wrong p = let right : getD (v .1 .1 .1 .0) 0 0 ≡ 3 = ap (λ (l : List ℕ). getD l 0 0) (p .hands) in omega arith
 
   -- an ancillary number above 15 taken
   pub refused-step-not-taken : Stepping 3 16 (λ x block out. x ≡ 0)

@@ -15,7 +15,7 @@ blockOf octets = record { bits = getD octets 0 0; octets = drop 1 octets }
 abbrev pub steppedOf : List ℕ → ℕ → ℕ → Stepped
 steppedOf block ancillary mark = stepOf (blockOf block) ancillary mark
 
--- the refusal, the block as it is left, and `out`: "answer (0 neither, 1 doesn't fit, 2 fits), then the 24 octets handed out"
+-- the refusal, the block as it is left, and `out`: "0 neither, 1 doesn't fit, 2 fits, 3 none carried", then the 24 octets handed out
 pub record SteppedOctets (block : List ℕ) (ancillary mark refusal : ℕ) (left out : List ℕ) : Type 0 where
   pub refused : refusal ≡ steppedOf block ancillary mark .handed .refusal
   pub leaves : left ≡ steppedOf block ancillary mark .block .bits ∷ steppedOf block ancillary mark .block .octets

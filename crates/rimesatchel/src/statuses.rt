@@ -1,5 +1,5 @@
 // Channel status for C, Rust and Python: 25 octets are a block (bits begun, then the 24 octets under assembly), or what goes
-// out (answer 0 neither, 1 doesn't fit, 2 fits, then the 24 octets handed out).
+// out (answer 0 neither, 1 doesn't fit, 2 fits, 3 none carried, then the 24 octets handed out).
 use status::assembler::brought_forward;
 use status::check::check_character;
 use status::step::Block;

@@ -1,14 +1,16 @@
--- A lent run that a loop fills with given entries from a place on: the loop's invariant, and its three laws.
+-- A lent run that a loop fills with given entries from a place on: the loop's invariant, and its three laws. The same of parts of one
+-- length that a loop joins.
 -- Assumes nothing.
 use mathlib.Core.List.{List, _∷_, _++_, append-nil}
-use mathlib.Core.Path.{_≡_, refl, sym, _∙_, ap}
-use Prim.Native.Nat.{ℕ, zero, _+_, _≤_, _<_}
-use native.Mathlib.Nat.{zero-add}
+use mathlib.Core.Path.{_≡_, refl, sym, _∙_, ap, ap₂}
+use Prim.Native.Nat.{ℕ, zero, _+_, _*_, _≤_, _<_}
+use native.Mathlib.Nat.{zero-add, suc-mul}
 use native.Mathlib.Numerals.{add-one}
 use native.Mathlib.Omega.{arith}
 use lib.ListN.{length, getD, take, drop, set, length-set, drop-of-length-le}
-use Rattle.runs.specs.Runs.{over, written}
-use lib.Seq.{paste, paste-zero, paste-suc, take-all, sets, sets-eq}
+use lib.Seq.{paste, paste-zero, paste-suc, take-all, take-at, drop-drop, drop-append-add, drop-length, sets, sets-eq}
+use Rattle.runs.specs.Runs.{joined, over, written}
+use Rattle.runs.proofs.Laws.{length-joined}
 
 -- the run d is d₀ with the first i entries of vs written from `at` on
 pub record Filled (d d₀ : List ℕ) (at : ℕ) (vs : List ℕ) (i : ℕ) : Type 0 where
@@ -67,3 +69,30 @@ pub stored-behind : (v : ℕ) (vs run : List ℕ) (at : ℕ) → at + 1 + length
 stored-behind v vs run at room =
     sym (stored vs (set run at v) (at + 1) (rw length-set room))
     ∙ rw (add-one at) (stored (v ∷ vs) run at (omega arith))
+
+-- parts of one length written one after the other: those so far, and then what the run held
+module _ (g : ℕ → List ℕ) (w : ℕ) (run₀ : List ℕ) where
+  pub filled-on : (k : ℕ) {run run₁ : List ℕ} → ((k : ℕ) → length (g k) ≡ w)
+      → run ≡ joined g k ++ drop (k * w) run₀
+      → run₁ ≡ take (k * w) run ++ g k ++ drop (k * w + w) run
+      → run₁ ≡ joined g (k + 1) ++ drop ((k + 1) * w) run₀
+  unfolding joined
+  filled-on k each so-far e =
+      let front : length (joined g k) ≡ k * w = length-joined g w k each in
+      e
+      ∙ ap₂ (λ (before after : List ℕ). before ++ g k ++ after)
+      (ap (take (k * w)) so-far ∙ take-at (joined g k) (drop (k * w) run₀) (k * w) front)
+      (ap (drop (k * w + w)) so-far
+      ∙ ap (λ (n : ℕ). drop (n + w) (joined g k ++ drop (k * w) run₀)) (sym front)
+      ∙ drop-append-add (joined g k) (drop (k * w) run₀) w
+      ∙ drop-drop w (k * w) run₀)
+      ∙ rw (add-one, suc-mul)
+
+  pub filled : (k n : ℕ) {run : List ℕ} → run ≡ joined g k ++ drop (k * w) run₀ → k ≡ n
+      → n * w ≡ length run₀ → run ≡ joined g n
+  filled k n so-far e whole =
+      so-far
+      ∙ ap (λ (m : ℕ). joined g m ++ drop (m * w) run₀) e
+      ∙ ap (λ (m : ℕ). joined g n ++ drop m run₀) whole
+      ∙ ap (λ (r : List ℕ). joined g n ++ r) (drop-length run₀)
+      ∙ append-nil (joined g n)

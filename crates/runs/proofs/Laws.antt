@@ -4,11 +4,28 @@ use mathlib.Core.Bool.{Bool, true, false, true≢false, cond, _&&_, _||_}
 use mathlib.Core.List.{List, [], _∷_, _++_}
 use mathlib.Core.Logic.{⊎-elim}
 use mathlib.Core.Path.{_≡_, refl, sym, _∙_, ap, subst}
-use Prim.Native.Nat.{ℕ, zero, suc, _+_, _*_, _/_, _%_, _^_, _≤_, _<_}
-use native.Mathlib.Nat.{suc-ne-zero, not-suc-le-zero, le-of-suc-le-suc, eq-or-lt-of-le, pow-suc, pow-zero, mul-one, one-mul, mod-eq-of-lt, mul-assoc, mul-comm, suc-mul, mod-one, mul-le-mul-right, zero-mul}
+use Prim.Native.Nat.{ℕ, zero, suc, _+_, _*_, _/_, _%_, _-_, _^_, _≤_, _<_}
+use native.Mathlib.Nat.{
+  suc-ne-zero,
+  not-suc-le-zero,
+  le-of-suc-le-suc,
+  eq-or-lt-of-le,
+  pow-suc,
+  pow-zero,
+  mul-one,
+  one-mul,
+  mod-eq-of-lt,
+  mul-assoc,
+  mul-comm,
+  mul-suc,
+  suc-mul,
+  mod-one,
+  mul-le-mul-right,
+  zero-mul,
+}
 use native.Mathlib.Omega.{arith}
 use lib.Arith.{mod-mul}
-use lib.Pow.{pow-lt}
+use lib.Pow.{pow-add, pow-lt}
 use borrow.Author.Tests.{ne-eqb, eqb-true, eqb-false}
 use lib.Dec.{T, eqb}
 use lib.ListN.{length, getD, take, drop, length-append, length-drop, List·getD-append}
@@ -129,6 +146,23 @@ length-octets (suc w) n = ap suc (length-octets w n)
 pow-256 : (w : ℕ) → zero < 256 ^ w
 pow-256 zero = rw pow-zero (omega arith)
 pow-256 (suc w) = rw pow-suc (omega (arith, pow-256 w))
+
+-- w octets are 8 × w bits
+pub octets-pow : (w : ℕ) → 2 ^ (8 * w) ≡ 256 ^ w
+octets-pow zero = refl
+octets-pow (suc w) =
+    ap (λ (k : ℕ). 2 ^ k) (mul-suc 8 w) ∙ pow-add 2 (8 * w) 8 ∙ ap (λ (n : ℕ). n * 256) (octets-pow w) ∙ sym (pow-suc 256 w)
+
+-- octet i of a number, as the code shifts it out
+pub octet-at : (w n i : ℕ) → i < w → n / 2 ^ (8 * (w - 1 - i)) % 256 ≡ getD (octetsOf w n) i 0
+unfolding octetsOf
+octet-at zero n i h = absurd (not-suc-le-zero h)
+octet-at (suc w) n zero h =
+    let place : suc w - 1 - 0 ≡ w = omega arith in
+    ap (λ (p : ℕ). n / p % 256) (ap (λ (k : ℕ). 2 ^ (8 * k)) place ∙ octets-pow w)
+octet-at (suc w) n (suc i) h =
+    let place : suc w - 1 - suc i ≡ w - 1 - i = omega arith in
+    ap (λ (k : ℕ). n / 2 ^ (8 * k) % 256) place ∙ octet-at w n i (le-of-suc-le-suc h)
 
 -- octets of a number, read after others, give the number's low part behind them
 pub read-octets : (w m n : ℕ) → readOn m (octetsOf w n) ≡ m * 256 ^ w + n % 256 ^ w

@@ -2,7 +2,8 @@
 -- Assumes nothing.
 use mathlib.Core.Bool.{cond}
 use mathlib.Core.List.{List, [], _∷_}
-use Prim.Native.Nat.{ℕ, zero, suc, _+_, _*_, _/_, _%_, _^_}
+use mathlib.Core.Path.{_≡_}
+use Prim.Native.Nat.{ℕ, zero, suc, _+_, _*_, _/_, _%_, _^_, _<_}
 use lib.Bits.{bitXor}
 use lib.Dec.{ltb}
 
@@ -24,3 +25,15 @@ coefficients (suc n) p = p / 2 ^ n % 2 ∷ coefficients n p
 -- the remainder of a polynomial below x^n by the divisor
 abbrev pub remainder : ℕ → ℕ → ℕ → ℕ → ℕ
 remainder degree divisor n p = divided degree divisor 0 (coefficients n p)
+
+-- the product of the polynomial with these coefficients, the highest first, and a factor, after those that made the product so far
+unfoldable pub multiplied : ℕ → ℕ → List ℕ → ℕ
+multiplied factor product [] = product
+multiplied factor product (b ∷ bs) = multiplied factor (bitXor (product * 2) (b % 2 * factor)) bs
+
+-- what makes r the remainder of p: some multiple of the divisor and r add up to p, and r is below the divisor's degree. That `remainder`
+-- gives it is proved (runs/proofs/Division)
+pub record IsRemainder (degree divisor p r : ℕ) : Type 0 where
+  pub quotient : List ℕ
+  pub adds-up : p ≡ bitXor (multiplied divisor 0 quotient) r
+  pub below : r < 2 ^ degree

@@ -1,324 +1,77 @@
--- Laws of filling: the code's arithmetic on one subframe, and a cell that is filled slot after slot.
+-- Laws of filling a cell slot after slot: the loops' invariant, and what each slot carries.
 -- Assumes nothing.
-use mathlib.Core.Bool.{true}
-use mathlib.Core.List.{List, [], _∷_, _++_, append-nil, append-assoc}
-use mathlib.Core.Path.{_≡_, refl, sym, _∙_, ap, ap₂, subst}
-use Prim.Native.Nat.{ℕ, zero, suc, _+_, _*_, _/_, _%_, _-_, _^_, _≤_, _<_}
-use native.Mathlib.Nat.{div-one, mul-one, mul-assoc, zero-mul, zero-mod, zero-div, suc-mul, pow-le-pow-right, mod-lt, not-suc-le-zero, le-of-suc-le-suc}
-use native.Mathlib.Numerals.{add-one}
+use mathlib.Core.Bool.{Bool, true, false, cond}
+use mathlib.Core.List.{List, _++_}
+use mathlib.Core.Path.{_≡_, refl, sym, _∙_, ap, ap₂}
+use Prim.Native.Nat.{ℕ, _+_, _*_, _/_, _%_, _^_, _≤_, _<_}
+use native.Mathlib.Nat.{div-one, zero-mul, zero-mod, zero-div, zero-add, mul-one, mul-comm, mul-le-mul-right}
 use native.Mathlib.Omega.{arith}
-use borrow.Author.Tests.{ne-eqb}
-use lib.Bits.{bitXor}
-use lib.Dec.{eqb, eqb→eq}
-use lib.ListN.{length, getD, take, drop, length-append}
-use lib.Pow.{pow-add, pow-mono, shl-exact, shr-shr}
-use lib.Seq.{take-at, drop-drop, drop-append-add, drop-length, length-take-le}
-use Rattle.runs.specs.Runs.{tab, joined, octetsOf}
-use Rattle.runs.specs.Test.{every}
-use Rattle.runs.proofs.Arms.{NoneOf, orListed, others, singles}
-use Rattle.runs.proofs.Laws.{every-at, length-tab, getD-tab, length-joined, length-octets}
+use borrow.Author.Tests.{lt-ltb, le-ltb}
+use lib.Dec.{eqb}
+use lib.ListN.{length, getD, take, drop}
+use lib.Pow.{shr-shr}
+use Rattle.runs.specs.Division.{coefficients, divided, takenDown}
+use Rattle.runs.specs.Runs.{joined, octetsOf}
+use Rattle.runs.proofs.Filling.{filled-on}
+use Rattle.runs.proofs.Laws.{length-octets}
 use Rattle.formats.specs.declared.Format.{Format}
-use Rattle.formats.specs.Sound.{Sound}
+use Rattle.formats.specs.declared.Settled.{Settled}
 use Rattle.guards.specs.Guards.{nineOf, tenGuard, guardOf}
 use Rattle.guards.specs.Code.{sevenGuards}
-use Rattle.guards.proofs.Laws.{nine-lt, nine-top, seven-guard, with-v, ten-guard-lt}
 use Rattle.cells.specs.Cells.{overheadOf, subframeOf}
-use Rattle.cells.specs.Placement.{entryOfSlot}
 use Rattle.cells.specs.Code.{stepOn}
+use Rattle.cells.specs.Placement.{entryOfSlot, carried}
 use Rattle.cells.proofs.Placement.{entry-lt, entry-next}
-use Rattle.cells.proofs.Subframes.{subframe-lt, octets-pow, slot-room, four}
-use Rattle.sender.specs.Packing.{shape, lowOctets, Fillable, Turnable, byChannel, slotWith, written, idleNumber, Continues}
+use Rattle.cells.proofs.Places.{step-fits}
+use Rattle.cells.proofs.Subframes.{slot-room}
+use Rattle.sender.specs.Packing.{Packable, Named, entryAt, slotBy, filledTo, idleNumber}
+use Rattle.sender.proofs.Subframes.{guarded-is, plain-is, plain-fits}
 
--- a subframe's last octet, by the bits of the sample and those of the ancillary number
-low-parts : {guard four : ℕ} → guard < 8 → four < 16
-    → bitXor guard (four % 16 * 16 + four % 16 % 2 * 3) ≡ four * 16 + bitXor guard (four % 2 * 3)
-unfolding every
-low-parts {guard} {four} hg hf =
-    let high : (guard * 16 + four) / 16 ≡ guard = omega arith in
-    let rest : (guard * 16 + four) % 16 ≡ four = omega arith in
-    subst
-    (λ (g : ℕ). bitXor g (four % 16 * 16 + four % 16 % 2 * 3) ≡ four * 16 + bitXor g (four % 2 * 3)) high
-    (subst
-    (λ (a : ℕ).
-    bitXor ((guard * 16 + four) / 16) (a % 16 * 16 + a % 16 % 2 * 3) ≡ a * 16 + bitXor ((guard * 16 + four) / 16) (a % 2 * 3))
-    rest
-    (eqb→eq _ _
-    (every-at
-    (λ k.
-    eqb (bitXor (k / 16) (k % 16 % 16 * 16 + k % 16 % 16 % 2 * 3)) (k % 16 * 16 + bitXor (k / 16) (k % 16 % 2 * 3)))
-    128 tt (guard * 16 + four) (omega arith))))
-
--- the last arm of the ancillary number's part of it
-pub low-rest : (X : Type 0) (four : ℕ) → four < 16 → NoneOf X (singles 15) four → 243 ≡ four * 16 + four % 2 * 3
-unfolding every orListed
-low-rest X four less none = eqb→eq _ _ (others X (singles 15) (λ k. eqb 243 (k * 16 + k % 2 * 3)) 16 tt four less none)
-
-pub low-octet : (n sample : ℕ) {four guard low : ℕ} → four < 16 → guard ≡ tenGuard (nineOf n sample * 2) → low ≡ four % 16 * 16 + four % 16 % 2 * 3
-    → bitXor guard low ≡ four * 16 + guardOf n sample four
-unfolding guardOf
-low-octet n sample {four} hf guard-is low-is =
-    ap₂ bitXor guard-is low-is
-    ∙ low-parts (ten-guard-lt (nineOf n sample * 2)) hf
-    ∙ ap (λ (g : ℕ). four * 16 + g) (with-v {nine = nineOf n sample} (nine-lt n sample) (mod-lt four (omega arith)))
-
-module _ {f : Format} (s : Sound f) {sample ancillary bit : ℕ}
-    (hs : sample < 2 ^ f .«sample_bits») (ha : ancillary < 2 ^ f .«ancillary_bits») (hb : bit < 2)
-  where
-    -- the sample in its place, as the code moves it up
-    abbrev above : ℕ
-    above = (sample * 2 ^ (f .«ancillary_bits» + f .«overhead_bits»)) % 2 ^ 64
-
-    above-is : above ≡ sample * 2 ^ f .«ancillary_bits» * 2 ^ f .«overhead_bits»
-    above-is =
-        shl-exact (f .«sample_bits») (f .«ancillary_bits» + f .«overhead_bits») 64 hs (omega (arith, s .sample-to, s .ancillary-to, s .overhead-to))
-        ∙ ap (λ (n : ℕ). sample * n) (pow-add 2 (f .«ancillary_bits») (f .«overhead_bits»))
-        ∙ sym (mul-assoc sample (2 ^ f .«ancillary_bits») (2 ^ f .«overhead_bits»))
-
-    pub subframe-fits : {number : ℕ} → number ≡ subframeOf f sample ancillary bit → number < 2 ^ 64
-    subframe-fits e =
-        let far : 256 ^ f .width ≤ 256 ^ 6 = pow-le-pow-right (omega arith) (s .width-to) in
-        omega (arith, e, subframe-lt s hs ha hb)
-
-    pub few-ancillary : ancillary < 16
-    few-ancillary =
-        let far : 2 ^ f .«ancillary_bits» ≤ 2 ^ 4 = pow-mono {i = f .«ancillary_bits»} {j = 4} (s .ancillary-to) in
-        omega arith
-
-    pub subframe-plain : f .«overhead_bits» ≡ 0 → above + ancillary ≡ subframeOf f sample ancillary bit
-    unfolding subframeOf overheadOf
-    subframe-plain none = ap (λ (n : ℕ). n + ancillary) above-is ∙ rw (none, mul-one) (omega arith)
-
-    -- the nine top bits as the code shifts them down, and the ten with V 0
-    abbrev ten : ℕ
-    ten = sample * 2 / 2 ^ (f .«sample_bits» - 8) * 2
-
-    pub twice-fits : sample * 2 < 2 ^ 64
-    twice-fits =
-        let far : 2 ^ f .«sample_bits» ≤ 2 ^ 40 = pow-mono {i = f .«sample_bits»} {j = 40} (s .sample-to) in
-        omega arith
-
-    ten-is : ten ≡ nineOf (f .«sample_bits») sample * 2
-    ten-is = ap (λ (n : ℕ). n * 2) (nine-top (f .«sample_bits») (s .sample-from) hs)
-
-    pub ten-lt : ten < 1024
-    ten-lt = rw ten-is (omega (arith, nine-lt (f .«sample_bits») sample))
-
-    pub low-looked : {table : List ℕ} {guard low : ℕ} → table ≡ sevenGuards → guard ≡ getD table (bitXor ten (ten / 128) % 128) 0
-        → low ≡ ancillary % 16 * 16 + ancillary % 16 % 2 * 3
-        → bitXor guard low ≡ ancillary * 16 + guardOf (f .«sample_bits») sample ancillary
-    low-looked same e low-is =
-        low-octet (f .«sample_bits») sample few-ancillary
-        (e
-        ∙ ap (λ (l : List ℕ). getD l (bitXor ten (ten / 128) % 128) 0) same
-        ∙ seven-guard ten-lt
-        ∙ ap tenGuard ten-is)
-        low-is
-
-    pub subframe-guarded : (f .«overhead_bits» ≡ 0 → ⊥) → {low : ℕ} → low ≡ ancillary * 16 + guardOf (f .«sample_bits») sample ancillary
-        → above + (low + bit * 8) ≡ subframeOf f sample ancillary bit
-    unfolding subframeOf overheadOf
-    subframe-guarded some {low} e =
-        ap (λ (n : ℕ). n + (low + bit * 8)) above-is
-        ∙ rw (ne-eqb (f .«overhead_bits») 0 some, four s some) (omega (arith, e))
-
--- where ancillary and overhead have four bits each: the protection bits that a table has for the bits on top, and the subframe by them
-guard-on-top : (n top : ℕ) {sample guard : ℕ} → 8 ≤ n → sample < 2 ^ n → top % 512 ≡ sample * 2 / 2 ^ (n - 8)
-    → guard ≡ tenGuard (top % 512 * 2) → guard ≡ tenGuard (nineOf n sample * 2)
-guard-on-top n top from small top-is guard-is =
-    guard-is ∙ ap (λ (m : ℕ). tenGuard (m * 2)) (top-is ∙ nine-top n from small)
-
--- all that such a subframe asks, in a run that fills its slots
-pub subframe-ready : (n top : ℕ) {width : ℕ} {samples ancillary cell : List ℕ}
-    → Fillable (shape n 4 4) width sevenGuards samples ancillary cell
-    → (slot : ℕ) {guard four bit : ℕ}
-    → (getD samples slot 0 < 2 ^ n → top % 512 ≡ getD samples slot 0 * 2 / 2 ^ (n - 8))
-    → guard ≡ tenGuard (top % 512 * 2)
-    → four ≡ getD ancillary slot 0
-    → bit < 2
-    → Sound (shape n 4 4)
-    × (getD samples slot 0 < 2 ^ n)
-    × (guard ≡ tenGuard (nineOf n (getD samples slot 0) * 2))
-    × (four < 16)
-    × (bit < 2)
-subframe-ready n top ok slot top-is guard-is four-is few =
-    let small = ok .small slot in
-    (ok .sound, small, guard-on-top n top (ok .sound .sample-from) small (top-is small) guard-is, rw four-is (ok .few slot), few)
-
-pub subframe-by : (n sample four bit : ℕ) {low : ℕ} → low ≡ four * 16 + guardOf n sample four
-    → sample * 256 + (low + bit * 8) ≡ subframeOf (shape n 4 4) sample four bit
-unfolding subframeOf overheadOf
-subframe-by n sample four bit e = omega (arith, e)
-
--- octet i of a number, as the code shifts it out
-pub octet-at : (w n i : ℕ) → i < w → n / 2 ^ (8 * (w - 1 - i)) % 256 ≡ getD (octetsOf w n) i 0
-unfolding octetsOf
-octet-at zero n i h = absurd (not-suc-le-zero h)
-octet-at (suc w) n zero h =
-    let place : suc w - 1 - 0 ≡ w = omega arith in
-    ap (λ (p : ℕ). n / p % 256) (ap (λ (k : ℕ). 2 ^ (8 * k)) place ∙ octets-pow w)
-octet-at (suc w) n (suc i) h =
-    let place : suc w - 1 - suc i ≡ w - 1 - i = omega arith in
-    ap (λ (k : ℕ). n / 2 ^ (8 * k) % 256) place ∙ octet-at w n i (le-of-suc-le-suc h)
-
--- lowest octets: how many, and each
-pub low-length : (count number : ℕ) → length (lowOctets count number) ≡ count
-unfolding lowOctets
-low-length count number = length-tab _ count
-
-pub low-at : (count number : ℕ) {i : ℕ} → i < count → number / 2 ^ (8 * i) % 256 ≡ getD (lowOctets count number) i 0
-unfolding lowOctets
-low-at count number less = sym (getD-tab _ count less)
-
--- four octets and two turned round, as the code does it: the lowest first they are the highest first
-four-digits : (a b c d : ℕ) → a < 256 → b < 256 → c < 256 → d < 256
-    → ((a * 16777216 + b * 65536 + c * 256 + d) / 1 % 256 ≡ d)
-    × ((a * 16777216 + b * 65536 + c * 256 + d) / 256 % 256 ≡ c)
-    × ((a * 16777216 + b * 65536 + c * 256 + d) / 65536 % 256 ≡ b)
-    × ((a * 16777216 + b * 65536 + c * 256 + d) / 16777216 % 256 ≡ a)
-four-digits a b c d ha hb hc hd = (omega arith, omega arith, omega arith, omega arith)
-
-two-digits : (a b : ℕ) → a < 256 → b < 256 → ((a * 256 + b) / 1 % 256 ≡ b) × ((a * 256 + b) / 256 % 256 ≡ a)
-two-digits a b ha hb = (omega arith, omega arith)
-
-module _ (number : ℕ) where
-  abbrev high : ℕ
-  high = number / 65536
-
-  abbrev four-turned : ℕ
-  four-turned = high % 256 * 16777216 + high / 256 % 256 * 65536 + high / 65536 % 256 * 256 + high / 16777216 % 256
-
-  abbrev two-turned : ℕ
-  two-turned = number % 256 * 256 + number / 256 % 256
-
-  four-octets : lowOctets 4 four-turned ≡ octetsOf 4 high
-  unfolding lowOctets tab octetsOf
-  four-octets =
-      let less : (x : ℕ) → x % 256 < 256 = λ x. mod-lt x (omega arith) in
-      let each = four-digits (high % 256) (high / 256 % 256) (high / 65536 % 256) (high / 16777216 % 256) (less high) (less (high / 256)) (less (high / 65536)) (less (high / 16777216)) in
-      let last : high % 256 ≡ high / 1 % 256 = omega arith in
-      λ i. each .0 i ∷ each .1 i ∷ each .2 i ∷ (each .3 ∙ last) i ∷ []
-
-  two-octets : lowOctets 2 two-turned ≡ octetsOf 2 number
-  unfolding lowOctets tab octetsOf
-  two-octets =
-      let less : (x : ℕ) → x % 256 < 256 = λ x. mod-lt x (omega arith) in
-      let each = two-digits (number % 256) (number / 256 % 256) (less number) (less (number / 256)) in
-      let last : number % 256 ≡ number / 1 % 256 = omega arith in
-      λ i. each .0 i ∷ (each .1 ∙ last) i ∷ []
-
-  six-octets : octetsOf 4 high ++ octetsOf 2 number ≡ octetsOf 6 number
-  unfolding octetsOf
-  six-octets =
-      let e0 : high / 16777216 % 256 ≡ number / 1099511627776 % 256 = omega arith in
-      let e1 : high / 65536 % 256 ≡ number / 4294967296 % 256 = omega arith in
-      let e2 : high / 256 % 256 ≡ number / 16777216 % 256 = omega arith in
-      let e3 : high / 1 % 256 ≡ number / 65536 % 256 = omega arith in
-      λ i. e0 i ∷ e1 i ∷ e2 i ∷ e3 i ∷ octetsOf 2 number
-
-  -- and so they are written, one after the other
-  pub six-put : (at : ℕ) (cell : List ℕ) (x y : ℕ) {cell₁ cell₂ : List ℕ} → at + 6 ≤ length cell → x ≡ four-turned → y ≡ two-turned
-      → cell₁ ≡ take at cell ++ lowOctets 4 x ++ drop (at + 4) cell
-      → cell₂ ≡ take (at + 4) cell₁ ++ lowOctets 2 y ++ drop (at + 4 + 2) cell₁
-      → cell₂ ≡ take at cell ++ octetsOf 6 number ++ drop (at + 6) cell
-  six-put at cell x y {cell₁} room x-is y-is first next =
-      let four = lowOctets 4 x in
-      let front : length (take at cell ++ four) ≡ at + 4
-      = length-append (take at cell) four
-      ∙ ap₂ (λ (m n : ℕ). m + n) (length-take-le at cell (omega arith)) (low-length 4 x) in
-      next
-      ∙ ap₂ (λ (before after : List ℕ). before ++ lowOctets 2 y ++ after)
-      (ap (take (at + 4)) first ∙ take-at (take at cell ++ four) (drop (at + 4) cell) (at + 4) front)
-      (ap (drop (at + 4 + 2)) first
-      ∙ ap (λ (n : ℕ). drop (n + 2) (take at cell ++ four ++ drop (at + 4) cell)) (sym front)
-      ∙ drop-append-add (take at cell ++ four) (drop (at + 4) cell) 2
-      ∙ drop-drop 2 (at + 4) cell
-      ∙ ap (λ (n : ℕ). drop n cell) (let whole : at + 4 + 2 ≡ at + 6 = omega arith in whole))
-      ∙ ap (λ (l : List ℕ). l ++ drop (at + 6) cell)
-      (append-assoc (take at cell) four (lowOctets 2 y)
-      ∙ ap (λ (l : List ℕ). take at cell ++ l)
-      (ap₂ (λ (m n : List ℕ). m ++ n) (ap (lowOctets 4) x-is ∙ four-octets) (ap (lowOctets 2) y-is ∙ two-octets) ∙ six-octets))
-
--- a cell that is filled slot after slot: the slots so far, and then what it held
-module _ (g : ℕ → List ℕ) (w : ℕ) (cell₀ : List ℕ) where
-  pub filled-on : (k : ℕ) {cell cell₁ : List ℕ} → ((k : ℕ) → length (g k) ≡ w)
-      → cell ≡ joined g k ++ drop (k * w) cell₀
-      → cell₁ ≡ take (k * w) cell ++ g k ++ drop (k * w + w) cell
-      → cell₁ ≡ joined g (k + 1) ++ drop ((k + 1) * w) cell₀
-  unfolding joined
-  filled-on k each so-far e =
-      let front : length (joined g k) ≡ k * w = length-joined g w k each in
-      e
-      ∙ ap₂ (λ (before after : List ℕ). before ++ g k ++ after)
-      (ap (take (k * w)) so-far ∙ take-at (joined g k) (drop (k * w) cell₀) (k * w) front)
-      (ap (drop (k * w + w)) so-far
-      ∙ ap (λ (n : ℕ). drop (n + w) (joined g k ++ drop (k * w) cell₀)) (sym front)
-      ∙ drop-append-add (joined g k) (drop (k * w) cell₀) w
-      ∙ drop-drop w (k * w) cell₀)
-      ∙ rw (add-one, suc-mul)
-
-  pub filled : (k slots : ℕ) {cell : List ℕ} → cell ≡ joined g k ++ drop (k * w) cell₀ → k ≡ slots
-      → slots * w ≡ length cell₀ → cell ≡ joined g slots
-  filled k slots so-far e whole =
-      so-far
-      ∙ ap (λ (n : ℕ). joined g n ++ drop (n * w) cell₀) e
-      ∙ ap (λ (n : ℕ). joined g slots ++ drop n cell₀) whole
-      ∙ ap (λ (r : List ℕ). joined g slots ++ r) (drop-length cell₀)
-      ∙ append-nil (joined g slots)
-
--- the filling loops' invariant, and its laws
-pub record Filling (f : Format) (entry : ℕ → ℕ) (sequence : ℕ) (samples ancillary cell₀ cell : List ℕ) (slot : ℕ) : Type 0 where
-  pub within : slot ≤ length samples
-  pub is : cell ≡ joined (slotWith f entry sequence samples ancillary) slot ++ drop (slot * f .width) cell₀
+-- a cell filled up to `slot`, of the slots before `end` that a loop fills
+pub record Filling (set : Settled) (sequence : ℕ) (samples ancillary cell₀ : List ℕ) (end : ℕ) (cell : List ℕ) (slot : ℕ) : Type 0 where
+  pub within : slot ≤ end
+  pub is : cell ≡ filledTo set sequence samples ancillary cell₀ slot
   pub same : length cell ≡ length cell₀
 
-module _ (f : Format) (entry : ℕ → ℕ) (sequence : ℕ) {width : ℕ} {table samples ancillary cell₀ : List ℕ}
-    (ok : Fillable f width table samples ancillary cell₀)
-  where
-    pub filling-begun : Filling f entry sequence samples ancillary cell₀ cell₀ 0
-    unfolding joined
-    filling-begun =
-        record { within = omega arith; is = ap (λ (n : ℕ). drop n cell₀) (sym (zero-mul (f .width))); same = refl }
+-- what a slot carries of a run
+abbrev carriedAt : Settled → List ℕ → ℕ → ℕ
+carriedAt set run slot = carried (set .«by_channel») (set .channels) (set .times) run slot
 
-    pub used-room : {slot : ℕ} → slot < length samples → slot * width + width ≤ 48
-    used-room {slot} less = rw (ok .width-is) (slot-room (ok .sound) (omega (arith, ok .fit)))
+module _ (set : Settled) (sequence : ℕ) (samples ancillary cell₀ : List ℕ) where
+  pub filling-begun : (end : ℕ) → Filling set sequence samples ancillary cell₀ end cell₀ 0
+  unfolding joined
+  filling-begun end =
+      record { within = omega arith; is = ap (λ (n : ℕ). drop n cell₀) (sym (zero-mul (set .format .width))); same = refl }
 
-    pub filling-on : {cell cell₁ : List ℕ} {slot at four bit number : ℕ} → Filling f entry sequence samples ancillary cell₀ cell slot
-        → slot < length samples
-        → at ≡ entry slot
-        → four ≡ getD ancillary at 0
-        → bit ≡ sequence / 2 ^ slot % 2
-        → number ≡ subframeOf f (getD samples at 0) four bit
+  module _ {end : ℕ} {cell : List ℕ} {slot : ℕ} (so-far : Filling set sequence samples ancillary cell₀ end cell slot) where
+    pub filling-on : {cell₁ : List ℕ} {width number : ℕ} → slot < end → width ≡ set .format .width
+        → number ≡ subframeOf (set .format) (carriedAt set samples slot) (carriedAt set ancillary slot) (sequence / 2 ^ slot % 2)
         → cell₁ ≡ take (slot * width) cell ++ octetsOf width number ++ drop (slot * width + width) cell
         → length cell₁ ≡ length cell
-        → Filling f entry sequence samples ancillary cell₀ cell₁ (slot + 1)
-    unfolding slotWith
-    filling-on {cell} {cell₁} {slot} {at} so-far less at-is four-is bit-is number-is put kept =
-        let carries : octetsOf width _ ≡ slotWith f entry sequence samples ancillary slot
-        = ap₂ octetsOf (ok .width-is)
-        (number-is
-        ∙ ap₂ (λ (a b : ℕ). subframeOf f (getD samples at 0) a b) four-is bit-is
-        ∙ ap (λ (i : ℕ). subframeOf f (getD samples i 0) (getD ancillary i 0) (sequence / 2 ^ slot % 2)) at-is) in
+        → Filling set sequence samples ancillary cell₀ end cell₁ (slot + 1)
+    unfolding slotBy
+    filling-on less width-is number-is put kept =
         record {
           within = omega arith;
           is =
-              filled-on (slotWith f entry sequence samples ancillary) (f .width) cell₀ slot
-              (λ k. length-octets (f .width) _) (so-far .is)
+              filled-on (slotBy set sequence samples ancillary) (set .format .width) cell₀ slot (λ k. length-octets (set .format .width) _)
+              (so-far .is)
               (put
-              ∙ ap (λ (part : List ℕ). take (slot * width) cell ++ part ++ drop (slot * width + width) cell) carries
-              ∙ ap
-              (λ (w : ℕ).
-              take (slot * w) cell ++ slotWith f entry sequence samples ancillary slot ++ drop (slot * w + w) cell)
-              (ok .width-is));
+              ∙ ap₂ (λ (w n : ℕ). take (slot * w) cell ++ octetsOf w n ++ drop (slot * w + w) cell) width-is number-is);
           same = kept ∙ so-far .same;
         }
 
-    pub filling-done : {cell : List ℕ} {slot : ℕ} → Filling f entry sequence samples ancillary cell₀ cell slot
-        → length samples ≤ slot
-        → cell ≡ written f entry sequence samples ancillary cell₀
-    filling-done {cell} {slot} so-far all =
+    pub filling-done : end ≤ slot → cell ≡ filledTo set sequence samples ancillary cell₀ end
+    filling-done all =
         so-far .is
-        ∙ ap (λ (n : ℕ). joined (slotWith f entry sequence samples ancillary) n ++ drop (n * f .width) cell₀)
-        (let end : slot ≡ length samples = omega (arith, so-far .within) in end)
+        ∙ ap (filledTo set sequence samples ancillary cell₀) (let last : slot ≡ end = omega (arith, so-far .within) in last)
+
+-- the same for any settings whose order and numbers are these: where a loop has the numbers and not the settings
+abbrev pub FillingBy : Bool → ℕ → ℕ → ℕ → ℕ → ℕ → List ℕ → List ℕ → List ℕ → List ℕ → ℕ → Type 0
+FillingBy by sample-bits ancillary-bits overhead width sequence samples ancillary cell₀ cell slot =
+    (set : Settled) → Packable set samples ancillary → set .«by_channel» ≡ by
+    → Named (set .format) sample-bits ancillary-bits overhead width
+    → Filling set sequence samples ancillary cell₀ (length samples) cell slot
 
 -- the sequencing bits, one taken off in each slot
 pub bits-begun : (sequence : ℕ) → sequence ≡ sequence / 2 ^ 0
@@ -327,46 +80,156 @@ bits-begun sequence = sym (div-one sequence)
 pub bits-on : (sequence slot : ℕ) {rest : ℕ} → rest ≡ sequence / 2 ^ slot → rest / 2 ≡ sequence / 2 ^ (slot + 1)
 bits-on sequence slot e = ap (λ (n : ℕ). n / 2) e ∙ shr-shr sequence slot 1
 
--- the entries by channel, from slot to slot
-module _ (channels : ℕ) {samples : List ℕ} (turns : Turnable channels samples) (slot : ℕ) {entry : ℕ}
-    (is : entry ≡ byChannel channels samples slot)
-  where
-    abbrev times : ℕ
-    times = length samples / channels
+-- sample and ancillary 0 have the protection 111
+idle-nine : (bits : ℕ) → nineOf bits 0 ≡ 0
+unfolding nineOf
+idle-nine bits = ap (λ (n : ℕ). n % 512) (zero-div (2 ^ bits))
 
-    pub entry-in : slot < length samples → entry < length samples
-    entry-in less =
-        let used : slot < channels * times = omega (arith, turns .rows) in
-        omega (arith, is, entry-lt channels times (turns .times-from) true used, turns .rows)
+idle-ten : tenGuard 0 ≡ 7
+unfolding tenGuard coefficients divided takenDown
+idle-ten = refl
 
-    pub entry-on : {next : ℕ} → next ≡ stepOn channels (length samples) entry → slot < length samples
-        → next ≡ byChannel channels samples (slot + 1)
-    entry-on e less =
-        let used : slot < channels * times = omega (arith, turns .rows) in
-        e ∙ ap₂ (stepOn channels) (sym (turns .rows)) is ∙ entry-next channels times (turns .times-from) used
+idle-guard : (bits : ℕ) → guardOf bits 0 0 ≡ 7
+unfolding guardOf
+idle-guard bits = ap (λ (n : ℕ). tenGuard (n * 2 + 0 % 2)) (idle-nine bits) ∙ idle-ten
 
--- slot 0 carries entry 0
-pub entry-first : (channels : ℕ) (samples : List ℕ) → 0 ≡ byChannel channels samples 0
-unfolding entryOfSlot
-entry-first channels samples =
-    sym (ap₂ (λ (low high : ℕ). low * channels + high) (zero-mod (length samples / channels)) (zero-div (length samples / channels)) ∙ omega (arith, zero-mul channels))
+idle-is : (f : Format) (bit : ℕ) → subframeOf f 0 0 bit ≡ idleNumber (f .«overhead_bits») bit
+unfolding subframeOf overheadOf idleNumber
+idle-is f bit =
+    let none : (0 * 2 ^ f .«ancillary_bits» + 0) * 2 ^ f .«overhead_bits» ≡ 0
+    = ap (λ (n : ℕ). (n + 0) * 2 ^ f .«overhead_bits») (zero-mul (2 ^ f .«ancillary_bits»)) ∙ zero-mul (2 ^ f .«overhead_bits») in
+    ap₂ (λ (high guard : ℕ). high + cond (eqb (f .«overhead_bits») 0) 0 (bit * 8 + guard)) none (idle-guard (f .«sample_bits»))
+    ∙ zero-add (idleNumber (f .«overhead_bits») bit)
 
--- the unused slots, one after the other
-module _ (width overhead sequence : ℕ) (cell₀ : List ℕ) (from : ℕ) where
-  pub continues-begun : Continues width overhead sequence cell₀ from cell₀ from
-  continues-begun = record { same = refl; goes-on = λ g base each idle e. e }
+-- runs that can be packed: the slots that they fill, and the entries in them
+module _ {set : Settled} {samples ancillary : List ℕ} (p : Packable set samples ancillary) where
+  pub used-in : length samples ≤ set .format .slots
+  used-in = omega (arith, p .samples-length, p .limits .used-in)
 
-  pub continues-on : {cell cell₁ : List ℕ} {slot number : ℕ} → Continues width overhead sequence cell₀ from cell slot → from ≤ slot
-      → number ≡ idleNumber overhead (sequence / 2 ^ slot % 2)
-      → cell₁ ≡ take (slot * width) cell ++ octetsOf width number ++ drop (slot * width + width) cell
-      → length cell₁ ≡ length cell
-      → Continues width overhead sequence cell₀ from cell₁ (slot + 1)
-  continues-on {cell} {cell₁} {slot} so-far past number-is put kept =
-      record {
-        same = kept ∙ so-far .same;
-        goes-on = λ g base each idle e.
-            filled-on g width base slot each (so-far .goes-on g base each idle e)
-            (put
-            ∙ ap (λ (part : List ℕ). take (slot * width) cell ++ part ++ drop (slot * width + width) cell)
-            (ap (octetsOf width) number-is ∙ sym (idle slot past)));
-      }
+  pub used-few : length samples ≤ 48
+  used-few = omega (arith, p .samples-length, p .limits .used-to)
+
+  pub as-many : length ancillary ≡ length samples
+  as-many = p .ancillary-length ∙ sym (p .samples-length)
+
+  -- what they bound, by the numbers that a call names
+  module _ {sample-bits ancillary-bits overhead width : ℕ} (named : Named (set .format) sample-bits ancillary-bits overhead width) where
+    bits-from : 8 ≤ sample-bits
+    bits-from = omega (arith, named .sample-is, p .limits .sound .sample-from)
+
+    bits-to : sample-bits ≤ 40
+    bits-to = omega (arith, named .sample-is, p .limits .sound .sample-to)
+
+    pub few-to : ancillary-bits ≤ 4
+    few-to = omega (arith, named .ancillary-is, p .limits .sound .ancillary-to)
+
+    width-to : width ≤ 6
+    width-to = omega (arith, named .width-is, p .limits .sound .width-to)
+
+    pub small-at : (i : ℕ) → getD samples i 0 < 2 ^ sample-bits
+    small-at i = rw (named .sample-is) (p .small i)
+
+    few-at : (i : ℕ) {few : ℕ} → few ≡ getD ancillary i 0 → few < 2 ^ ancillary-bits
+    few-at i e = rw (e, named .ancillary-is) (p .few i)
+
+    pub used-room : {slot : ℕ} → slot < length samples → slot * width + width ≤ 48
+    used-room less = rw (named .width-is) (slot-room (p .limits .sound) (omega (arith, used-in)))
+
+    pub put-ready : {slot room whole : ℕ} → slot < length samples → room ≡ whole → whole ≡ 48
+        → (slot * width + width ≤ room) × (width ≤ 6)
+    put-ready less same all = (omega (arith, used-room less), width-to)
+
+  -- a used slot's subframe
+  used-number : {slot at few bit sequencing number : ℕ} → at ≡ entryAt set slot → slot < length samples → few ≡ getD ancillary at 0
+      → bit ≡ sequencing
+      → number ≡ subframeOf (set .format) (getD samples at 0) few bit
+      → number ≡ subframeOf (set .format) (carriedAt set samples slot) (carriedAt set ancillary slot) sequencing
+  unfolding carried
+  used-number {slot} {at} {few} {bit} {sequencing} at-is less few-is bit-is e =
+      let used : slot < set .channels * set .times = omega (arith, p .samples-length) in
+      e
+      ∙ ap₂ (λ (a b : ℕ). subframeOf (set .format) (getD samples at 0) a b) few-is bit-is
+      ∙ ap (λ (i : ℕ). subframeOf (set .format) (getD samples i 0) (getD ancillary i 0) sequencing) at-is
+      ∙ rw (lt-ltb slot (set .channels * set .times) used)
+
+  -- what the loops' calls ask, and the number that they put, with overhead and without
+  module _ {sample-bits ancillary-bits width : ℕ} (named : Named (set .format) sample-bits ancillary-bits 4 width) where
+    pub guard-ready : {table : List ℕ} → table ≡ sevenGuards → (i : ℕ)
+        → (table ≡ sevenGuards) × (8 ≤ sample-bits) × (sample-bits ≤ 40) × (getD samples i 0 < 2 ^ sample-bits)
+    guard-ready same i = (same, bits-from named, bits-to named, small-at named i)
+
+    pub subframe-ready : (i : ℕ) {guard few bit : ℕ} → guard ≡ tenGuard (nineOf sample-bits (getD samples i 0) * 2)
+        → few ≡ getD ancillary i 0 → bit < 2
+        → (sample-bits ≤ 40) × (ancillary-bits ≤ 4) × (getD samples i 0 < 2 ^ sample-bits)
+        × (guard ≡ tenGuard (nineOf sample-bits (getD samples i 0) * 2)) × (few < 2 ^ ancillary-bits) × (bit < 2)
+    subframe-ready i guard-is few-is small-bit =
+        (bits-to named, few-to named, small-at named i, guard-is, few-at named i few-is, small-bit)
+
+    pub guarded-number : {slot at few bit sequencing number : ℕ} → at ≡ entryAt set slot → slot < length samples
+        → few ≡ getD ancillary at 0 → bit ≡ sequencing
+        → number ≡ (getD samples at 0 * 2 ^ ancillary-bits + few) * 16 + (bit * 8 + guardOf sample-bits (getD samples at 0) few)
+        → number ≡ subframeOf (set .format) (carriedAt set samples slot) (carriedAt set ancillary slot) sequencing
+    guarded-number {at = at} {few = few} {bit = bit} at-is less few-is bit-is e =
+        used-number at-is less few-is bit-is (e ∙ guarded-is (getD samples at 0) few bit named)
+
+  module _ {sample-bits ancillary-bits width : ℕ} (named : Named (set .format) sample-bits ancillary-bits 0 width) where
+    short : sample-bits + ancillary-bits ≤ 63
+    short = omega (arith, bits-to named, few-to named)
+
+    pub plain-room : (i : ℕ) {few : ℕ} → few ≡ getD ancillary i 0 → (getD samples i 0 * 2 ^ ancillary-bits) % 2 ^ 64 + few < 2 ^ 64
+    plain-room i {few} few-is = plain-fits (getD samples i 0) few 0 named short (small-at named i) (few-at named i few-is)
+
+    pub plain-number : (sequencing : ℕ) {slot at few : ℕ} → at ≡ entryAt set slot → slot < length samples → few ≡ getD ancillary at 0
+        → (getD samples at 0 * 2 ^ ancillary-bits) % 2 ^ 64 + few
+        ≡ subframeOf (set .format) (carriedAt set samples slot) (carriedAt set ancillary slot) sequencing
+    plain-number sequencing {at = at} {few = few} at-is less few-is =
+        used-number at-is less few-is refl (plain-is (getD samples at 0) few sequencing named short (small-at named at))
+
+  -- and an unused one's
+  pub idle-number : (bit : ℕ) {slot number : ℕ} → length samples ≤ slot → number ≡ idleNumber (set .format .«overhead_bits») bit
+      → number ≡ subframeOf (set .format) (carriedAt set samples slot) (carriedAt set ancillary slot) bit
+  unfolding carried
+  idle-number bit {slot} past e =
+      let after : set .channels * set .times ≤ slot = omega (arith, p .samples-length) in
+      e ∙ sym (idle-is (set .format) bit) ∙ rw (le-ltb slot (set .channels * set .times) after)
+
+  -- in order 0 slot k carries entry k
+  pub in-order : set .«by_channel» ≡ false → {slot : ℕ} → slot ≡ entryAt set slot
+  unfolding entryOfSlot
+  in-order is = rw is
+
+  -- in order 1 the entries go on by C
+  module _ (is : set .«by_channel» ≡ true) where
+    pub entry-first : 0 ≡ entryAt set 0
+    unfolding entryOfSlot
+    entry-first =
+        sym
+        (ap (λ (b : Bool). entryOfSlot b (set .channels) (set .times) 0) is
+        ∙ ap₂ (λ (low high : ℕ). low * set .channels + high) (zero-mod (set .times)) (zero-div (set .times))
+        ∙ omega (arith, zero-mul (set .channels)))
+
+    module _ {slot entry : ℕ} (here : entry ≡ entryAt set slot) (less : slot < length samples) where
+      used-slot : slot < set .channels * set .times
+      used-slot = omega (arith, p .samples-length)
+
+      pub entry-in : entry < length samples
+      entry-in =
+          omega (arith, here, entry-lt (set .channels) (set .times) (p .limits .times-from) (set .«by_channel») used-slot, p .samples-length)
+
+      pub entry-on : {next : ℕ} → next ≡ stepOn (set .channels) (length samples) entry % 2 ^ 64 → next ≡ entryAt set (slot + 1)
+      entry-on e =
+          let short : set .channels ≤ 48
+          = omega (
+            arith,
+            p .limits .used-to,
+            mul-one (set .channels),
+            mul-comm (set .channels) (set .times),
+            mul-comm (set .channels) 1,
+            mul-le-mul-right {m = 1} {n = set .times} (set .channels) (p .limits .times-from),
+          ) in
+          e
+          ∙ step-fits (set .channels) (length samples) entry-in used-few short
+          ∙ ap₂ (stepOn (set .channels)) (p .samples-length)
+          (here ∙ ap (λ (b : Bool). entryOfSlot b (set .channels) (set .times) slot) is)
+          ∙ entry-next (set .channels) (set .times) (p .limits .times-from) used-slot
+          ∙ ap (λ (b : Bool). entryOfSlot b (set .channels) (set .times) (slot + 1)) (sym is)

@@ -13,43 +13,38 @@ use lib.Dec.{eqb, leb, ltb}
 use lib.ListN.{length, getD, drop, drop-of-length-le}
 use lib.Pow.{pow-pos}
 use lib.Seq.{drop-cons}
+use Rattle.runs.specs.Refusals.{orElse}
 use Rattle.runs.proofs.Laws.{split, first-refuses, then-later, past, past-both, neither, both-true, one-shifted}
 use Rattle.formats.specs.declared.Format.{Format}
 use Rattle.formats.specs.declared.Settled.{Settled}
-use Rattle.formats.specs.Formats.{formatOf, settingsOf, settingsRefusal, settled}
+use Rattle.formats.specs.Formats.{formatOf, settingsRefusal}
+use Rattle.formats.specs.Settings.{settingsOf, settled}
 use Rattle.formats.specs.Sound.{Limits}
-use Rattle.formats.proofs.Laws.{
-  settled-of,
-  Settles,
-  settles-all,
-  settled-limits,
-  given-refuses,
-  given-none,
-  given-settled,
-  given-later,
-}
+use Rattle.formats.proofs.Laws.{settled-of, Settles, settles-all, settled-limits, given-refuses, given-none, given-settled, given-later}
+use Rattle.numbers.specs.Code.{sequenceOf}
+use Rattle.numbers.specs.Numbers.{entryOf, indicationRefused}
+use Rattle.numbers.proofs.Laws.{entry-lt}
 use Rattle.sender.specs.declared.Sender.{Sender}
-use Rattle.numbers.specs.Numbers.{entryOf}
-use Rattle.sender.specs.Packing.{Packable, packed, Unites}
-use Rattle.sender.specs.Sender.{zeroState, openState, openedOf, numbersRefused, stateRefusal, usedNow, allBelow, lengthsRefused, valuesRefused, indicationRefused, sendRefusal, secondNow, after, cellNow, sentOf, cellAfter, Writes, Sends}
+use Rattle.sender.specs.Packing.{Packable, packed, filledCell, numbersRefusedBy, lengthsRefusedBy, valuesRefusedBy, Unites, Writes}
+use Rattle.sender.specs.Sender.{formatNow, usedNow, zeroState, openState, openedOf, numbersRefused, stateRefusal, allBelow, lengthsRefused}
+use Rattle.sender.specs.Sender.{valuesRefused, sendRefusal, secondNow, after, cellNow, sentOf, cellAfter, Sends}
+use Rattle.sender.proofs.Packing.{packs}
 
 -- checks 1 to 4, by the settings
-module _ {set : Settled} (octet channels order number : ℕ) (wanted : Bool) (second : ℕ)
-    (given : set ≡ settingsOf octet channels order)
-  where
-    pub by-settings : (set .refusal ≡ 0 → ⊥) → set .refusal ≡ stateRefusal octet channels order number wanted second
-    unfolding stateRefusal
-    by-settings some = given-refuses octet channels order _ given some
+module _ (st : Sender) {set : Settled} (given : set ≡ settingsOf (st .format) (st .channels) (st .order)) where
+  pub by-settings : (set .refusal ≡ 0 → ⊥) → set .refusal ≡ stateRefusal st
+  unfolding stateRefusal
+  by-settings some = given-refuses (st .format) (st .channels) (st .order) _ given some
 
-    pub by-numbers : (none : set .refusal ≡ 0) {b : Bool} → b ≡ numbersRefused (set .format) number wanted second
-        → cond b 4 0 ≡ stateRefusal octet channels order number wanted second
-    unfolding stateRefusal
-    by-numbers none e =
-        ap (λ (b : Bool). cond b 4 0)
-        (e
-        ∙ ap (λ (x : Settled). numbersRefused (x .format) number wanted second)
-        (given-settled octet channels order 0 given none))
-        ∙ sym (given-later octet channels order _ given none)
+  pub by-numbers : set .refusal ≡ 0 → {b : Bool} → b ≡ numbersRefusedBy (set .format) (st .number) (st .wanted) (st .second)
+      → cond b 4 0 ≡ stateRefusal st
+  unfolding stateRefusal numbersRefused numbersRefusedBy
+  by-numbers none e =
+      ap (λ (b : Bool). cond b 4 0)
+      (e
+      ∙ ap (λ (x : Settled). numbersRefusedBy (x .format) (st .number) (st .wanted) (st .second))
+      (given-settled (st .format) (st .channels) (st .order) 0 given none))
+      ∙ sym (given-later (st .format) (st .channels) (st .order) _ given none)
 
 -- what checks 1 to 4 leave where none refuses
 pub record StatePasses (octet channels order number second : ℕ) : Type 0 where
@@ -57,57 +52,43 @@ pub record StatePasses (octet channels order number second : ℕ) : Type 0 where
   pub number-to : number ≤ 15
   pub second-to : second ≤ 15
 
-pub state-passes : (octet channels order number : ℕ) (wanted : Bool) (second : ℕ)
-    → stateRefusal octet channels order number wanted second ≡ 0 → StatePasses octet channels order number second
+pub state-passes : (st : Sender) → stateRefusal st ≡ 0 → StatePasses (st .format) (st .channels) (st .order) (st .number) (st .second)
 unfolding stateRefusal numbersRefused
-state-passes octet channels order number wanted second e =
-    let both = past-both (settingsRefusal octet channels order) _ e in
-    let fourth = past (numbersRefused (formatOf octet) number wanted second) 3 0 (both .1) in
-    let first = neither (ltb 15 number) _ (fourth .0) in
-    let next = neither (ltb 15 second) _ (first .1) in
+state-passes st e =
+    let both = past-both (settingsRefusal (st .format) (st .channels) (st .order)) _ e in
+    let fourth = past (numbersRefused st) 3 0 (both .1) in
+    let first = neither (ltb 15 (st .number)) _ (fourth .0) in
+    let next = neither (ltb 15 (st .second)) _ (first .1) in
     record {
-      settles = settles-all octet channels order (both .0);
-      number-to = ltb-false 15 number (first .0);
-      second-to = ltb-false 15 second (next .0);
+      settles = settles-all (st .format) (st .channels) (st .order) (both .0);
+      number-to = ltb-false 15 (st .number) (first .0);
+      second-to = ltb-false 15 (st .second) (next .0);
     }
 
 -- an opening, refused and taken
 module _ (octet channels order number : ℕ) (wanted : Bool) (second : ℕ) where
-  pub opens-refused : {n : ℕ} → (n ≡ 0 → ⊥) → n ≡ stateRefusal octet channels order number wanted second
+  pub opens-refused : {n : ℕ} → (n ≡ 0 → ⊥) → n ≡ stateRefusal (openState octet channels order number wanted second)
       → record { refusal = n; state = zeroState } ≡ openedOf octet channels order number wanted second
   unfolding openedOf
   opens-refused some e = rw (← e, ne-eqb _ _ some)
 
-  pub opens : 0 ≡ stateRefusal octet channels order number wanted second
+  pub opens : 0 ≡ stateRefusal (openState octet channels order number wanted second)
       → record { refusal = 0; state = openState octet channels order number wanted second }
       ≡ openedOf octet channels order number wanted second
   unfolding openedOf
   opens e = rw (← e)
 
--- check 5, one length after the other
-module _ (used : ℕ) (samples ancillary : List ℕ) (room : ℕ) where
-  pub no-room : (room ≡ 48 → ⊥) → true ≡ lengthsRefused used samples ancillary room
-  unfolding lengthsRefused
-  no-room other = rw (ne-eqb room 48 other)
-
-  module _ (whole : room ≡ 48) where
-    pub no-samples : (length samples ≡ used → ⊥) → true ≡ lengthsRefused used samples ancillary room
-    unfolding lengthsRefused
-    no-samples other = rw (eq-eqb room 48 whole, ne-eqb (length samples) used other)
-
-    pub by-ancillary : length samples ≡ used → not (eqb (length ancillary) used) ≡ lengthsRefused used samples ancillary room
-    unfolding lengthsRefused
-    by-ancillary all = rw (eq-eqb room 48 whole, eq-eqb (length samples) used all)
-
-  pub lengths-are : lengthsRefused used samples ancillary room ≡ false → (room ≡ 48) × (length samples ≡ used) × (length ancillary ≡ used)
-  unfolding lengthsRefused
-  lengths-are taken =
-      let first = neither (not (eqb room 48)) _ taken in
-      let next = neither (not (eqb (length samples) used)) _ (first .1) in (
-        eqb-true room 48 (not-false _ (first .0)),
-        eqb-true (length samples) used (not-false _ (next .0)),
-        eqb-true (length ancillary) used (not-false _ (next .1)),
-      )
+-- what check 5 leaves
+pub lengths-are : (used : ℕ) (samples ancillary : List ℕ) (room : ℕ) → lengthsRefusedBy used samples ancillary room ≡ false
+    → (room ≡ 48) × (length samples ≡ used) × (length ancillary ≡ used)
+unfolding lengthsRefusedBy
+lengths-are used samples ancillary room taken =
+    let first = neither (not (eqb room 48)) _ taken in
+    let next = neither (not (eqb (length samples) used)) _ (first .1) in (
+      eqb-true room 48 (not-false _ (first .0)),
+      eqb-true (length samples) used (not-false _ (next .0)),
+      eqb-true (length ancillary) used (not-false _ (next .1)),
+    )
 
 -- numbers are below a power of two just where the bits that any of them has are
 or-below : (a b k : ℕ) → ltb (bitOr a b) (2 ^ k) ≡ ltb a (2 ^ k) && ltb b (2 ^ k)
@@ -161,19 +142,20 @@ united-done {run} {all} {i} so-far end =
     and-true false = refl
 
 -- check 6 by those bits
-module _ (f : Format) (samples ancillary : List ℕ) {all : ℕ} (united : Unites samples all) (to : f .«sample_bits» ≤ 40) where
+module _ (f : Format) (ancillary : List ℕ) {samples : List ℕ} {all : ℕ} (united : Unites samples all) (to : f .«sample_bits» ≤ 40) where
   shifted : (1 * 2 ^ f .«sample_bits») % 2 ^ 64 ≡ 2 ^ f .«sample_bits»
   shifted = one-shifted (omega arith)
 
-  pub samples-refused : (1 * 2 ^ f .«sample_bits») % 2 ^ 64 ≤ all → true ≡ valuesRefused f samples ancillary
-  unfolding valuesRefused
+  pub samples-refused : (1 * 2 ^ f .«sample_bits») % 2 ^ 64 ≤ all → true ≡ valuesRefusedBy f samples ancillary
+  unfolding valuesRefusedBy
   samples-refused far = rw (united .below (f .«sample_bits»), le-ltb all (2 ^ f .«sample_bits») (rw shifted at far))
 
-  pub ancillary-refused : {few four : ℕ} → all < (1 * 2 ^ f .«sample_bits») % 2 ^ 64 → f .«ancillary_bits» ≤ 4 → Unites ancillary few → four ≡ few
-      → leb ((1 * 2 ^ f .«ancillary_bits») % 2 ^ 64) four ≡ valuesRefused f samples ancillary
-  unfolding valuesRefused
-  ancillary-refused {few} {four} near to-4 united-4 e =
-      rw (united .below (f .«sample_bits»), lt-ltb all (2 ^ f .«sample_bits») (rw shifted at near), united-4 .below (f .«ancillary_bits»))
+  pub ancillary-refused : {few as-wide : ℕ} → all < (1 * 2 ^ f .«sample_bits») % 2 ^ 64 → f .«ancillary_bits» ≤ 4
+      → Unites ancillary few → as-wide ≡ few
+      → leb ((1 * 2 ^ f .«ancillary_bits») % 2 ^ 64) as-wide ≡ valuesRefusedBy f samples ancillary
+  unfolding valuesRefusedBy
+  ancillary-refused {few} near to-4 united-few e =
+      rw (united .below (f .«sample_bits»), lt-ltb all (2 ^ f .«sample_bits») (rw shifted at near), united-few .below (f .«ancillary_bits»))
       (ap₂ leb (one-shifted (let h : f .«ancillary_bits» < 64 = omega arith in h)) e ∙ not-below (2 ^ f .«ancillary_bits») few)
     where
       not-below : (bound n : ℕ) → leb bound n ≡ not (ltb n bound)
@@ -188,100 +170,89 @@ below-each bound [] some e i = some
 below-each bound (x ∷ xs) some e zero = ltb-true x bound (both-true (ltb x bound) (allBelow bound xs) e .0)
 below-each bound (x ∷ xs) some e (suc i) = below-each bound xs some (both-true (ltb x bound) (allBelow bound xs) e .1) i
 
--- checks 5 to 7 in their turn, by the settings
-module _ {set : Settled} (st : Sender) (indication : Bool) (samples ancillary : List ℕ) (room : ℕ)
-    (given : set ≡ settingsOf (st .format) (st .channels) (st .order))
-  where
-    abbrev refusal : ℕ
-    refusal = sendRefusal st indication samples ancillary room
+-- what a call of `send` was given, its cell apart
+pub record Call : Type 0 where
+  pub state : Sender
+  pub indication : Bool
+  pub samples : List ℕ
+  pub ancillary : List ℕ
 
-    pub sends-first : {n : ℕ} → (n ≡ 0 → ⊥)
-        → n ≡ stateRefusal (st .format) (st .channels) (st .order) (st .number) (st .wanted) (st .second) → n ≡ refusal
-    unfolding sendRefusal
-    sends-first some e = e ∙ sym (first-refuses _ (λ z. some (e ∙ z)))
+-- its refusal, where the cell has so many octets
+abbrev pub refusalOf : Call → ℕ → ℕ
+refusalOf c room = sendRefusal (c .state) (c .indication) (c .samples) (c .ancillary) room
 
-    pub sends-settings : (set .refusal ≡ 0 → ⊥) → set .refusal ≡ refusal
-    sends-settings some =
-        sends-first some
-        (by-settings (st .format) (st .channels) (st .order) (st .number) (st .wanted) (st .second) given some)
+-- the checks in their turn, by the settings: what is left of them from each on
+abbrev pub from-7 : Call → ℕ
+from-7 c = cond (indicationRefused (c .state .number) (c .indication)) 7 0
 
-    module _ (none : set .refusal ≡ 0) where
-      is : set ≡ settled (st .format) (st .channels) (st .order)
-      is = given-settled (st .format) (st .channels) (st .order) 0 given none
+abbrev pub from-6 : Call → Settled → ℕ
+from-6 c set = cond (valuesRefusedBy (set .format) (c .samples) (c .ancillary)) 6 (from-7 c)
 
-      -- what the settings bound
-      pub limits : Limits set
-      limits =
-          settled-limits (st .format) (st .channels) (st .order) is
-          (given-none (st .format) (st .channels) (st .order) 0 given none)
+abbrev pub from-5 : Call → ℕ → Settled → ℕ
+from-5 c room set = cond (lengthsRefusedBy (set .channels * set .times) (c .samples) (c .ancillary) room) 5 (from-6 c set)
 
-      pub sends-4 : true ≡ numbersRefused (set .format) (st .number) (st .wanted) (st .second) → 4 ≡ refusal
-      sends-4 e =
-          sends-first (suc-ne-zero 3)
-          (by-numbers (st .format) (st .channels) (st .order) (st .number) (st .wanted) (st .second) given none e)
+abbrev pub from-4 : Call → ℕ → Settled → ℕ
+from-4 c room set =
+    cond (numbersRefusedBy (set .format) (c .state .number) (c .state .wanted) (c .state .second)) 4 (from-5 c room set)
 
-      module _ (fourth : false ≡ numbersRefused (set .format) (st .number) (st .wanted) (st .second)) where
-        later : refusal
-            ≡ cond (lengthsRefused (set .channels * set .times) samples ancillary room) 5
-            (cond (valuesRefused (set .format) samples ancillary) 6 (cond (indicationRefused (st .number) indication) 7 0))
-        unfolding sendRefusal
-        later =
-            then-later _
-            (sym (by-numbers (st .format) (st .channels) (st .order) (st .number) (st .wanted) (st .second) given none fourth))
-            ∙ ap
-            (λ (x : Settled).
-            cond (lengthsRefused (x .channels * x .times) samples ancillary room) 5
-            (cond (valuesRefused (x .format) samples ancillary) 6 (cond (indicationRefused (st .number) indication) 7 0)))
-            (sym is)
+module _ (c : Call) (room : ℕ) {set : Settled} (given : set ≡ settingsOf (c .state .format) (c .state .channels) (c .state .order)) where
+  pub by-set : (set .refusal ≡ 0 → ⊥) → set .refusal ≡ refusalOf c room
+  unfolding sendRefusal
+  by-set some =
+      by-settings (c .state) given some ∙ sym (first-refuses _ (λ z. some (by-settings (c .state) given some ∙ z)))
 
-        pub sends-5 : true ≡ lengthsRefused (set .channels * set .times) samples ancillary room → 5 ≡ refusal
-        sends-5 e = sym (later ∙ rw (← e))
+  pub by-checks : set .refusal ≡ 0 → refusalOf c room ≡ from-4 c room set
+  unfolding sendRefusal lengthsRefused lengthsRefusedBy valuesRefused valuesRefusedBy
+  by-checks none =
+      let rest = from-5 c room (settled (c .state .format) (c .state .channels) (c .state .order)) in
+      ap (λ (n : ℕ). orElse n rest) (sym (by-numbers (c .state) given none refl))
+      ∙ either (numbersRefusedBy (set .format) (c .state .number) (c .state .wanted) (c .state .second)) rest
+      ∙ ap
+      (λ (x : Settled). cond (numbersRefusedBy (set .format) (c .state .number) (c .state .wanted) (c .state .second)) 4 (from-5 c room x))
+      (sym (given-settled (c .state .format) (c .state .channels) (c .state .order) 0 given none))
+    where
+      either : (b : Bool) (rest : ℕ) → orElse (cond b 4 0) rest ≡ cond b 4 rest
+      either true rest = first-refuses rest (suc-ne-zero 3)
+      either false rest = then-later rest refl
 
-        module _ (fit : false ≡ lengthsRefused (set .channels * set .times) samples ancillary room) where
-          pub sends-6 : true ≡ valuesRefused (set .format) samples ancillary → 6 ≡ refusal
-          sends-6 e = sym (later ∙ rw (← fit, ← e))
-
-          module _ (small : false ≡ valuesRefused (set .format) samples ancillary) where
-            pub sends-7 : true ≡ indicationRefused (st .number) indication → 7 ≡ refusal
-            sends-7 e = sym (later ∙ rw (← fit, ← small, ← e))
-
-            pub sends-0 : false ≡ indicationRefused (st .number) indication → 0 ≡ refusal
-            sends-0 e = sym (later ∙ rw (← fit, ← small, ← e))
+-- what the settings bound where they are not refused
+pub limits : (st : Sender) {set : Settled} → set ≡ settingsOf (st .format) (st .channels) (st .order) → set .refusal ≡ 0 → Limits set
+limits st given none =
+    settled-limits (st .format) (st .channels) (st .order) (given-settled (st .format) (st .channels) (st .order) 0 given none)
+    (given-none (st .format) (st .channels) (st .order) 0 given none)
 
 -- everything that packing asks, where nothing is refused
 module _ (st : Sender) (indication : Bool) (samples ancillary : List ℕ) (room : ℕ)
     (none : sendRefusal st indication samples ancillary room ≡ 0)
   where
-    abbrev f : Format
-    f = formatOf (st .format)
+    abbrev seven : ℕ
+    seven = cond (indicationRefused (st .number) indication) 7 0
 
-    abbrev from-7 : ℕ
-    from-7 = cond (indicationRefused (st .number) indication) 7 0
+    abbrev six : ℕ
+    six = cond (valuesRefused st samples ancillary) 6 seven
 
-    abbrev from-6 : ℕ
-    from-6 = cond (valuesRefused (formatOf (st .format)) samples ancillary) 6 from-7
+    abbrev five : ℕ
+    five = cond (lengthsRefused st samples ancillary room) 5 six
 
-    abbrev from-5 : ℕ
-    from-5 = cond (lengthsRefused (usedNow st) samples ancillary room) 5 from-6
-
-    state-none : (stateRefusal (st .format) (st .channels) (st .order) (st .number) (st .wanted) (st .second) ≡ 0) × (from-5 ≡ 0)
+    state-none : (stateRefusal st ≡ 0) × (five ≡ 0)
     unfolding sendRefusal
     state-none = past-both _ _ none
 
     pub passes : StatePasses (st .format) (st .channels) (st .order) (st .number) (st .second)
-    passes = state-passes (st .format) (st .channels) (st .order) (st .number) (st .wanted) (st .second) (state-none .0)
+    passes = state-passes st (state-none .0)
 
     pub settings-none : settingsRefusal (st .format) (st .channels) (st .order) ≡ 0
     unfolding stateRefusal
     settings-none = past-both (settingsRefusal (st .format) (st .channels) (st .order)) _ (state-none .0) .0
 
-    fifth : (lengthsRefused (usedNow st) samples ancillary room ≡ false) × (from-6 ≡ 0)
-    fifth = past (lengthsRefused (usedNow st) samples ancillary room) 4 from-6 (state-none .1)
+    fifth : (lengthsRefused st samples ancillary room ≡ false) × (six ≡ 0)
+    fifth = past (lengthsRefused st samples ancillary room) 4 six (state-none .1)
 
-    sixth : (valuesRefused (formatOf (st .format)) samples ancillary ≡ false) × (from-7 ≡ 0)
-    sixth = past (valuesRefused (formatOf (st .format)) samples ancillary) 5 from-7 (fifth .1)
+    sixth : (valuesRefused st samples ancillary ≡ false) × (seven ≡ 0)
+    sixth = past (valuesRefused st samples ancillary) 5 seven (fifth .1)
 
     lengths : (room ≡ 48) × (length samples ≡ usedNow st) × (length ancillary ≡ usedNow st)
+    unfolding lengthsRefused lengthsRefusedBy
     lengths = lengths-are (usedNow st) samples ancillary room (fifth .0)
 
     pub room-is : room ≡ 48
@@ -290,10 +261,10 @@ module _ (st : Sender) (indication : Bool) (samples ancillary : List ℕ) (room 
     pub packable : Packable (settled (st .format) (st .channels) (st .order)) samples ancillary
     unfolding valuesRefused
     packable =
-        let bounds = settled-limits (st .format) (st .channels) (st .order) refl settings-none in
+        let f = formatNow st in
         let values = neither (not (allBelow (2 ^ f .«sample_bits») samples)) _ (sixth .0) in
         record {
-          limits = bounds;
+          limits = settled-limits (st .format) (st .channels) (st .order) refl settings-none;
           samples-length = lengths .1;
           ancillary-length = lengths .2;
           small = below-each (2 ^ f .«sample_bits») samples (pow-pos (f .«sample_bits»)) (not-false _ (values .0));
@@ -309,72 +280,77 @@ second-lt st indication to = either (st .wanted && (indication && st .sent))
     either false = omega arith
 
 -- a cell refused, and written
-module _ (st : Sender) (indication : Bool) (samples ancillary cell : List ℕ) where
-  pub writes-refused : {n : ℕ} → (n ≡ 0 → ⊥) → n ≡ sendRefusal st indication samples ancillary (length cell)
-      → Writes st indication samples ancillary cell n cell
+module _ (c : Call) (cell : List ℕ) where
+  abbrev state : Sender
+  state = c .state
+
+  pub writes-refused : {n : ℕ} → (n ≡ 0 → ⊥) → n ≡ refusalOf c (length cell)
+      → Writes (c .state) (c .indication) (c .samples) (c .ancillary) cell n cell
   unfolding cellAfter
   writes-refused some e = record { refused = e; cell-after = rw (← e, ne-eqb _ _ some) }
 
-  module _ {set : Settled} (given : set ≡ settingsOf (st .format) (st .channels) (st .order))
-      (none : 0 ≡ sendRefusal st indication samples ancillary (length cell))
+  module _ {set : Settled} (given : set ≡ settingsOf (state .format) (state .channels) (state .order))
+      (none : 0 ≡ refusalOf c (length cell))
     where
-      pub set-is : set ≡ settled (st .format) (st .channels) (st .order)
+      set-is : set ≡ settled (state .format) (state .channels) (state .order)
       set-is =
           given
-          ∙ settled-of (st .format) (st .channels) (st .order)
-          (settings-none st indication samples ancillary (length cell) (sym none))
+          ∙ settled-of (state .format) (state .channels) (state .order)
+          (settings-none state (c .indication) (c .samples) (c .ancillary) (length cell) (sym none))
 
-      pub can-pack : {second : ℕ} → second ≡ secondNow st indication
-          → Packable set samples ancillary × (second < 16) × (length cell ≡ 48)
-      can-pack second-is = (
-        rw set-is (packable st indication samples ancillary (length cell) (sym none)),
-        rw second-is (second-lt st indication (passes st indication samples ancillary (length cell) (sym none) .second-to)),
-        room-is st indication samples ancillary (length cell) (sym none),
+      pub can-pack : Packable set (c .samples) (c .ancillary) × (length cell ≡ 48)
+      can-pack = (
+        rw set-is (packable state (c .indication) (c .samples) (c .ancillary) (length cell) (sym none)),
+        room-is state (c .indication) (c .samples) (c .ancillary) (length cell) (sym none),
       )
 
-      pub writes-taken : {second word : ℕ} {cell₁ : List ℕ} → second ≡ secondNow st indication → word ≡ entryOf (st .number % 16)
-          → cell₁ ≡ packed set word second samples ancillary
-          → Writes st indication samples ancillary cell 0 cell₁
+      pub writes-taken : {second sequence : ℕ} {cell₁ : List ℕ} → second ≡ secondNow state (c .indication)
+          → sequence ≡ sequenceOf (entryOf (state .number % 16)) second
+          → cell₁ ≡ filledCell set sequence (c .samples) (c .ancillary)
+          → Writes (c .state) (c .indication) (c .samples) (c .ancillary) cell 0 cell₁
       unfolding cellAfter cellNow
-      writes-taken {second} {word} second-is word-is written =
-          let number-to = passes st indication samples ancillary (length cell) (sym none) .number-to in
-          let low : st .number % 16 ≡ st .number = mod-eq-of-lt (omega arith) in
+      writes-taken {second} second-is sequence-is filled =
+          let passed = passes state (c .indication) (c .samples) (c .ancillary) (length cell) (sym none) in
+          let low : state .number % 16 ≡ state .number = mod-eq-of-lt (omega (arith, passed .number-to)) in
           record {
             refused = none;
             cell-after =
-                written
-                ∙ ap (λ (x : Settled). packed x word second samples ancillary) set-is
-                ∙ ap₂ (λ (w n : ℕ). packed (settled (st .format) (st .channels) (st .order)) w n samples ancillary)
-                (word-is ∙ ap entryOf low) second-is
+                packs set (c .samples) (c .ancillary) (entryOf (state .number % 16)) second (entry-lt (mod-lt (state .number) (omega arith)))
+                (rw second-is (second-lt state (c .indication) (passed .second-to))) sequence-is filled
+                ∙ ap (λ (x : Settled). packed x (entryOf (state .number % 16)) second (c .samples) (c .ancillary)) set-is
+                ∙ ap₂
+                (λ (n m : ℕ). packed (settled (state .format) (state .channels) (state .order)) (entryOf n) m (c .samples) (c .ancillary))
+                low second-is
                 ∙ rw (← none);
           }
 
   -- and the answer to it
-  module _ {refusal : ℕ} {cell₁ : List ℕ} (writes : Writes st indication samples ancillary cell refusal cell₁) where
-    pub sends-refused : (refusal ≡ 0 → ⊥) → Sends st indication samples ancillary cell (record { refusal = refusal; state = st }) cell₁
+  module _ {refusal : ℕ} {cell₁ : List ℕ} (writes : Writes (c .state) (c .indication) (c .samples) (c .ancillary) cell refusal cell₁) where
+    pub sends-refused : (refusal ≡ 0 → ⊥)
+        → Sends (c .state) (c .indication) (c .samples) (c .ancillary) cell (record { refusal = refusal; state = state }) cell₁
     unfolding sentOf
     sends-refused some =
         record { answered = rw (← writes .refused, ne-eqb _ _ some); cell-after = writes .cell-after }
 
     module _ (taken : refusal ≡ 0) where
-      pub number-lt : st .number < 16
+      pub number-lt : state .number < 16
       number-lt =
           omega (
             arith,
-            passes st indication samples ancillary (length cell) (sym (writes .refused) ∙ taken) .number-to,
+            passes state (c .indication) (c .samples) (c .ancillary) (length cell) (sym (writes .refused) ∙ taken) .number-to,
           )
 
-      pub sends-taken : {second : ℕ} → second ≡ secondNow st indication
-          → Sends st indication samples ancillary cell
+      pub sends-taken : {second : ℕ} → second ≡ secondNow state (c .indication)
+          → Sends (c .state) (c .indication) (c .samples) (c .ancillary) cell
           (record {
             refusal = 0;
             state =
                 record {
-                  format = st .format;
-                  channels = st .channels;
-                  order = st .order;
-                  number = (st .number + 1) % 16;
-                  wanted = st .wanted;
+                  format = state .format;
+                  channels = state .channels;
+                  order = state .order;
+                  number = (state .number + 1) % 16;
+                  wanted = state .wanted;
                   second = second;
                   sent = true;
                 };

@@ -15,31 +15,23 @@ use Rattle.numbers.proofs.Wrong as numbers
 use Rattle.guards.proofs.Wrong as guards
 use Rattle.cells.specs.Cells.{overheadOf, subframeOf, slotOctets, cellOf}
 use Rattle.cells.specs.Placement.{entryOfSlot, carried}
+use Rattle.sender.specs.declared.Ready.{Ready}
 use Rattle.sender.specs.declared.Sender.{Sender}
 use Rattle.sender.specs.declared.Sent.{Sent}
-use Rattle.sender.specs.Sender.{
-  numbersRefused,
-  stateRefusal,
-  openedOf,
-  allBelow,
-  lengthsRefused,
-  valuesRefused,
-  indicationRefused,
-  sendRefusal,
-  secondNow,
-  after,
-  cellNow,
-  sentOf,
-  cellAfter,
-}
+use Rattle.sender.specs.Sender.{numbersRefused, stateRefusal, openedOf, allBelow, lengthsRefused, valuesRefused, sendRefusal, secondNow, after}
+use Rattle.sender.specs.Sender.{cellNow, sentOf, cellAfter}
 use Rattle.sender.proofs.opened.Kinds as opened-kinds
 use Rattle.sender.proofs.opened.Reads as opened-reads
 use Rattle.sender.proofs.send.Kinds as send-kinds
 use Rattle.sender.proofs.send.Reads as send-reads
 
--- every definition on the way down to the numbers
+-- every definition on the way down to the numbers, those of a cell first
+unfoldable pub cell-unfolded : Unit {0}
+unfolding orElse joined octetsOf formats.unfolded numbers.unfolded guards.unfolded overheadOf subframeOf slotOctets cellOf entryOfSlot carried
+cell-unfolded = tt
+
 unfoldable pub unfolded : Unit {0}
-unfolding orElse joined octetsOf formats.unfolded numbers.unfolded guards.unfolded overheadOf subframeOf slotOctets cellOf entryOfSlot carried numbersRefused stateRefusal openedOf allBelow lengthsRefused valuesRefused indicationRefused sendRefusal secondNow after cellNow sentOf cellAfter
+unfolding cell-unfolded numbersRefused stateRefusal openedOf allBelow lengthsRefused valuesRefused sendRefusal secondNow after cellNow sentOf cellAfter
 unfolded = tt
 
 -- openings: format, C, order, first number, second number wanted or not, its start
@@ -48,19 +40,19 @@ module _ (κs : Lfts 0) where
   pub opening-not-always-refused : Never opened-kinds.ps opened-kinds.r opened-reads.Post κs
       (0x56, (2, (0, (0, (true, (3, tt)))))) (λ x v. x .refusal ≡ 0 → ⊥)
   unfolding unfolded
-  opening-not-always-refused x v wrong p = wrong (ap (λ (s : Sent). s .refusal) p)
+  opening-not-always-refused x v wrong p = wrong (ap (λ (s : Ready). s .refusal) p)
 
   -- a start number of 16 taken for 0
   pub opening-not-modulo-16 : Never opened-kinds.ps opened-kinds.r opened-reads.Post κs
       (0x56, (2, (0, (16, (false, (0, tt)))))) (λ x v. x .refusal ≡ 0)
   unfolding unfolded
-  opening-not-modulo-16 x v wrong p = let right : x .refusal ≡ 4 = ap (λ (s : Sent). s .refusal) p in omega arith
+  opening-not-modulo-16 x v wrong p = let right : x .refusal ≡ 4 = ap (λ (s : Ready). s .refusal) p in omega arith
 
   -- the numbers of a refused opening kept in its state
   pub refused-opening-not-kept : Never opened-kinds.ps opened-kinds.r opened-reads.Post κs
       (0x56, (13, (0, (0, (false, (0, tt)))))) (λ x v. x .state .channels ≡ 13)
   unfolding unfolded
-  refused-opening-not-kept x v wrong p = let right : x .state .channels ≡ 0 = ap (λ (s : Sent). s .state .channels) p in omega arith
+  refused-opening-not-kept x v wrong p = let right : x .state .channels ≡ 0 = ap (λ (s : Ready). s .state .channels) p in omega arith
 
 -- a sender of one channel in 5A hex, eight samples of forty bits in a cell, its next cell to have this number
 abbrev studio : ℕ → Sender

@@ -1,32 +1,24 @@
-// Filling a cell's slots with subframes: slot after slot, octet after octet.
+// Filling a cell's used slots: one loop for each order with overhead, and one for each order without.
 //
-// One loop for each order serves all formats. It is called with a format's numbers as constants, so that the compiler makes a
-// loop of each without a shift or a width that varies.
-ghost use mathlib.Core.List.{_++_};
+// A loop is called with a format's numbers as constants, and the compiler then makes a loop for that format alone. The promise is
+// said by the settings: the constants are the numbers of their format.
 ghost use mathlib.Core.Path.{_≡_};
-ghost use Prim.Native.Nat.{_+_, _*_, _/_, _%_, _^_, _≤_, _<_};
-ghost use lib.ListN.{length, take, drop};
-ghost use Rattle.runs.specs.Runs.{octetsOf};
-ghost use Rattle.formats.specs.Sound.{Sound};
-ghost use Rattle.cells.specs.Cells.{subframeOf};
-ghost use Rattle.cells.specs.Code.{stepOn};
+ghost use Prim.Native.Nat.{_+_, _*_, _%_, _^_, _≤_, _<_};
+ghost use lib.ListN.{length};
+ghost use Rattle.guards.specs.Guards.{nineOf, tenGuard, guardOf};
 ghost use Rattle.guards.specs.Code.{sevenGuards};
-ghost use Rattle.sender.specs.Packing.{
-  lowOctets,
-  shape,
-  Fillable,
-  Turnable,
-  inOrder,
-  byChannel,
-  written,
-};
-use crate::judge::wide;
+ghost use mathlib.Core.Bool.{true, false};
+ghost use Rattle.sender.specs.Packing.{Packable, Named, filledTo};
+use crate::octets::put;
+use cells::next_place;
+use cells::wide;
+use formats::Settled;
 
 // The ancillary bits in their place in a subframe's last octet, and what V adds to the protection bits.
-pub(crate) fn low_of(four: u64) -> u64
-    ensures { λ r. ⌜ r ≡ four % 16 * 16 + four % 16 % 2 * 3 ⌝ }
+fn low_of(ancillary: u64) -> u64
+    ensures { λ r. ⌜ r ≡ ancillary % 16 * 16 + ancillary % 16 % 2 * 3 ⌝ }
 {
-    let key = four % 16;
+    let key = ancillary % 16;
     match key {
         0 => 0,
         1 => 19,
@@ -47,153 +39,77 @@ pub(crate) fn low_of(four: u64) -> u64
     }
 }
 
-// One subframe as a number, with the protection bits of the table.
-fn subframe(
-    table: &[u8; 128],
-    length: u64,
-    four: u64,
-    overhead: u64,
+// The protection bits of a sample where V is 0, looked up in the table of `guards::sevens`.
+fn guard_in(table: &[u8; 128], sample_bits: u64, sample: u64) -> u64
+    requires { ⌜ (now table ≡ sevenGuards) × (8 ≤ «sample_bits») × («sample_bits» ≤ 40) × (sample < 2 ^ «sample_bits») ⌝ }
+    ensures { λ r. ⌜ r ≡ tenGuard (nineOf «sample_bits» sample * 2) ⌝ }
+{
+    let nine = (sample * 2) >> (sample_bits - 8);
+    let ten = nine * 2;
+    let place = ((ten ^ (ten >> 7)) % 128) as usize;
+    wide(table[place])
+}
+
+// A subframe with overhead as a number. `guard` has the sample's protection bits where V is 0; the sample's length is for the
+// promise alone.
+pub(crate) fn subframe(
+    sample_bits: u64,
+    ancillary_bits: u64,
     sample: u64,
+    guard: u64,
     ancillary: u64,
     bit: u64,
 ) -> u64
-    requires { ⌜ Sound (shape length four overhead) × (now table ≡ sevenGuards) × (sample < 2 ^ length) × (ancillary < 2 ^ four) × (bit < 2) ⌝ }
-    ensures { λ r. ⌜ r ≡ subframeOf (shape length four overhead) sample ancillary bit ⌝ }
+    requires { ⌜ («sample_bits» ≤ 40) × («ancillary_bits» ≤ 4) × (sample < 2 ^ «sample_bits») × (guard ≡ tenGuard (nineOf «sample_bits» sample * 2)) × (ancillary < 2 ^ «ancillary_bits») × (bit < 2) ⌝ }
+    ensures { λ r. ⌜ r ≡ (sample * 2 ^ «ancillary_bits» + ancillary) * 16 + (bit * 8 + guardOf «sample_bits» sample ancillary) ⌝ }
 {
-    let above = sample << (four + overhead);
-    if overhead == 0 {
-        return above + ancillary;
-    }
-    let nine = (sample * 2) >> (length - 8);
-    let ten = nine * 2;
-    let place = ((ten ^ (ten >> 7)) % 128) as usize;
-    let guard = wide(table[place]);
     let low = guard ^ low_of(ancillary);
-    above + (low + bit * 8)
+    (sample << (ancillary_bits + 4)) + (low + bit * 8)
 }
 
-// Writes a number's octets, the highest first.
-pub(crate) fn put(cell: &mut [u8], at: usize, width: usize, number: u64)
-    requires { ⌜ (at + width ≤ length (now cell)) × (width ≤ 6) ⌝ }
-    ensures { λ r. ⌜ now (cell .exit) ≡ take at (now (cell .entry)) ++ octetsOf width number ++ drop (at + width) (now (cell .entry)) ⌝ }
-{
-    let mut i = 0;
-    while i < width {
-        cell[at + i] = ((number >> (8 * (width - 1 - i))) % 256) as u8;
-        i += 1;
-    }
-}
-
-// Writes a number's lowest octets, the lowest first.
-fn put_low(cell: &mut [u8], at: usize, count: usize, number: u64)
-    requires { ⌜ (at + count ≤ length (now cell)) × (count ≤ 8) ⌝ }
-    ensures { λ r. ⌜ now (cell .exit) ≡ take at (now (cell .entry)) ++ lowOctets count number ++ drop (at + count) (now (cell .entry)) ⌝ }
-{
-    let mut i = 0;
-    while i < count {
-        cell[at + i] = ((number >> (8 * i)) % 256) as u8;
-        i += 1;
-    }
-}
-
-// Four octets of a number, and two, turned round.
-fn turned_four(x: u64) -> u64
-    ensures { λ r. ⌜ r ≡ x % 256 * 16777216 + x / 256 % 256 * 65536 + x / 65536 % 256 * 256 + x / 16777216 % 256 ⌝ }
-{
-    x % 256 * 16777216 + x / 256 % 256 * 65536 + x / 65536 % 256 * 256 + x / 16777216 % 256
-}
-
-fn turned_two(x: u64) -> u64
-    ensures { λ r. ⌜ r ≡ x % 256 * 256 + x / 256 % 256 ⌝ }
-{
-    x % 256 * 256 + x / 256 % 256
-}
-
-// Writes six octets of a number, the highest first. Four and two are turned round and written lowest first: so they are two stores,
-// where six that are shifted down stay six.
-pub(crate) fn put_six(cell: &mut [u8], at: usize, number: u64)
-    requires { ⌜ at + 6 ≤ length (now cell) ⌝ }
-    ensures { λ r. ⌜ now (cell .exit) ≡ take at (now (cell .entry)) ++ octetsOf 6 number ++ drop (at + 6) (now (cell .entry)) ⌝ }
-{
-    let four = turned_four(number / 65536);
-    let two = turned_two(number);
-    put_low(cell, at, 4, four);
-    put_low(cell, at + 4, 2, two);
-}
-
-// Writes a subframe's octets, the highest first.
-fn put_subframe(cell: &mut [u8], at: usize, width: usize, number: u64)
-    requires { ⌜ (at + width ≤ length (now cell)) × (width ≤ 6) ⌝ }
-    ensures { λ r. ⌜ now (cell .exit) ≡ take at (now (cell .entry)) ++ octetsOf width number ++ drop (at + width) (now (cell .entry)) ⌝ }
-{
-    if width == 6 {
-        put_six(cell, at, number);
-        return;
-    }
-    put(cell, at, width, number);
-}
-
-// The used slots in order 0: slot k carries entry k.
-pub(crate) fn fill_in_order(
+// With overhead in order 0: slot k carries entry k.
+pub(crate) fn guarded_in_order(
+    set: Settled,
     table: &[u8; 128],
-    length: u64,
-    four: u64,
-    overhead: u64,
+    sample_bits: u64,
+    ancillary_bits: u64,
     width: usize,
     sequence: u64,
     samples: &[u64],
     ancillary: &[u8],
     cell: &mut [u8],
 )
-    requires { ⌜ Fillable (shape length four overhead) width (now table) (now samples) (now ancillary) (now cell) ⌝ }
-    ensures { λ r. ⌜ now (cell .exit) ≡ written (shape length four overhead) inOrder sequence (now (samples .entry)) (now (ancillary .entry)) (now (cell .entry)) ⌝ }
+    requires { ⌜ Packable set (now samples) (now ancillary) × (set .«by_channel» ≡ false) × Named (set .format) «sample_bits» «ancillary_bits» 4 width × (length (now cell) ≡ 48) × (now table ≡ sevenGuards) ⌝ }
+    ensures { λ r. ⌜ now (cell .exit) ≡ filledTo set sequence (now (samples .entry)) (now (ancillary .entry)) (now (cell .entry)) (length (now (samples .entry))) ⌝ }
 {
     let mut rest = sequence;
     let mut slot = 0;
     while slot < samples.len() {
         let bit = rest % 2;
         rest = rest / 2;
-        let number = subframe(
-            table,
-            length,
-            four,
-            overhead,
-            samples[slot],
-            wide(ancillary[slot]),
-            bit,
-        );
-        put_subframe(cell, slot * width, width, number);
+        let sample = samples[slot];
+        let guard = guard_in(table, sample_bits, sample);
+        let few = wide(ancillary[slot]);
+        let number = subframe(sample_bits, ancillary_bits, sample, guard, few, bit);
+        put(cell, slot * width, width, number);
         slot += 1;
     }
 }
 
-// The entry of the next slot in order 1: C further, and where that is past the run back at the next channel's first.
-fn next_entry(channels: usize, used: usize, entry: usize) -> usize
-    requires { ⌜ (entry < used) × (used ≤ 48) × (channels ≤ 48) ⌝ }
-    ensures { λ r. ⌜ r ≡ stepOn channels used entry ⌝ }
-{
-    let next = entry + channels;
-    if next < used {
-        return next;
-    }
-    next - (used - 1)
-}
-
-// The used slots in order 1.
-pub(crate) fn fill_by_channel(
+// With overhead in order 1: the entry goes on by C from slot to slot.
+pub(crate) fn guarded_by_channel(
+    set: Settled,
     table: &[u8; 128],
-    length: u64,
-    four: u64,
-    overhead: u64,
+    sample_bits: u64,
+    ancillary_bits: u64,
     width: usize,
-    channels: usize,
     sequence: u64,
     samples: &[u64],
     ancillary: &[u8],
     cell: &mut [u8],
 )
-    requires { ⌜ Turnable channels (now samples) × Fillable (shape length four overhead) width (now table) (now samples) (now ancillary) (now cell) ⌝ }
-    ensures { λ r. ⌜ now (cell .exit) ≡ written (shape length four overhead) (byChannel channels (now (samples .entry))) sequence (now (samples .entry)) (now (ancillary .entry)) (now (cell .entry)) ⌝ }
+    requires { ⌜ Packable set (now samples) (now ancillary) × (set .«by_channel» ≡ true) × Named (set .format) «sample_bits» «ancillary_bits» 4 width × (length (now cell) ≡ 48) × (now table ≡ sevenGuards) ⌝ }
+    ensures { λ r. ⌜ now (cell .exit) ≡ filledTo set sequence (now (samples .entry)) (now (ancillary .entry)) (now (cell .entry)) (length (now (samples .entry))) ⌝ }
 {
     let mut entry = 0;
     let mut rest = sequence;
@@ -201,17 +117,56 @@ pub(crate) fn fill_by_channel(
     while slot < samples.len() {
         let bit = rest % 2;
         rest = rest / 2;
-        let number = subframe(
-            table,
-            length,
-            four,
-            overhead,
-            samples[entry],
-            wide(ancillary[entry]),
-            bit,
-        );
-        put_subframe(cell, slot * width, width, number);
-        entry = next_entry(channels, samples.len(), entry);
+        let sample = samples[entry];
+        let guard = guard_in(table, sample_bits, sample);
+        let few = wide(ancillary[entry]);
+        let number = subframe(sample_bits, ancillary_bits, sample, guard, few, bit);
+        put(cell, slot * width, width, number);
+        entry = next_place(set.channels, samples.len(), entry);
+        slot += 1;
+    }
+}
+
+// Without overhead in order 0. The sequencing bits aren't sent: the promise has 0 for them.
+pub(crate) fn plain_in_order(
+    set: Settled,
+    ancillary_bits: u64,
+    width: usize,
+    samples: &[u64],
+    ancillary: &[u8],
+    cell: &mut [u8],
+)
+    requires { ⌜ Packable set (now samples) (now ancillary) × (set .«by_channel» ≡ false) × Named (set .format) (set .format .«sample_bits») «ancillary_bits» 0 width × (length (now cell) ≡ 48) ⌝ }
+    ensures { λ r. ⌜ now (cell .exit) ≡ filledTo set 0 (now (samples .entry)) (now (ancillary .entry)) (now (cell .entry)) (length (now (samples .entry))) ⌝ }
+{
+    let mut slot = 0;
+    while slot < samples.len() {
+        let few = wide(ancillary[slot]);
+        let number = (samples[slot] << ancillary_bits) + few;
+        put(cell, slot * width, width, number);
+        slot += 1;
+    }
+}
+
+// Without overhead in order 1.
+pub(crate) fn plain_by_channel(
+    set: Settled,
+    ancillary_bits: u64,
+    width: usize,
+    samples: &[u64],
+    ancillary: &[u8],
+    cell: &mut [u8],
+)
+    requires { ⌜ Packable set (now samples) (now ancillary) × (set .«by_channel» ≡ true) × Named (set .format) (set .format .«sample_bits») «ancillary_bits» 0 width × (length (now cell) ≡ 48) ⌝ }
+    ensures { λ r. ⌜ now (cell .exit) ≡ filledTo set 0 (now (samples .entry)) (now (ancillary .entry)) (now (cell .entry)) (length (now (samples .entry))) ⌝ }
+{
+    let mut entry = 0;
+    let mut slot = 0;
+    while slot < samples.len() {
+        let few = wide(ancillary[entry]);
+        let number = (samples[entry] << ancillary_bits) + few;
+        put(cell, slot * width, width, number);
+        entry = next_place(set.channels, samples.len(), entry);
         slot += 1;
     }
 }

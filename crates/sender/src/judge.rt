@@ -2,24 +2,26 @@
 ghost use mathlib.Core.Path.{_≡_};
 ghost use Prim.Native.Nat.{_≤_};
 ghost use lib.ListN.{length};
-ghost use Rattle.formats.specs.Formats.{settingsOf};
+ghost use Rattle.formats.specs.Settings.{settingsOf};
 ghost use Rattle.sender.specs.Sender.{
-  numbersRefused,
+  openState,
   stateRefusal,
-  lengthsRefused,
-  valuesRefused,
-  indicationRefused,
   sendRefusal,
   secondNow,
 };
-ghost use Rattle.sender.specs.Packing.{Unites};
+ghost use Rattle.sender.specs.Packing.{
+  numbersRefusedBy,
+  lengthsRefusedBy,
+  valuesRefusedBy,
+  Unites,
+};
 use crate::Sender;
 use formats::Format;
 use formats::Settled;
 
 // Check 4, of numbers as they stand.
 pub(crate) fn numbers(format: Format, number: u32, wanted: bool, second: u32) -> bool
-    ensures { λ r. ⌜ r ≡ numbersRefused format number wanted second ⌝ }
+    ensures { λ r. ⌜ r ≡ numbersRefusedBy format number wanted second ⌝ }
 {
     if 15 < number {
         return true;
@@ -45,7 +47,7 @@ pub(crate) fn state_refusal(
     wanted: bool,
     second: u32,
 ) -> u8
-    ensures { λ r. ⌜ r ≡ stateRefusal octet channels order number wanted second ⌝ }
+    ensures { λ r. ⌜ r ≡ stateRefusal (openState octet channels order number wanted second) ⌝ }
 {
     let set = formats::settings(octet, channels, order);
     let refusal = set.refusal;
@@ -59,7 +61,7 @@ pub(crate) fn state_refusal(
     0
 }
 
-// The bits that any sample has, and those that any ancillary number has: they are below a power of two just where all the numbers
+// The bits that any sample has, and those that any ancillary number has. They are below a power of two just where all the numbers
 // are.
 struct AllBits {
     samples: u64,
@@ -84,15 +86,9 @@ fn united(samples: &[u64], ancillary: &[u8]) -> AllBits
     }
 }
 
-pub(crate) fn wide(octet: u8) -> u64
-    ensures { λ r. ⌜ r ≡ octet ⌝ }
-{
-    octet as u64
-}
-
 // Check 5.
 fn lengths_refused(used: usize, samples: &[u64], ancillary: &[u8], room: usize) -> bool
-    ensures { λ r. ⌜ r ≡ lengthsRefused used (now (samples .entry)) (now (ancillary .entry)) room ⌝ }
+    ensures { λ r. ⌜ r ≡ lengthsRefusedBy used (now (samples .entry)) (now (ancillary .entry)) room ⌝ }
 {
     if room != 48 {
         return true;
@@ -106,23 +102,13 @@ fn lengths_refused(used: usize, samples: &[u64], ancillary: &[u8], room: usize) 
 // Check 6.
 fn values_refused(format: Format, samples: &[u64], ancillary: &[u8]) -> bool
     requires { ⌜ (format .«sample_bits» ≤ 40) × (format .«ancillary_bits» ≤ 4) × (length (now ancillary) ≡ length (now samples)) ⌝ }
-    ensures { λ r. ⌜ r ≡ valuesRefused format (now (samples .entry)) (now (ancillary .entry)) ⌝ }
+    ensures { λ r. ⌜ r ≡ valuesRefusedBy format (now (samples .entry)) (now (ancillary .entry)) ⌝ }
 {
     let bits = united(samples, ancillary);
     if 1 << format.sample_bits <= bits.samples {
         return true;
     }
-    1 << format.ancillary_bits <= wide(bits.ancillary)
-}
-
-// Check 7.
-fn indication_refused(number: u8, indication: bool) -> bool
-    ensures { λ r. ⌜ r ≡ indicationRefused number indication ⌝ }
-{
-    if !indication {
-        return false;
-    }
-    number % 8 != 0
+    1 << format.ancillary_bits <= cells::wide(bits.ancillary)
 }
 
 // Checks 1 to 7 of a call of `send`, by the settings of its state.
@@ -156,7 +142,7 @@ pub(crate) fn send_refusal(
     if values_refused(format, samples, ancillary) {
         return 6;
     }
-    if indication_refused(state.number, indication) {
+    if numbers::indication_refused(state.number, indication) {
         return 7;
     }
     0

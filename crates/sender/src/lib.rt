@@ -1,10 +1,11 @@
 // The sender's box, document 01: opening and sending, refusals 1 to 7.
 ghost use mathlib.Core.Path.{_≡_};
-ghost use Rattle.sender.specs.Sender.{openedOf, Writes, Sends};
+ghost use Rattle.sender.specs.Sender.{secondNow, openedOf, Sends};
+ghost use Rattle.sender.specs.Packing.{Writes};
 
 mod fill;
-mod guarded;
 mod judge;
+mod octets;
 mod pack;
 mod usual;
 
@@ -20,7 +21,13 @@ pub struct Sender {
     pub sent: bool,
 }
 
-// The refusal (0: none) and the state to go on with.
+// An opening's answer: the refusal (0: none) and the state to begin with.
+pub struct Ready {
+    pub refusal: u8,
+    pub state: Sender,
+}
+
+// A call's answer: the refusal (0: none) and the state to go on with.
 pub struct Sent {
     pub refusal: u8,
     pub state: Sender,
@@ -35,12 +42,12 @@ pub fn opened(
     number: u32,
     wanted: bool,
     second: u32,
-) -> Sent
+) -> Ready
     ensures { λ r. ⌜ r ≡ openedOf format channels order number wanted second ⌝ }
 {
     let refusal = judge::state_refusal(format, channels, order, number, wanted, second);
     if refusal != 0 {
-        return Sent {
+        return Ready {
             refusal,
             state: Sender {
                 format: 0,
@@ -53,7 +60,7 @@ pub fn opened(
             },
         };
     }
-    Sent {
+    Ready {
         refusal: 0,
         state: Sender {
             format: format as u8,
@@ -67,14 +74,16 @@ pub fn opened(
     }
 }
 
-// Writes the next cell, or gives the refusal.
+// Writes the next cell of any call, or gives its refusal.
 fn write_any(
     state: Sender,
     indication: bool,
+    second: u8,
     samples: &[u64],
     ancillary: &[u8],
     cell: &mut [u8],
 ) -> u8
+    requires { ⌜ second ≡ secondNow state indication ⌝ }
     ensures { λ r. ⌜ Writes state indication (now (samples .entry)) (now (ancillary .entry)) (now (cell .entry)) r (now (cell .exit)) ⌝ }
 {
     let set = formats::settings(
@@ -86,19 +95,27 @@ fn write_any(
     if refusal != 0 {
         return refusal;
     }
-    let second = judge::second_now(state, indication);
-    pack::pack(set, state.number, second, samples, ancillary, cell);
+    let sequence = numbers::sequence_of(state.number, second);
+    pack::pack(set, sequence, samples, ancillary, cell);
     0
 }
 
-// The same, the usual call by its own way.
-fn write(state: Sender, indication: bool, samples: &[u64], ancillary: &[u8], cell: &mut [u8]) -> u8
+// Writes the next cell, or gives its refusal: a usual call goes through usual.rt, any other through pack.rt.
+fn write(
+    state: Sender,
+    indication: bool,
+    second: u8,
+    samples: &[u64],
+    ancillary: &[u8],
+    cell: &mut [u8],
+) -> u8
+    requires { ⌜ second ≡ secondNow state indication ⌝ }
     ensures { λ r. ⌜ Writes state indication (now (samples .entry)) (now (ancillary .entry)) (now (cell .entry)) r (now (cell .exit)) ⌝ }
 {
     if usual::is_usual(state, samples.len(), ancillary.len()) {
-        return usual::write_usual(state, indication, samples, ancillary, cell);
+        return usual::write_usual(state, indication, second, samples, ancillary, cell);
     }
-    write_any(state, indication, samples, ancillary, cell)
+    write_any(state, indication, second, samples, ancillary, cell)
 }
 
 // Writes the next cell: C×T samples and ancillary numbers, time after time, go into the 48 octets of `cell`. Refused: 1 to 7, and
@@ -112,11 +129,11 @@ pub fn send(
 ) -> Sent
     ensures { λ r. ⌜ Sends state indication (now (samples .entry)) (now (ancillary .entry)) (now (cell .entry)) r (now (cell .exit)) ⌝ }
 {
-    let refusal = write(state, indication, samples, ancillary, cell);
+    let second = judge::second_now(state, indication);
+    let refusal = write(state, indication, second, samples, ancillary, cell);
     if refusal != 0 {
         return Sent { refusal, state };
     }
-    let second = judge::second_now(state, indication);
     Sent {
         refusal: 0,
         state: Sender {

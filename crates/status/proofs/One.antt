@@ -33,7 +33,8 @@ pub brought-forward-one : One brought-forward-kinds.ps brought-forward-kinds.r b
 brought-forward-one κs a x y v w pre p q = (p ∙ sym q, refl)
 
 -- the borrow checker reads no contract with a reference to a struct, so this is stated over the clauses
-module _ {M : Type 1} (𝓤 : URA M) (H : Heap 𝓤) (A : Atoms 𝓤) (mem : Memory → SProp 𝓤) (run : Routine → Fun 𝓤) (κs : Lfts 1) (a : Args bring-forward.signature κs) where
+module _ {M : Type 1} (𝓤 : URA M) (H : Heap 𝓤) (A : Atoms 𝓤) (mem : Memory → SProp 𝓤) (run : Routine → Fun 𝓤) (κs : Lfts 1)
+    (a : Args bring-forward.signature κs) where
   abbrev pub Ensures : Handed → Lasts bring-forward.ended κs a → SProp 𝓤
   Ensures x v = bring-forward.clauses 𝓤 H A mem run κs a .ensures tt x (atExit bring-forward.ended κs a v)
 

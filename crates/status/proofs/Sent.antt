@@ -14,7 +14,7 @@ use lib.ListN.{getD}
 use Rattle.runs.proofs.Laws.{split}
 use Rattle.status.specs.Bits.{bitOf, withBit}
 use Rattle.status.specs.Check.{checkCharacter}
-use Rattle.status.specs.Sender.{blockAfter, broughtBy, broughtOut, Octets, Sends}
+use Rattle.status.specs.Sender.{blockAfter, broughtBy, broughtOut, Octets, SendsBlock}
 use Rattle.status.specs.Step.{stepOf, isRefused, unfinished, finished, addedTo, fitOf, noBlock, bOf, cOf}
 use Rattle.status.specs.declared.step.Block.{Block}
 use Rattle.status.specs.declared.step.Stepped.{Stepped}
@@ -28,7 +28,9 @@ brought-none s block e = rw e
 
 fit-said : (octets : List ℕ) → eqb (fitOf octets) 0 ≡ false
 unfolding fitOf
-fit-said octets = split (eqb (getD octets 23 0) (checkCharacter octets)) (λ e. rw e) (λ e. rw e)
+fit-said octets =
+    split (eqb (bitOf octets 0) 0) (λ b. rw b) (λ b.
+    split (eqb (getD octets 23 0) (checkCharacter octets)) (λ e. rw (b, e)) (λ e. rw (b, e)))
 
 brought-one : (octets : List ℕ) → broughtBy (finished octets) ≡ (fitOf octets, octets) ∷ []
 unfolding broughtBy
@@ -78,7 +80,7 @@ module _ (block : Block) (a m : ℕ) (a≤ : a ≤ 15) (m≤ : m ≤ 2) (bits≤
       }))
 
 -- ---- a sender's steps
-module _ (block : Block) (octets : List ℕ) (a m : ℕ → ℕ) (begun : block .bits ≤ 191) (sends : Sends octets a) (marks : (k : ℕ) → k < 192 → m k ≤ 2) where
+module _ (block : Block) (octets : List ℕ) (a m : ℕ → ℕ) (begun : block .bits ≤ 191) (sends : SendsBlock octets a) (marks : (k : ℕ) → k < 192 → m k ≤ 2) where
   goes-at : (n : ℕ) → n < 191 → Goes (blockAfter block a m n) (a n) (m n) (suc n)
   unfolding blockAfter
   goes-at zero h = beginning block (a 0) (m 0) (sends .within 0 (omega arith)) (marks 0 (omega arith)) begun (sends .first)
@@ -111,7 +113,8 @@ module _ (block : Block) (octets : List ℕ) (a m : ℕ → ℕ) (begun : block 
       (λ e. dropping b (a n) (m n) within (marks n (omega arith)) (bits-at n (omega arith)) (ap m (eqb-true n j e) ∙ two))
       (λ e.
       let later : j < n = omega (arith, eqb-false n j e) in
-      waiting b (a n) (m n) within (marks n (omega arith)) (bits-at n (omega arith)) (sends .alone n (omega arith) (omega arith)) (gone j n two later (omega arith))))
+      waiting b (a n) (m n) within (marks n (omega arith)) (bits-at n (omega arith)) (sends .alone n (omega arith) (omega arith))
+      (gone j n two later (omega arith))))
 
   -- so the last step brings out nothing either
   last-none : (j : ℕ) → m j ≡ 2 → j < 192 → Goes (blockAfter block a m 191) (a 191) (m 191) 0
@@ -122,7 +125,8 @@ module _ (block : Block) (octets : List ℕ) (a m : ℕ → ℕ) (begun : block 
       (λ e. dropping b (a 191) (m 191) within (marks 191 (omega arith)) (bits-at 191 (omega arith)) (ap m (sym (eqb-true j 191 e)) ∙ two))
       (λ e.
       let sooner : j < 191 = omega (arith, eqb-false j 191 e) in
-      waiting b (a 191) (m 191) within (marks 191 (omega arith)) (bits-at 191 (omega arith)) (sends .alone 191 (omega arith) (omega arith)) (gone j 191 two sooner (omega arith)))
+      waiting b (a 191) (m 191) within (marks 191 (omega arith)) (bits-at 191 (omega arith)) (sends .alone 191 (omega arith) (omega arith))
+      (gone j 191 two sooner (omega arith)))
 
   all-none : (j : ℕ) → m j ≡ 2 → j < 192 → broughtOut block a m 192 ≡ []
   unfolding broughtOut
@@ -153,7 +157,8 @@ module _ (block : Block) (octets : List ℕ) (a m : ℕ → ℕ) (begun : block 
     unfolding blockAfter
     step-at zero h =
         step-begun block (a 0) (m 0) (taken-at (block .bits) 0 begun (omega arith)) (λ two. omega (arith, sound 0 (omega arith), two)) (sends .first)
-        ∙ ap (λ (o : List ℕ). unfinished 0 (record { bits = 1; octets = o })) (ap (λ (z : List ℕ). withBit z 0 (cOf (a 0))) (sym (upTo-none octets)) ∙ put-at 0 (omega arith))
+        ∙ ap (λ (o : List ℕ). unfinished 0 (record { bits = 1; octets = o }))
+        (ap (λ (z : List ℕ). withBit z 0 (cOf (a 0))) (sym (upTo-none octets)) ∙ put-at 0 (omega arith))
     step-at (suc n) h =
         ap (λ (s : Stepped). stepOf (s .block) (a (suc n)) (m (suc n))) (step-at n (omega arith))
         ∙ next-at n (omega arith)
@@ -175,7 +180,7 @@ module _ (block : Block) (octets : List ℕ) (a m : ℕ → ℕ) (begun : block 
 -- A sender's C bits, B set on the first, with marks 0 or 1, whatever block was under assembly: the 192 steps bring out the 24
 -- octets, once, and fewer steps bring out nothing.
 pub brings-out : (block : Block) (octets : List ℕ) (ancillary mark : ℕ → ℕ)
-    → block .bits ≤ 191 → Octets octets → Sends octets ancillary → ((k : ℕ) → k < 192 → mark k ≤ 1)
+    → block .bits ≤ 191 → Octets octets → SendsBlock octets ancillary → ((k : ℕ) → k < 192 → mark k ≤ 1)
     → (broughtOut block ancillary mark 192 ≡ (fitOf octets, octets) ∷ []) × ((n : ℕ) → n < 192 → broughtOut block ancillary mark n ≡ [])
 brings-out block octets ancillary mark begun whole sends sound =
     let marks : (k : ℕ) → k < 192 → mark k ≤ 2 = λ k h. omega (arith, sound k h) in
@@ -183,7 +188,7 @@ brings-out block octets ancillary mark begun whole sends sound =
 
 -- The same with a mark 2 anywhere among them: the 192 steps bring out nothing.
 pub brings-none : (block : Block) (octets : List ℕ) (ancillary mark : ℕ → ℕ)
-    → block .bits ≤ 191 → Sends octets ancillary → ((k : ℕ) → k < 192 → mark k ≤ 2) → (j : ℕ) → j < 192 → mark j ≡ 2
+    → block .bits ≤ 191 → SendsBlock octets ancillary → ((k : ℕ) → k < 192 → mark k ≤ 2) → (j : ℕ) → j < 192 → mark j ≡ 2
     → broughtOut block ancillary mark 192 ≡ []
 brings-none block octets ancillary mark begun sends marks j h two = all-none block octets ancillary mark begun sends marks j two h
 
@@ -192,7 +197,7 @@ unfolding bitOf
 bit-lt octets k = omega arith
 
 -- There is such a sender for every block.
-pub sends-any : (octets : List ℕ) → Sends octets (λ k. cond (eqb k 0) 8 0 + bitOf octets k * 4)
+pub sends-any : (octets : List ℕ) → SendsBlock octets (λ k. cond (eqb k 0) 8 0 + bitOf octets k * 4)
 sends-any octets = record {
   within = λ k h. split (eqb k 0) (λ e. rw e (omega (arith, bit-lt octets k))) (λ e. rw e (omega (arith, bit-lt octets k)));
   first = omega (arith, bit-lt octets 0);

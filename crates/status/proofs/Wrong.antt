@@ -37,12 +37,15 @@ unfoldable pub unfolded : Unit {0}
 unfolding divided takenDown tab bitOf octetWith withBit coefficientOf checkCharacter fitOf isRefused addedTo stepOf
 unfolded = tt
 
--- a block of three bits, all of them 0, and one of 191
+-- a block of three bits, all of them 0; and two of 191, one of professional use, its first bit 1, and one of consumer use
 abbrev begun : Block
 begun = record { bits = 3; octets = zeros }
 
-abbrev nearly : Block
-nearly = record { bits = 191; octets = zeros }
+abbrev professional : Block
+professional = record { bits = 191; octets = set zeros 0 1 }
+
+abbrev consumer : Block
+consumer = record { bits = 191; octets = zeros }
 
 module _ (κs : Lfts 0) where
   -- the second example of Appendix 2, 32 hex: the register begun from zeros
@@ -75,13 +78,24 @@ module _ (κs : Lfts 0) where
   step-not-begun-without-B x v wrong p = let right : x .block .bits ≡ 0 = ap (λ (s : Stepped). s .block .bits) p in omega arith
 
   -- a finished block kept back, or handed out with a yes although octet 23 is not the check character
-  pub finished-not-kept-back : Never step-kinds.ps step-kinds.r step-reads.Post κs (nearly, (0, (0, tt))) (λ x v. x .handed .answer ≡ 0)
+  pub finished-not-kept-back : Never step-kinds.ps step-kinds.r step-reads.Post κs (professional, (0, (0, tt))) (λ x v. x .handed .answer ≡ 0)
   unfolding unfolded
   finished-not-kept-back x v wrong p = let right : x .handed .answer ≡ 1 = ap (λ (s : Stepped). s .handed .answer) p in omega arith
 
-  pub finished-not-always-yes : Never step-kinds.ps step-kinds.r step-reads.Post κs (nearly, (0, (0, tt))) (λ x v. x .handed .answer ≡ 2)
+  pub finished-not-always-yes : Never step-kinds.ps step-kinds.r step-reads.Post κs (professional, (0, (0, tt))) (λ x v. x .handed .answer ≡ 2)
   unfolding unfolded
   finished-not-always-yes x v wrong p = let right : x .handed .answer ≡ 1 = ap (λ (s : Stepped). s .handed .answer) p in omega arith
+
+  -- a block of consumer use answered "doesn't fit", and one of professional use answered "none carried"
+  pub consumer-not-judged : Never step-kinds.ps step-kinds.r step-reads.Post κs (consumer, (0, (0, tt))) (λ x v. x .handed .answer ≡ 1)
+  unfolding unfolded
+  consumer-not-judged x v wrong p = let right : x .handed .answer ≡ 3 = ap (λ (s : Stepped). s .handed .answer) p in omega arith
+
+  pub professional-not-let-off : Never step-kinds.ps step-kinds.r step-reads.Post κs
+      (professional, (0, (0, tt))) (λ x v. x .handed .answer ≡ 3)
+  unfolding unfolded
+  professional-not-let-off x v wrong p =
+      let right : x .handed .answer ≡ 1 = ap (λ (s : Stepped). s .handed .answer) p in omega arith
 
   -- mark 2 drops the block, and its B isn't looked at
   pub missing-not-looked-at : Never brought-forward-kinds.ps brought-forward-kinds.r brought-forward-reads.Post κs

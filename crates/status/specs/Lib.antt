@@ -1,4 +1,5 @@
 pub mod Bits
 pub mod Check
-pub mod Step
+pub mod Examples
 pub mod Sender
+pub mod Step

@@ -33,7 +33,7 @@ pub record Octets (octets : List ℕ) : Type 0 where
   pub small : (i : ℕ) → getD octets i 0 < 256
 
 -- a sender's 192 ancillary numbers: their C bits are those of the octets, and B is set on the first alone
-pub record Sends (octets : List ℕ) (ancillary : ℕ → ℕ) : Type 0 where
+pub record SendsBlock (octets : List ℕ) (ancillary : ℕ → ℕ) : Type 0 where
   pub within : (k : ℕ) → k < 192 → ancillary k ≤ 15
   pub first : bOf (ancillary 0) ≡ 1
   pub alone : (k : ℕ) → 0 < k → k < 192 → bOf (ancillary k) ≡ 0

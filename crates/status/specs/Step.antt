@@ -5,7 +5,7 @@ use mathlib.Core.List.{List}
 use Prim.Native.Nat.{ℕ, _+_, _/_, _%_}
 use lib.Dec.{ltb, eqb}
 use lib.ListN.{getD}
-use Rattle.status.specs.Bits.{withBit, zeros}
+use Rattle.status.specs.Bits.{bitOf, withBit, zeros}
 use Rattle.status.specs.Check.{checkCharacter}
 use Rattle.status.specs.declared.step.Block.{Block}
 use Rattle.status.specs.declared.step.Stepped.{Stepped}
@@ -25,9 +25,10 @@ noBlock = record { bits = 0; octets = zeros }
 abbrev pub unfinished : ℕ → Block → Stepped
 unfinished refusal block = record { block = block; handed = record { refusal = refusal; answer = 0; octets = zeros } }
 
--- "with a yes or no: octet 23 is the check character of octets 0 to 22": 2 is yes, 1 no (and 0 neither)
+-- "one of three: fits, doesn't fit, none carried. The third is given exactly where that bit is 0", "bit 0 of octet 0" (document 02,
+-- request 6): 3 is none carried, 2 fits, 1 doesn't fit (and 0 neither)
 unfoldable pub fitOf : List ℕ → ℕ
-fitOf octets = cond (eqb (getD octets 23 0) (checkCharacter octets)) 2 1
+fitOf octets = cond (eqb (bitOf octets 0) 0) 3 (cond (eqb (getD octets 23 0) (checkCharacter octets)) 2 1)
 
 -- "the block of 24 octets is handed out by value"; "finishing leaves a block of no bits and zero octets"
 abbrev pub finished : List ℕ → Stepped

@@ -18,7 +18,7 @@ pub fn bring_forward(block: &mut Block, ancillary: u8, mark: u8) -> Handed
     stepped.handed
 }
 
-// The same on a block of its own, for callers that lend none.
+// Brings a block forward that is passed and returned by value. It is for callers that can't lend a struct.
 pub fn brought_forward(block: Block, ancillary: u8, mark: u8) -> Stepped
     ensures { λ r. ⌜ r ≡ stepOf block ancillary mark ⌝ }
 {

@@ -7,7 +7,7 @@ ghost use Rattle.status.specs.Check.{checkCharacter, coefficientOf, gene
 // x^8 + x^4 + x^3 + x^2 + 1
 const GENERATOR: u64 = 0b1_0001_1101;
 
-// One step of the division: the next coefficient is taken down to the rest.
+// One step of long division: takes the next coefficient down, and takes the generator off where x^8 comes up.
 fn taken_down(rest: u64, coefficient: u64) -> u64
     requires { ⌜ (rest < 256) × (coefficient < 2) ⌝ }
     ensures { λ r. ⌜ (r ≡ takenDown 8 generator rest coefficient) × (r < 256) ⌝ }

@@ -3,7 +3,7 @@ use crate::check::check_character;
 ghost use mathlib.Core.Path.{_≡_};
 ghost use Prim.Native.Nat.{_<_, _%_, _^_};
 ghost use Rattle.status.specs.Bits.{octetWith, withBit};
-ghost use Rattle.status.specs.Step.{stepOf, unfinished, finished, isRefused};
+ghost use Rattle.status.specs.Step.{stepOf, fitOf, unfinished, finished, isRefused};
 
 // A block under assembly: how many bits of it have come, and its octets.
 pub struct Block {
@@ -11,8 +11,8 @@ pub struct Block {
     pub octets: [u8; 24],
 }
 
-// What a step hands out: refusal 14 or 0; the 24 octets of a finished block with answer 2 (the check character fits) or
-// 1 (it doesn't), else 24 zeros with answer 0.
+// What a step hands out: refusal 14 or 0; the 24 octets of a finished block with answer 2 (the check character fits),
+// 1 (it doesn't) or 3 (none is carried), else 24 zeros with answer 0.
 pub struct Handed {
     pub refusal: u8,
     pub answer: u8,
@@ -39,6 +39,19 @@ fn unfinished_with(refusal: u8, block: Block) -> Stepped
     }
 }
 
+// What is answered of a finished block. A block of consumer use, whose first bit is 0, carries no check character.
+fn answer_of(octets: [u8; 24]) -> u8
+    ensures { λ r. ⌜ r ≡ fitOf octets ⌝ }
+{
+    if octets[0] % 2 == 0 {
+        return 3;
+    }
+    if octets[23] == check_character(octets) {
+        return 2;
+    }
+    1
+}
+
 fn finished_with(octets: [u8; 24]) -> Stepped
     ensures { λ r. ⌜ r ≡ finished octets ⌝ }
 {
@@ -47,10 +60,7 @@ fn finished_with(octets: [u8; 24]) -> Stepped
         bits: 0,
         octets: none,
     };
-    let mut answer: u8 = 1;
-    if octets[23] == check_character(octets) {
-        answer = 2;
-    }
+    let answer = answer_of(octets);
     let handed = Handed {
         refusal: 0,
         answer: answer,

@@ -15,6 +15,12 @@ pub enum Kind {
     ReadHeader,
     ReadRecord,
     Linelist,
+    Aes3Import,
+    Aes3Export,
+    Equipment,
+    Controller,
+    UnitsExport,
+    UnitRead,
     CircuitsCheck,
     CircuitsPlan,
 }
@@ -26,7 +32,7 @@ impl Kind {
 }
 
 /// Kind, name, and the fields in and out: n a number, r a run of numbers or a state, o octets.
-const KINDS: [(Kind, &str, &str, &str); 11] = [
+const KINDS: [(Kind, &str, &str, &str); 17] = [
     (Kind::SenderOpen, "sender_open", "nnnnnn", "nr"),
     (Kind::ReceiverOpen, "receiver_open", "nnn", "nr"),
     (Kind::Send, "send", "rnrro", "nro"),
@@ -36,6 +42,12 @@ const KINDS: [(Kind, &str, &str, &str); 11] = [
     (Kind::ReadHeader, "read_header", "o", "nnnnn"),
     (Kind::ReadRecord, "read_record", "on", "nnnnn"),
     (Kind::Linelist, "linelist", "o", "o"),
+    (Kind::Aes3Import, "aes3_import", "or", "nrr"),
+    (Kind::Aes3Export, "aes3_export", "rr", "nor"),
+    (Kind::Equipment, "equipment", "ooo", "noonnnn"),
+    (Kind::Controller, "controller", "oo", "no"),
+    (Kind::UnitsExport, "units_export", "nnnrro", "nonnn"),
+    (Kind::UnitRead, "unit_read", "nnorr", "nrrn"),
     (Kind::CircuitsCheck, "circuits_check", "nnnrr", "nnn"),
     (Kind::CircuitsPlan, "circuits_plan", "nnr", "nr"),
 ];

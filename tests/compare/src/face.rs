@@ -8,6 +8,15 @@ pub type Report = [u8; 4];
 pub type StatusBlock = [u8; 25];
 pub type StatusOut = [u8; 25];
 
+/// What `status_step` answers in the first octet of `out`.
+#[allow(dead_code)] // the comparison has its own words for them
+pub mod status_answer {
+    pub const NEITHER: u8 = 0;
+    pub const DOES_NOT_FIT: u8 = 1;
+    pub const FITS: u8 = 2;
+    pub const NONE_CARRIED: u8 = 3;
+}
+
 mod raw {
     use super::{ReceiverState, Report, SenderState, StatusBlock, StatusOut};
 
@@ -49,6 +58,41 @@ mod raw {
         pub fn rime_check_character(block: *const [u8; 24]) -> u8;
         pub fn rime_log_header(log: *const u8, log_len: usize, header: *mut [u32; 4]) -> u8;
         pub fn rime_log_record(log: *const u8, log_len: usize, place: usize, record: *mut [u64; 4]) -> u8;
+        pub fn rime_aes3_import(
+            preambles: *const [u8; 2],
+            subframes: *const [u32; 2],
+            samples: *mut [u64; 2],
+            ancillary: *mut [u8; 2],
+        ) -> u8;
+        pub fn rime_aes3_export(
+            samples: *const [u64; 2],
+            ancillary: *const [u8; 2],
+            preambles: *mut [u8; 2],
+            subframes: *mut [u32; 2],
+        ) -> u8;
+        pub fn rime_units_export(
+            format: u32,
+            channels: u32,
+            size: usize,
+            samples: *const u64,
+            samples_len: usize,
+            ancillary: *const u8,
+            ancillary_len: usize,
+            out: *mut u8,
+            out_len: usize,
+            units: *mut [u64; 3],
+        ) -> u8;
+        pub fn rime_unit_read(
+            format: u32,
+            channels: u32,
+            unit: *const u8,
+            unit_len: usize,
+            samples: *mut u64,
+            samples_len: usize,
+            ancillary: *mut u8,
+            ancillary_len: usize,
+            entries: *mut u64,
+        ) -> u8;
         pub fn rime_circuits_check(
             format: u32,
             channels: u32,
@@ -126,6 +170,64 @@ pub fn log_header(log: &[u8], header: &mut [u32; 4]) -> u8 {
 
 pub fn log_record(log: &[u8], place: usize, record: &mut [u64; 4]) -> u8 {
     unsafe { raw::rime_log_record(log.as_ptr(), log.len(), place, record) }
+}
+
+pub fn aes3_import(preambles: &[u8; 2], subframes: &[u32; 2], samples: &mut [u64; 2], ancillary: &mut [u8; 2]) -> u8 {
+    unsafe { raw::rime_aes3_import(preambles, subframes, samples, ancillary) }
+}
+
+pub fn aes3_export(samples: &[u64; 2], ancillary: &[u8; 2], preambles: &mut [u8; 2], subframes: &mut [u32; 2]) -> u8 {
+    unsafe { raw::rime_aes3_export(samples, ancillary, preambles, subframes) }
+}
+
+pub fn units_export(
+    [format, channels]: [u32; 2],
+    size: usize,
+    samples: &[u64],
+    ancillary: &[u8],
+    out: &mut [u8],
+    units: &mut [u64; 3],
+) -> u8 {
+    let (out_at, out_len) = (out.as_mut_ptr(), out.len());
+    let (samples_at, ancillary_at) = (samples.as_ptr(), ancillary.as_ptr());
+    unsafe {
+        raw::rime_units_export(
+            format,
+            channels,
+            size,
+            samples_at,
+            samples.len(),
+            ancillary_at,
+            ancillary.len(),
+            out_at,
+            out_len,
+            units,
+        )
+    }
+}
+
+pub fn unit_read(
+    [format, channels]: [u32; 2],
+    unit: &[u8],
+    samples: &mut [u64],
+    ancillary: &mut [u8],
+    entries: &mut u64,
+) -> u8 {
+    let (samples_at, samples_len) = (samples.as_mut_ptr(), samples.len());
+    let (ancillary_at, ancillary_len) = (ancillary.as_mut_ptr(), ancillary.len());
+    unsafe {
+        raw::rime_unit_read(
+            format,
+            channels,
+            unit.as_ptr(),
+            unit.len(),
+            samples_at,
+            samples_len,
+            ancillary_at,
+            ancillary_len,
+            entries,
+        )
+    }
 }
 
 pub fn circuits_check(

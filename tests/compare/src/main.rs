@@ -4,6 +4,8 @@ mod answers;
 mod case;
 mod face;
 mod fuzz;
+#[cfg(feature = "management")]
+mod management_face;
 mod plain;
 mod random;
 mod story;

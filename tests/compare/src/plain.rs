@@ -1,20 +1,26 @@
-//! A second, plain implementation of document 01, written from the paper alone.
+//! A second, plain implementation of documents 01 and 02, written from the papers alone.
 //!
 //! It is here to be compared with, so it is clear rather than fast: a cell is a list of bits, a number is judged as it
-//! stands in 64 bits, and each refusal is one line in the paper's order. Nothing is shared with the proved library.
+//! stands in 64 bits, and each refusal is one line in the papers' order. Nothing is shared with the proved library.
 
 mod bits;
 mod boxes;
+mod cable;
 mod cells;
 mod circuits;
 mod log;
+mod management;
 mod status;
+mod units;
 
 pub use boxes::{Receiver, Sender};
+pub use cable::{export_frame, import_frame};
 pub use cells::Shape;
 pub use circuits::{check_plan, plan, Fault};
 pub use log::{header, listing, record, Record};
-pub use status::{check_character, step, Block};
+pub use management::{controller, equipment};
+pub use status::{check_character, step, Block, Character};
+pub use units::{export_units, read_unit};
 
 /// The paper's number for a no.
 pub type Refusal = u8;

@@ -116,21 +116,22 @@ impl Ends {
         Some(Ends { answer, call, sender: sender[1].run().to_vec(), receiver: receiver[1].run().to_vec() })
     }
 
-    fn send(&mut self, entries: &[Entry]) -> Option<Vec<u8>> {
+    /// The cell, and the indication that it was sent with.
+    fn send(&mut self, entries: &[Entry]) -> Option<(Vec<u8>, bool)> {
         let indication = self.sender[3] == 8;
         let samples: Vec<u64> = entries.iter().map(|entry| entry[0]).collect();
         let ancillary: Vec<u64> = entries.iter().map(|entry| entry[1]).collect();
         let inputs = values![&self.sender[..], indication, &samples[..], &ancillary[..], &[0u8; 48][..]];
         let answer = (self.answer)(&Case::new(Kind::Send, inputs))?;
         self.sender = answer[1].run().to_vec();
-        (answer[0].number() == 0).then(|| answer[2].octets().to_vec())
+        (answer[0].number() == 0).then(|| (answer[2].octets().to_vec(), indication))
     }
 
     /// The entries handed out, or a word on what was wrong.
-    fn receive(&mut self, cell: &[u8]) -> Result<Vec<Entry>, String> {
+    fn receive(&mut self, cell: &[u8], indication: bool) -> Result<Vec<Entry>, String> {
         let room = 15 * self.call.entries();
         let lent = UNTOUCHED.map(|entry| vec![entry; room]);
-        let inputs = values![&self.receiver[..], cell, false, &lent[0][..], &lent[1][..], &lent[2][..]];
+        let inputs = values![&self.receiver[..], cell, indication, &lent[0][..], &lent[1][..], &lent[2][..]];
         let answer = (self.answer)(&Case::new(Kind::Receive, inputs)).ok_or("not asked")?;
         self.receiver = answer[1].run().to_vec();
         let handed = if answer[0].number() == 0 { (answer[5].number() as usize + 1) * self.call.entries() } else { 0 };
@@ -151,14 +152,17 @@ fn play(mut ends: Ends, fates: &[Fate]) -> Result<usize, String> {
     for &fate in fates {
         let entries: Vec<Entry> =
             (0..call.entries()).map(|_| [call.sample(&mut random), random.below(16), 0]).collect();
-        let mut cell = ends.send(&entries).ok_or("a cell was refused by the sender")?;
+        let (mut cell, mut indication) = ends.send(&entries).ok_or("a cell was refused by the sender")?;
         sent.push(entries);
         match fate {
             Fate::Lost => continue,
             Fate::Whole => {}
-            Fate::Spoiled(mask, garbage) => spoil(&mut cell, call.slots, mask, garbage, &mut random),
+            Fate::Spoiled(mask, garbage) => {
+                spoil(&mut cell, call.slots, mask, garbage, &mut random);
+                indication ^= garbage;
+            }
         }
-        handed.extend(ends.receive(&cell)?);
+        handed.extend(ends.receive(&cell, indication)?);
     }
     let must_be = expected(fates, &sent);
     match must_be.iter().zip(&handed).position(|(wanted, given)| wanted != given) {

@@ -17,17 +17,21 @@ returns-3 c =
     let a = c .before .before .before .args in
     by-2-above (a .slots) (a .channels) (a .order) (c .before .before .if1 .left) (c .before .if2 .left) (c .if3 .taken)
 
+-- where only the order is left to judge: the call, and that nothing refused before
+abbrev from : tie.Else3 → tie.Start
+from c = c .before .before .before
+
 returns-4 : tie.Need-returns-4
 returns-4 c =
-    let a = c .before .before .before .before .args in
-    by-3 (a .slots) (a .channels) (a .order) (c .before .before .before .if1 .left) (c .before .before .if2 .left)
-    (c .before .if3 .left) (c .if4 .taken)
+    let to = c .before in
+    let a = from to .args in
+    by-3 (a .slots) (a .channels) (a .order) (to .before .before .if1 .left) (to .before .if2 .left) (to .if3 .left) (c .if4 .taken)
 
 returns-5 : tie.Need-returns-5
 returns-5 c =
-    let a = c .before .before .before .before .args in
-    by-no (a .slots) (a .channels) (a .order) (c .before .before .before .if1 .left) (c .before .before .if2 .left)
-    (c .before .if3 .left) (c .if4 .left)
+    let to = c .before in
+    let a = from to .args in
+    by-no (a .slots) (a .channels) (a .order) (to .before .before .if1 .left) (to .before .if2 .left) (to .if3 .left) (c .if4 .left)
 
 pub refusal-of-spec : {M : Type 1} → statement M
 refusal-of-spec = tie.close (tie.spec returns returns-2 returns-3 returns-4 returns-5)

@@ -3,7 +3,7 @@
 use mathlib.Core.Bool.{Bool, cond}
 use mathlib.Core.Path.{_∙_, sym, ap}
 use borrow.Author.Needs.{needs}
-use Rattle.formats.specs.Formats.{settingsOf}
+use Rattle.formats.specs.Settings.{settingsOf}
 use Rattle.formats.proofs.Laws.{usual-one, usual-two}
 use Rattle.formats.proofs.usual.Statement.{statement}
 use Rattle.formats.proofs.usual.Tie as tie

@@ -7,21 +7,35 @@ use Rattle.listing.proofs.list.Statement.{statement}
 use Rattle.listing.proofs.list.Tie as tie
 
 returns : tie.Need-returns
-returns c = lists (list-large (c .before .before .before .before .before .before .before .args .log .now) (c .before .before .before .before .if1 .taken)) (c .before .before .log-refused-line .ensures)
+returns c =
+    let at-if1 = c .before .before .before .before in
+    let at-call = at-if1 .before .before .before in
+    lists (list-large (at-call .args .log .now) (at-if1 .if1 .taken)) (c .before .before .log-refused-line .ensures)
 
 returns-2 : tie.Need-returns-2
 returns-2 c =
-    lists (list-refused (c .before .before .before .before .before .before .before .before .before .before .before .args .log .now) (c .before .before .before .before .before .before .before .before .if1 .left) (c .before .before .before .before .before .before .before .read-header .ensures) (c .before .before .before .before .before .if2 .taken))
+    let at-if2 = c .before .before .before .before .before in
+    let at-if1 = at-if2 .before .before .before in
+    let at-call = at-if1 .before .before .before in
+    lists (list-refused (at-call .args .log .now) (at-if1 .if1 .left) (at-if2 .before .before .read-header .ensures) (at-if2 .if2 .taken))
     (c .before .before .log-refused-line2 .ensures)
 
 records-requires : tie.Need-records-requires
-records-requires c κs = (c .before .before .before .before .before .before .before .before .before .before .before .before .if1 .left, begins (c .before .before .before .before .before .before .before .before .before .before .before .read-header .result) (c .before .start .ensures))
+records-requires c κs =
+    let at-struct-known4 = c .before .before .before .before .before .before in
+    let at-read-header = at-struct-known4 .before .before .before .before .before in
+    (at-read-header .before .if1 .left, begins (at-read-header .read-header .result) (c .before .start .ensures))
 
 returns-3 : tie.Need-returns-3
 returns-3 c =
+    let at-start = c .before .before .before .before in
+    let at-format-line = at-start .before .before .before in
+    let at-if2 = at-format-line .before .before .before .before .before in
+    let at-if1 = at-if2 .before .before .before in
+    let at-call = at-if1 .before .before .before in
     lists
-    (list-lines (c .before .before .before .before .before .before .before .before .before .before .before .before .before .before .before .before .before .before .args .log .now) (c .before .before .before .before .before .before .before .before .before .before .before .before .before .before .before .if1 .left) (c .before .before .before .before .before .before .before .before .before .before .before .before .before .before .read-header .ensures) (c .before .before .before .before .before .before .before .before .before .before .before .before .if2 .left) (c .before .before .before .before .start .ensures))
-    (puts-then (c .before .before .before .before .before .before .before .format-line .ensures) (c .before .before .records .ensures))
+    (list-lines (at-call .args .log .now) (at-if1 .if1 .left) (at-if2 .before .before .read-header .ensures) (at-if2 .if2 .left) (at-start .start .ensures))
+    (puts-then (at-format-line .format-line .ensures) (c .before .before .records .ensures))
 
 pub list-spec : {M : Type 1} → statement M
 list-spec =

@@ -7,7 +7,7 @@ use borrow.Author.Needs.{needs}
 use borrow.Fn.Kinds.{In}
 use borrow.Fn.PlainCycle.{Measures, is, falls, and}
 use Rattle.log.specs.declared.Number.{Number}
-use Rattle.log.specs.Numbers.{behind}
+use Rattle.log.specs.Code.{behind}
 use Rattle.log.proofs.Laws.{number-none, number-some-groups, number-cut, number-whole, number-more, value-below}
 use Rattle.log.proofs.number_in.Reads as number-in
 use Rattle.log.proofs.number_in.Kinds as number-in-kinds
@@ -43,20 +43,29 @@ returns-3 t c =
 
 number-in-requires : (t : ℕ) → lts.Need-number-in-requires (known t) (given t) number-in.Post
 number-in-requires t c κs =
-    let start : lts.Start (known t) (given t) number-in.Post = c .before .before .before .before .before .before in
-    (omega (arith, start .pre .0, c .before .before .before .before .if1 .left), omega (arith, start .pre .1))
+    let at-if1 = c .before .before .before .before in
+    let start : lts.Start (known t) (given t) number-in.Post = at-if1 .before .before in
+    (omega (arith, start .pre .0, at-if1 .if1 .left), omega (arith, start .pre .1))
 
 behind-requires : (t : ℕ) → lts.Need-behind-requires (known t) (given t) number-in.Post
 behind-requires t c κs =
-    let start : lts.Start (known t) (given t) number-in.Post = c .before .before .before .before .before .before .before in
-    omega (arith, ap (λ (x : Number). x .value) (c .number-in .ensures), value-below (start .args .groups - 1) (start .args .log .now) (start .args .place + 1) (omega (arith, start .pre .1)))
+    let at-call = c .before .before .before .before .before .before .before in
+    let start : lts.Start (known t) (given t) number-in.Post = at-call in
+    omega (
+      arith,
+      ap (λ (x : Number). x .value) (c .number-in .ensures),
+      value-below (start .args .groups - 1) (start .args .log .now)
+          (start .args .place + 1) (omega (arith, start .pre .1)),
+    )
 
 returns-4 : (t : ℕ) → lts.Need-returns-4 (known t) (given t) number-in.Post
 returns-4 t c =
+    let at-wide = c .before .before .before in
+    let at-if1 = at-wide .before .before .before in
     c .behind .ensures
-    ∙ ap (behind (c .before .before .before .wide .result)) (c .before .number-in .ensures)
-    ∙ sym (number-some-groups _ _ _ (c .before .before .before .before .before .before .if1 .left)
-    ∙ number-more _ _ _ (c .before .before .before .wide .ensures .0) (omega arith) (c .before .before .if3 .left))
+    ∙ ap (behind (at-wide .wide .result)) (c .before .number-in .ensures)
+    ∙ sym (number-some-groups _ _ _ (at-if1 .if1 .left)
+    ∙ number-more _ _ _ (at-wide .wide .ensures .0) (omega arith) (c .before .before .if3 .left))
 
 pub +number-in-spec : {M : Type 1} → statement M
 +number-in-spec =

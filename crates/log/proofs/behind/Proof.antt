@@ -1,7 +1,8 @@
 -- `log::behind` meets its contract.
 -- Assumes nothing.
 use Rattle.log.specs.declared.Number.{Number}
-use Rattle.log.specs.Numbers.{behind, noNumber}
+use Rattle.log.specs.Code.{behind}
+use Rattle.log.specs.Numbers.{noNumber}
 use borrow.Author.Tests.{eq-eqb, ne-eqb}
 use mathlib.Core.Path.{_≡_, _∙_}
 use Prim.Native.Nat.{ℕ}

@@ -16,4 +16,4 @@ returns : tie.Need-returns
 returns c = eight-and-second (c .before .args .number % 16) (c .before .args .second) (c .first-eight .ensures)
 
 pub sequence-of-spec : {M : Type 1} → statement M
-sequence-of-spec = tie.close (tie.spec (search needs) (search needs) add-result returns)
+sequence-of-spec = tie.close (tie.spec (search needs) (search needs) (search needs) add-result returns)

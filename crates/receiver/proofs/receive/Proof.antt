@@ -1,11 +1,12 @@
 -- `receiver::receive` meets its contract.
 -- Assumes nothing.
+use mathlib.Core.Path.{sym, _∙_}
 use borrow.Author.Needs.{needs}
 use Rattle.receiver.proofs.receive.Statement.{statement}
 use Rattle.receiver.proofs.receive.Tie as tie
 
 receive-requires : tie.Need-receive-requires
-receive-requires c κs = c .before .before .before .before .is-usual .ensures (c .before .before .before .if1 .taken)
+receive-requires c κs = sym (c .before .before .before .before .is-usual .ensures) ∙ c .before .before .before .if1 .taken
 
 returns : tie.Need-returns
 returns c = search needs

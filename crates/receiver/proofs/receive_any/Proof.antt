@@ -1,95 +1,126 @@
 -- `receiver::receive_any` meets its contract.
 -- Assumes nothing.
 use mathlib.Core.Path.{_≡_, _∙_, sym}
-use Prim.Native.Nat.{_-_, _≤_}
+use Prim.Native.Nat.{_≤_}
 use native.Mathlib.Nat.{mul-le-mul}
 use native.Mathlib.Omega.{arith}
 use denote.Ref.{now}
-use lib.ListN.{length}
-use Rattle.receiver.specs.Receiver.{receiveRefusal, numberNow}
-use Rattle.receiver.proofs.Laws.{limits, receives-refused, set-limits, set-together, set-taken, cell-whole, gap-some, gap-few, roomy, receives-taken}
+use Rattle.formats.specs.Formats.{formatOf}
+use Rattle.formats.specs.Sound.{Limits}
+use Rattle.receiver.proofs.Laws.{
+  Call,
+  early-of,
+  judged-limits,
+  judged-format,
+  judged-whole,
+  early-refused,
+  equal-early,
+  judged-refused,
+  set-limits,
+  set-together,
+  cell-whole,
+  missing-few,
+  roomy,
+  judged-taken,
+}
 use borrow.Author.Needs.{needs}
 use Rattle.receiver.proofs.receive_any.Statement.{statement}
 use Rattle.receiver.proofs.receive_any.Tie as tie
 
-number-now-requires : tie.Need-number-now-requires
-number-now-requires c κs =
-    let s = c .before .before .before .before .before .before .before .before .before in λ taken. limits (s .args .state)
-    (now (s .args .cell)) 0 0 0 (c .before .settings .ensures) taken .sound
+-- the way back from checks 1 to 5, and the call
+abbrev from : tie.After-early-refusal → tie.Start
+from e = e .before .before .before .before .before .before .before .before .before
 
-receive-refusal-requires : tie.Need-receive-refusal-requires
-receive-refusal-requires c κs = search needs
+abbrev call : tie.Start → Call
+call s =
+    record {
+      state = s .args .state;
+      cell = now (s .args .cell);
+      indication = s .args .indication;
+      samples = now (s .args .samples);
+      ancillary = now (s .args .ancillary);
+      marks = now (s .args .marks);
+    }
+
+early-refusal-requires : tie.Need-early-refusal-requires
+early-refusal-requires c κs = c .settings .ensures
 
 returns : tie.Need-returns
 returns c =
-    let s = c .before .before .before .before .before .before .before .before .before .before .before .before in receives-refused
-    (s .args .state) (now (s .args .cell)) (s .args .indication) (now (s .args .samples)) (now (s .args .ancillary))
-    (now (s .args .marks)) (c .if1 .taken) (c .before .receive-refusal .ensures)
+    let e = c .before .before in
+    let s = from e in
+    rw (c .refused .ensures) (early-refused (call s) (c .before .if1 .taken) (e .early-refusal .ensures))
 
-none : (c : tie.Else1)
-    → 0
-    ≡ receiveRefusal (c .before .before .before .before .before .before .before .before .before .before .before .before .args .state) (now (c .before .before .before .before .before .before .before .before .before .before .before .before .args .cell)) (length (now (c .before .before .before .before .before .before .before .before .before .before .before .before .args .samples))) (length (now (c .before .before .before .before .before .before .before .before .before .before .before .before .args .ancillary))) (length (now (c .before .before .before .before .before .before .before .before .before .before .before .before .args .marks)))
-none c = sym (c .if1 .left) ∙ c .before .receive-refusal .ensures
+none : (c : tie.Else1) → early-of (call (from (c .before))) ≡ 0
+none c = sym (c .before .early-refusal .ensures) ∙ c .if1 .left
 
-number-is : (c : tie.Else1) → c .before .before .number-now .result ≡ numberNow (c .before .before .before .before .settings .result .format) (now (c .before .before .before .before .before .before .before .before .before .before .before .before .args .cell))
-number-is c =
-    let s = c .before .before .before .before .before .before .before .before .before .before .before .before in
-    c .before .before .number-now .ensures
-    (set-taken (s .args .state) (now (s .args .cell)) (s .args .indication) (now (s .args .samples)) (now (s .args .ancillary)) (now (s .args .marks)) (c .before .before .before .before .settings .ensures) (none (c)))
-    (cell-whole (s .args .state) (now (s .args .cell)) (s .args .indication) (now (s .args .samples)) (now (s .args .ancillary)) (now (s .args .marks)) (c .before .before .before .before .settings .ensures) (none (c)))
+found-now-requires : tie.Need-found-now-requires
+found-now-requires c κs =
+    let s = from (c .before) in
+    let settles = c .before .before .settings .ensures in
+    let early = equal-early (call s) (none c) in (
+      judged-limits (s .args .state) (now (s .args .cell)) (s .args .indication) _ settles early .sound,
+      judged-whole (s .args .state) (now (s .args .cell)) (s .args .indication) _ settles early,
+    )
 
-sub-missing : tie.Need-sub-missing
-sub-missing c =
-    let s = c .before .before .before .before .before .before .before .before .before .before .before .before .before in gap-some
-    (s .args .state) (now (s .args .cell)) (s .args .indication) (now (s .args .samples)) (now (s .args .ancillary))
-    (now (s .args .marks)) (c .before .before .before .before .before .settings .ensures) (none (c .before))
-    (number-is (c .before)) (c .gap-now .ensures)
-
-mul-place : tie.Need-mul-place
-mul-place c =
-    let s = c .before .before .before .before .before .before .before .before .before .before .before .before .before .before in
-    omega
-    (arith, set-limits (s .args .state) (now (s .args .cell)) (s .args .indication) (now (s .args .samples)) (now (s .args .ancillary)) (now (s .args .marks)) (c .before .before .before .before .before .before .settings .ensures) (none (c .before .before)) .used-to)
-
-mul-place-2 : tie.Need-mul-place-2
-mul-place-2 c =
-    let s = c .before .before .before .before .before .before .before .before .before .before .before .before .before .before in
-    let few = gap-few (s .args .state) (now (s .args .cell)) (s .args .indication) (now (s .args .samples))
-    (now (s .args .ancillary)) (now (s .args .marks)) (c .before .before .before .before .before .before .settings .ensures)
-    (none (c .before .before)) (number-is (c .before .before)) (c .before .gap-now .ensures) in let less :
-    c .before .gap-now .result - 1 ≤ 15 = omega arith in let product = mul-le-mul less
-    (set-limits (s .args .state) (now (s .args .cell)) (s .args .indication) (now (s .args .samples)) (now (s .args .ancillary)) (now (s .args .marks)) (c .before .before .before .before .before .before .settings .ensures) (none (c .before .before)) .used-to)
-    in omega arith
-
-write-requires : tie.Need-write-requires
-write-requires c κs =
-    let s =
-    c .before .before .before .before .before .before .before .before .before .before .before .before .before .before .before .before .before
-    in
-    (set-limits (s .args .state) (now (s .args .cell)) (s .args .indication) (now (s .args .samples)) (now (s .args .ancillary)) (now (s .args .marks)) (c .before .before .before .before .before .before .before .before .before .settings .ensures) (none (c .before .before .before .before .before)), set-together (s .args .state) (now (s .args .cell)) (s .args .indication) (now (s .args .samples)) (now (s .args .ancillary)) (now (s .args .marks)) (c .before .before .before .before .before .before .before .before .before .settings .ensures) (none (c .before .before .before .before .before)), cell-whole (s .args .state) (now (s .args .cell)) (s .args .indication) (now (s .args .samples)) (now (s .args .ancillary)) (now (s .args .marks)) (c .before .before .before .before .before .before .before .before .before .settings .ensures) (none (c .before .before .before .before .before)), roomy (s .args .state) (now (s .args .cell)) (s .args .indication) (now (s .args .samples)) (now (s .args .ancillary)) (now (s .args .marks)) (c .before .before .before .before .before .before .before .before .before .settings .ensures) (none (c .before .before .before .before .before)) (number-is (c .before .before .before .before .before)) (c .before .before .before .before .gap-now .ensures))
-
-second-now-requires : tie.Need-second-now-requires
-second-now-requires c κs =
-    let s =
-    c .before .before .before .before .before .before .before .before .before .before .before .before .before .before .before .before .before .before .before .before .before .before .before .before
-    in
-    (set-limits (s .args .state) (now (s .args .cell)) (s .args .indication) (now (s .args .samples)) (now (s .args .ancillary)) (now (s .args .marks)) (c .before .before .before .before .before .before .before .before .before .before .before .before .before .before .before .before .settings .ensures) (none (c .before .before .before .before .before .before .before .before .before .before .before .before)) .sound, cell-whole (s .args .state) (now (s .args .cell)) (s .args .indication) (now (s .args .samples)) (now (s .args .ancillary)) (now (s .args .marks)) (c .before .before .before .before .before .before .before .before .before .before .before .before .before .before .before .before .settings .ensures) (none (c .before .before .before .before .before .before .before .before .before .before .before .before)))
+judged-requires : tie.Need-judged-requires
+judged-requires c κs =
+    let s = from (c .before .before) in
+    let settles = c .before .before .before .settings .ensures in
+    let early = equal-early (call s) (none (c .before)) in (
+      settles,
+      early,
+      c .found-now .ensures (s .args .state)
+          (judged-format (s .args .state) (now (s .args .cell)) (s .args .indication) _ settles early),
+    )
 
 returns-2 : tie.Need-returns-2
 returns-2 c =
-    let s =
-    c .before .before .before .before .before .before .before .before .before .before .before .before .before .before .before .before .before .before .before .before .before .before .before .before .before
-    in receives-taken (s .args .state) (now (s .args .cell)) (s .args .indication) (now (s .args .samples))
-    (now (s .args .ancillary)) (now (s .args .marks))
-    (c .before .before .before .before .before .before .before .before .before .before .before .before .before .before .before .before .before .settings .ensures)
-    (none (c .before .before .before .before .before .before .before .before .before .before .before .before .before))
-    (number-is (c .before .before .before .before .before .before .before .before .before .before .before .before .before))
-    (c .before .before .before .before .before .before .before .before .before .before .before .before .gap-now .ensures)
-    (c .second-now .ensures) (c .before .before .before .before .before .before .before .write .ensures)
+    let one = c .before .before .before .before in
+    judged-refused (call (from (one .before))) (none one) (c .before .before .judged .ensures) (c .if2 .taken)
+
+-- where the call is taken: the way back to checks 1 to 5, and what is known
+abbrev one : tie.Else2 → tie.Else1
+one t = t .before .before .before .before
+
+limits : (t : tie.Else2) → Limits (one t .before .before .settings .result)
+limits t =
+    set-limits (call (from (one t .before))) (none (one t)) (t .before .before .judged .ensures) (one t .before .before .settings .ensures)
+    (t .if2 .left)
+
+mul-place : tie.Need-mul-place
+mul-place c = omega (arith, limits (c .before .before) .used-to)
+
+few : (t : tie.Else2) → t .before .before .judged .result .missing ≤ 14
+few t =
+    missing-few (call (from (one t .before))) (none (one t)) (t .before .before .judged .ensures) (one t .before .before .settings .ensures)
+    (t .if2 .left)
+
+mul-place-2 : tie.Need-mul-place-2
+mul-place-2 c =
+    let product = mul-le-mul (few (c .before .before)) (limits (c .before .before) .used-to) in
+    omega arith
+
+write-requires : tie.Need-write-requires
+write-requires c κs =
+    let t = c .before .before .before .before .before in
+    let k = call (from (one t .before)) in
+    let settles = one t .before .before .settings .ensures in (
+      limits t,
+      set-together k (none (one t)) (t .before .before .judged .ensures) settles (t .if2 .left),
+      cell-whole k (none (one t)) (t .before .before .judged .ensures) settles (t .if2 .left),
+      roomy k (none (one t)) (t .before .before .judged .ensures) settles (t .if2 .left),
+    )
+
+returns-3 : tie.Need-returns-3
+returns-3 c =
+    let t = c .before .before .before .before .before .before .before .before .before .before .before .before in
+    judged-taken (call (from (one t .before))) (none (one t)) (t .before .before .judged .ensures)
+    (one t .before .before .settings .ensures) (t .if2 .left) (c .before .before .before .before .before .before .write .ensures)
 
 pub receive-any-spec : {M : Type 1} → statement M
 receive-any-spec =
     tie.close
-    (tie.spec (search needs) (search needs) (search needs) (search needs) number-now-requires receive-refusal-requires returns
-    (search needs) sub-missing (search needs) mul-place mul-place-2 write-requires second-now-requires (search needs)
-    (search needs) (search needs) returns-2)
+    (tie.spec (search needs) (search needs) (search needs) (search needs) early-refusal-requires (search needs) returns
+    found-now-requires judged-requires returns-2 (search needs) mul-place mul-place-2 write-requires (search needs) (search needs)
+    (search needs) returns-3)

@@ -3,30 +3,34 @@
 use mathlib.Core.Path.{_∙_, sym}
 use native.Mathlib.Omega.{arith}
 use Rattle.formats.proofs.Laws.{base-octet, slots-base}
+use Rattle.sender.specs.Sender.{openState}
 use Rattle.sender.proofs.Laws.{StatePasses, state-passes, opens-refused, opens}
 use borrow.Author.Needs.{needs}
 use Rattle.sender.proofs.opened.Statement.{statement}
 use Rattle.sender.proofs.opened.Tie as tie
 
+abbrev from : tie.After-state-refusal → tie.Start
+from c = c .before
+
 returns : tie.Need-returns
 returns c =
-    let a = c .before .before .args in
+    let a = from (c .before) .args in
     opens-refused (a .format) (a .channels) (a .order) (a .number) (a .wanted) (a .second) (c .if1 .taken)
     (c .before .state-refusal .ensures)
 
 passed : (c : tie.Else1)
-    → StatePasses (c .before .before .args .format) (c .before .before .args .channels) (c .before .before .args .order)
-    (c .before .before .args .number) (c .before .before .args .second)
+    → let a = from (c .before) .args in StatePasses (a .format) (a .channels) (a .order) (a .number) (a .second)
 passed c =
-    let a = c .before .before .args in
-    state-passes (a .format) (a .channels) (a .order) (a .number) (a .wanted) (a .second)
+    let a = from (c .before) .args in
+    state-passes (openState (a .format) (a .channels) (a .order) (a .number) (a .wanted) (a .second))
     (sym (c .before .state-refusal .ensures) ∙ c .if1 .left)
 
 cast-t10 : tie.Need-cast-t10
-cast-t10 c = record { fits = base-octet (c .before .before .args .format) (passed c .settles .base) }
+cast-t10 c = record { fits = base-octet (from (c .before) .args .format) (passed c .settles .base) }
 
 cast-t11 : tie.Need-cast-t11
-cast-t11 c = omega (arith, passed c .settles .channels-to, slots-base (c .before .before .args .format) (passed c .settles .base))
+cast-t11 c =
+    omega (arith, passed c .settles .channels-to, slots-base (from (c .before) .args .format) (passed c .settles .base))
 
 cast-t12 : tie.Need-cast-t12
 cast-t12 c = omega (arith, passed c .settles .order-to)
@@ -39,7 +43,7 @@ cast-t14 c = omega (arith, passed c .second-to)
 
 returns-2 : tie.Need-returns-2
 returns-2 c =
-    let a = c .before .before .args in
+    let a = from (c .before) .args in
     opens (a .format) (a .channels) (a .order) (a .number) (a .wanted) (a .second)
     (sym (c .if1 .left) ∙ c .before .state-refusal .ensures)
 

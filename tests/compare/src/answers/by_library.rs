@@ -1,6 +1,7 @@
 //! A case put to the proved library through the face: nothing where a number is wider than the face's type for it, or
 //! where the part of the library isn't linked.
 
+use super::management;
 use crate::case::{values, Answer, Case, Kind, Value};
 use crate::face::{self, Runs};
 
@@ -14,6 +15,12 @@ pub fn by_library(case: &Case) -> Option<Answer> {
         Kind::CheckCharacter if cfg!(feature = "status") => check_character(case),
         Kind::ReadHeader if cfg!(feature = "log") => read_header(case),
         Kind::ReadRecord if cfg!(feature = "log") => read_record(case),
+        Kind::Aes3Import if cfg!(feature = "cable") => aes3_import(case),
+        Kind::Aes3Export if cfg!(feature = "cable") => aes3_export(case),
+        Kind::Equipment => management::equipment_by_library(case),
+        Kind::Controller => management::controller_by_library(case),
+        Kind::UnitsExport if cfg!(feature = "units") => units_export(case),
+        Kind::UnitRead if cfg!(feature = "units") => unit_read(case),
         Kind::CircuitsCheck if cfg!(feature = "circuits") => circuits_check(case),
         Kind::CircuitsPlan if cfg!(feature = "circuits") => circuits_plan(case),
         _ => None,
@@ -21,7 +28,7 @@ pub fn by_library(case: &Case) -> Option<Answer> {
 }
 
 /// A lent run between entries that must stay: a box that writes past a run's ends breaks the fence.
-struct Fenced<T> {
+pub(super) struct Fenced<T> {
     entries: Vec<T>,
     fence: T,
 }
@@ -29,18 +36,18 @@ struct Fenced<T> {
 const FENCE_ENTRIES: usize = 3;
 
 impl<T: Copy + PartialEq> Fenced<T> {
-    fn around(content: &[T], fence: T) -> Fenced<T> {
+    pub(super) fn around(content: &[T], fence: T) -> Fenced<T> {
         let side = [fence; FENCE_ENTRIES];
         Fenced { entries: [&side, content, &side].concat(), fence }
     }
 
-    fn lent(&mut self) -> &mut [T] {
+    pub(super) fn lent(&mut self) -> &mut [T] {
         let end = self.entries.len() - FENCE_ENTRIES;
         &mut self.entries[FENCE_ENTRIES..end]
     }
 
     /// The run afterwards. A broken fence comes along with it, so that the comparison shows it.
-    fn back(self) -> Vec<T> {
+    pub(super) fn back(self) -> Vec<T> {
         let end = self.entries.len() - FENCE_ENTRIES;
         let fences = [&self.entries[..FENCE_ENTRIES], &self.entries[end..]].concat();
         if fences.iter().all(|&entry| entry == self.fence) {
@@ -52,7 +59,7 @@ impl<T: Copy + PartialEq> Fenced<T> {
 }
 
 /// What arrays that a call fills hold before it: it must not show afterwards.
-const LEFT_OVER: u8 = 0xA5;
+pub(super) const LEFT_OVER: u8 = 0xA5;
 
 fn narrow<T: TryFrom<u64>>(numbers: &[u64]) -> Option<Vec<T>> {
     numbers.iter().map(|&number| T::try_from(number).ok()).collect()
@@ -133,6 +140,41 @@ fn read_record(case: &Case) -> Option<Answer> {
     let mut answer = values![u64::from(refusal)];
     answer.extend(record.map(Value::Number));
     Some(answer)
+}
+
+fn aes3_import(case: &Case) -> Option<Answer> {
+    let preambles = case.octets(0).try_into().ok()?;
+    let (mut samples, mut ancillary) = ([u64::MAX; 2], [LEFT_OVER; 2]);
+    let refusal = face::aes3_import(preambles, &narrow_array(case.run(1))?, &mut samples, &mut ancillary);
+    Some(values![u64::from(refusal), &samples[..], &wide(&ancillary)[..]])
+}
+
+fn aes3_export(case: &Case) -> Option<Answer> {
+    let samples = case.run(0).try_into().ok()?;
+    let (mut preambles, mut subframes) = ([LEFT_OVER; 2], [u32::MAX; 2]);
+    let refusal = face::aes3_export(samples, &narrow_array(case.run(1))?, &mut preambles, &mut subframes);
+    Some(values![u64::from(refusal), &preambles[..], &wide(&subframes)[..]])
+}
+
+fn units_export(case: &Case) -> Option<Answer> {
+    let settings = narrow_array(&[case.number(0), case.number(1)])?;
+    let size = usize::try_from(case.number(2)).ok()?;
+    let ancillary: Vec<u8> = narrow(case.run(4))?;
+    let mut out = Fenced::around(case.octets(5), LEFT_OVER);
+    let mut units = [u64::MAX; 3];
+    let refusal = face::units_export(settings, size, case.run(3), &ancillary, out.lent(), &mut units);
+    let mut answer = values![u64::from(refusal), &out.back()[..]];
+    answer.extend(units.map(Value::Number));
+    Some(answer)
+}
+
+fn unit_read(case: &Case) -> Option<Answer> {
+    let settings = narrow_array(&[case.number(0), case.number(1)])?;
+    let mut samples = Fenced::around(case.run(3), u64::MAX);
+    let mut ancillary = Fenced::around(&narrow(case.run(4))?, LEFT_OVER);
+    let mut entries = u64::MAX;
+    let refusal = face::unit_read(settings, case.octets(2), samples.lent(), ancillary.lent(), &mut entries);
+    Some(values![u64::from(refusal), &samples.back()[..], &wide(&ancillary.back())[..], entries])
 }
 
 fn circuits_check(case: &Case) -> Option<Answer> {

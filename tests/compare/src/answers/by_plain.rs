@@ -1,6 +1,7 @@
 //! A case put to the plain implementation, under the rules of the face: a yes or no in a state is 0 or anything else,
 //! it comes back as 0 or 1, and a refusal leaves all that was lent as it was.
 
+use super::management;
 use crate::case::{values, Answer, Case, Kind, Value};
 use crate::plain::{self, Block, Fault, Receiver, Record, Refusal, Sender};
 
@@ -14,7 +15,13 @@ pub fn by_plain(case: &Case) -> Answer {
         Kind::CheckCharacter => values![u64::from(plain::check_character(&case.octets(0)[..23]))],
         Kind::ReadHeader => read_header(case),
         Kind::ReadRecord => read_record(case),
+        Kind::Equipment => management::equipment_by_plain(case),
+        Kind::Controller => management::controller_by_plain(case),
         Kind::Linelist => values![plain::listing(case.octets(0)).as_bytes()],
+        Kind::Aes3Import => aes3_import(case),
+        Kind::Aes3Export => aes3_export(case),
+        Kind::UnitsExport => units_export(case),
+        Kind::UnitRead => unit_read(case),
         Kind::CircuitsCheck => circuits_check(case),
         Kind::CircuitsPlan => circuits_plan(case),
     }
@@ -74,7 +81,7 @@ fn receive(case: &Case) -> Answer {
     let (state, indication) = (case.run(0), case.yes(2));
     let mut runs = [3, 4, 5].map(|field| case.run(field).to_vec());
     let (refusal, after, report) =
-        match receiver_of(state).receive(case.octets(1), [0, 1, 2].map(|run| runs[run].len())) {
+        match receiver_of(state).receive(case.octets(1), indication, [0, 1, 2].map(|run| runs[run].len())) {
             Ok((after, received)) => {
                 for (at, entry) in received.entries.iter().enumerate() {
                     runs[0][at] = entry.sample;
@@ -97,7 +104,11 @@ fn status_step(case: &Case) -> Answer {
     match plain::step(&block, case.number(2), case.number(3)) {
         Ok((after, None)) => values![0, after.bits, &after.octets[..], 0, &[0u8; 24][..]],
         Ok((after, Some(handed))) => {
-            let answer = if handed.fits { 2 } else { 1 };
+            let answer = match handed.character {
+                plain::Character::DoesNotFit => 1,
+                plain::Character::Fits => 2,
+                plain::Character::NoneCarried => 3,
+            };
             values![0, after.bits, &after.octets[..], answer, &handed.octets[..]]
         }
         Err(refusal) => values![u64::from(refusal), block.bits, &block.octets[..], 0, &[0u8; 24][..]],
@@ -117,6 +128,50 @@ fn read_record(case: &Case) -> Answer {
         Ok(Record::Cell { indication, start, next }) => values![0, 1, indication, start as u64, next as u64],
         Ok(Record::End) => values![0, 0, 0, 0, place],
         Err(refusal) => values![u64::from(refusal), 0, 0, 0, 0],
+    }
+}
+
+fn aes3_import(case: &Case) -> Answer {
+    match plain::import_frame(case.octets(0), case.run(1)) {
+        Ok([first, second]) => {
+            values![0, &[first.sample, second.sample][..], &[first.ancillary, second.ancillary][..]]
+        }
+        Err(refusal) => values![u64::from(refusal), &[0u64; 2][..], &[0u64; 2][..]],
+    }
+}
+
+fn aes3_export(case: &Case) -> Answer {
+    match plain::export_frame(case.run(0), case.run(1)) {
+        Ok((preambles, subframes)) => values![0, &preambles[..], &subframes[..]],
+        Err(refusal) => values![u64::from(refusal), &[0u8; 2][..], &[0u64; 2][..]],
+    }
+}
+
+fn units_export(case: &Case) -> Answer {
+    let settings = [case.number(0), case.number(1)];
+    let mut out = case.octets(5).to_vec();
+    match plain::export_units(settings, case.number(2), case.run(3), case.run(4), out.len()) {
+        Ok(units) => {
+            let octets = units.each.concat();
+            out[..octets.len()].copy_from_slice(&octets);
+            values![0, &out[..], octets.len() as u64, units.full, units.each.len() as u64]
+        }
+        Err(refusal) => values![u64::from(refusal), &out[..], 0, 0, 0],
+    }
+}
+
+fn unit_read(case: &Case) -> Answer {
+    let mut runs = [3, 4].map(|field| case.run(field).to_vec());
+    let lengths = [0, 1].map(|run| runs[run].len());
+    match plain::read_unit([case.number(0), case.number(1)], case.octets(2), lengths) {
+        Ok(entries) => {
+            for (at, entry) in entries.iter().enumerate() {
+                runs[0][at] = entry.sample;
+                runs[1][at] = entry.ancillary;
+            }
+            values![0, &runs[0][..], &runs[1][..], entries.len() as u64]
+        }
+        Err(refusal) => values![u64::from(refusal), &runs[0][..], &runs[1][..], 0],
     }
 }
 

@@ -1,6 +1,7 @@
 //! Single calls of the sender and the receiver with arbitrary states, lengths and lent contents.
 
-use super::inputs::{alter, ancillary, cell, damage_state, length, samples, setup, shape_of, wrong_number};
+use super::inputs::{alter, ancillary, cell, damage_state, indication, length};
+use super::inputs::{samples, setup, shape_of, wrong_number};
 use super::{Played, Referee};
 use crate::case::{values, Answer, Case, Kind, Value};
 use crate::plain::Shape;
@@ -70,10 +71,12 @@ pub fn one_receive(random: &mut Random, referee: &mut Referee) -> Played {
     let mut state = [format, channels, order, started, last];
     damage_state(&mut state, 3, random);
     let shape = shape_of(&state, random);
-    let mut octets = cell(&shape, random.below(16), random);
+    let number = random.below(16);
+    let mut octets = cell(&shape, number, random);
     alter(&mut octets, &shape, random);
     octets.resize(length(48, 16, random), 0);
-    let case = receive(&state, &octets, room(&shape, 1 + random.below(15), random), random);
+    let room = room(&shape, 1 + random.below(15), random);
+    let case = receive(&state, &octets, indication(number, random), room, random);
     referee.call(case).map(|_| ())
 }
 
@@ -91,7 +94,7 @@ pub fn room(shape: &Shape, cells: u64, random: &mut Random) -> usize {
 }
 
 /// A call of the receiver with runs of `room` entries of anything, one time in sixteen not equally long.
-pub fn receive(state: &[u64], cell: &[u8], room: usize, random: &mut Random) -> Case {
+pub fn receive(state: &[u64], cell: &[u8], indication: bool, room: usize, random: &mut Random) -> Case {
     let mut lengths = [room; 3];
     if random.one_in(16) {
         lengths[random.place(3)] = length(room, 2, random);
@@ -99,7 +102,6 @@ pub fn receive(state: &[u64], cell: &[u8], room: usize, random: &mut Random) -> 
     let samples = random.wide_run(lengths[0]);
     let ancillary = random.run(lengths[1], 256);
     let marks = random.run(lengths[2], 256);
-    let indication = random.one_in(2);
     Case::new(Kind::Receive, values![state, cell, indication, &samples[..], &ancillary[..], &marks[..]])
 }
 

@@ -104,6 +104,12 @@ pub fn cell(shape: &Shape, number: u64, random: &mut Random) -> Vec<u8> {
     shape.pack(number, random.below(16), &samples, &ancillary)
 }
 
+/// The indication beside a cell of this number: anything where it may be 1, and elsewhere 1 now and then, as a switch once
+/// set it.
+pub fn indication(number: u64, random: &mut Random) -> bool {
+    random.one_in(if number.is_multiple_of(8) { 2 } else { 4 })
+}
+
 /// What a line does to a cell that it delivers: nothing, a few bits altered anywhere or in the eight number bits of the
 /// format, or all octets replaced.
 pub fn alter(cell: &mut [u8], shape: &Shape, random: &mut Random) {

@@ -1,4 +1,5 @@
-//! Readings: a sender, a line that loses, repeats and alters cells, and a receiver, their states carried on.
+//! Readings: a sender, a line that loses, repeats and alters cells and sets indications, and a receiver, their states
+//! carried on.
 
 use super::boxes::{receive, room, send, state_of};
 use super::inputs::{alter, setup};
@@ -17,7 +18,9 @@ pub fn reading(random: &mut Random, referee: &mut Referee) -> Played {
     let mut receiver = state_of(&referee.call(Case::new(Kind::ReceiverOpen, values![format, channels, order]))?);
     let mut losing = 0;
     for _ in 0..5 + random.below(60) {
-        let answer = referee.call(send(&sender, &shape, 40, random))?;
+        let case = send(&sender, &shape, 40, random);
+        let indication = case.yes(1) || random.one_in(40);
+        let answer = referee.call(case)?;
         sender = state_of(&answer);
         losing = if losing > 0 { losing - 1 } else { loss(random) };
         if losing > 0 || answer[0].number() != 0 {
@@ -26,7 +29,7 @@ pub fn reading(random: &mut Random, referee: &mut Referee) -> Played {
         let mut octets = answer[2].octets().to_vec();
         alter(&mut octets, &shape, random);
         for _ in 0..copies(random) {
-            receiver = deliver(&receiver, &octets, &shape, random, referee)?;
+            receiver = deliver(&receiver, &octets, indication, &shape, random, referee)?;
         }
     }
     Ok(())
@@ -53,15 +56,16 @@ fn copies(random: &mut Random) -> u64 {
 fn deliver(
     receiver: &[u64],
     cell: &[u8],
+    indication: bool,
     shape: &Shape,
     random: &mut Random,
     referee: &mut Referee,
 ) -> Result<Vec<u64>, Box<super::Difference>> {
     let cells = 1 + random.below(15);
-    let answer = referee.call(receive(receiver, cell, room(shape, cells, random), random))?;
+    let answer = referee.call(receive(receiver, cell, indication, room(shape, cells, random), random))?;
     if answer[0].number() != 10 {
         return Ok(state_of(&answer));
     }
-    let again = receive(&state_of(&answer), cell, 15 * shape.entries(), random);
+    let again = receive(&state_of(&answer), cell, indication, 15 * shape.entries(), random);
     Ok(state_of(&referee.call(again)?))
 }

@@ -1,6 +1,6 @@
 //! Logs, whole and damaged: the header, then record after record, and places anywhere.
 
-use super::inputs::{alter, cell, setup, wrong_number};
+use super::inputs::{alter, cell, indication, setup, wrong_number};
 use super::{Played, Referee};
 use crate::case::{values, Case, Kind};
 use crate::plain::Shape;
@@ -36,7 +36,7 @@ fn log(random: &mut Random) -> Vec<u8> {
     let mut number = random.below(16);
     let records = if random.one_in(50) { 200 } else { random.below(12) };
     for _ in 0..records {
-        log.push(if random.one_in(40) { random.below(256) as u8 } else { random.below(2) as u8 });
+        log.push(if random.one_in(40) { random.below(256) as u8 } else { indication(number, random) as u8 });
         let mut octets = cell(&shape, number, random);
         alter(&mut octets, &shape, random);
         log.extend(octets);

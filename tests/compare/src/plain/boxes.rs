@@ -92,11 +92,18 @@ impl Receiver {
     }
 
     /// The state afterwards and what the cell brings, where the three runs have these lengths.
-    pub fn receive(&self, cell: &[u8], lengths: [usize; 3]) -> Result<(Receiver, Received), Refusal> {
+    pub fn receive(
+        &self,
+        cell: &[u8],
+        indication: bool,
+        lengths: [usize; 3],
+    ) -> Result<(Receiver, Received), Refusal> {
         let shape = self.shape()?;
         let [room, ancillary_len, marks_len] = lengths;
         refuse_if(cell.len() != CELL_OCTETS || room != ancillary_len || room != marks_len, 5)?;
         let (number, second) = if shape.format.overhead { shape.numbers_of(cell).ok_or(8)? } else { (0, 0) };
+        // "The receiver must turn down such cells where the format carries overhead": after 8 and before 9.
+        refuse_if(shape.format.overhead && indication && !number.is_multiple_of(8), 15)?;
         let steps = self.steps_to(&shape, number);
         refuse_if(steps == 0, 9)?;
         refuse_if(room < steps as usize * shape.entries(), 10)?;

@@ -77,9 +77,9 @@ fn records_listed(log: &[u8], header: &Header) -> String {
     for index in 0.. {
         let line = match record(log, place) {
             Ok(Record::End) => break,
-            Ok(Record::Cell { start, next, .. }) => {
+            Ok(Record::Cell { indication, start, next }) => {
                 place = next as u64;
-                cell_line(&mut receiver, &mut tally, &log[start..next])
+                cell_line(&mut receiver, &mut tally, indication, &log[start..next])
             }
             Err(refusal) => {
                 text += &format!("{index} broken {refusal}\n");
@@ -92,8 +92,8 @@ fn records_listed(log: &[u8], header: &Header) -> String {
     text + &format!("end {sound} sound {missing} missing {refused} refused\n")
 }
 
-fn cell_line(receiver: &mut Receiver, tally: &mut Tally, cell: &[u8]) -> String {
-    match receiver.receive(cell, [AMPLE_ROOM; 3]) {
+fn cell_line(receiver: &mut Receiver, tally: &mut Tally, indication: bool, cell: &[u8]) -> String {
+    match receiver.receive(cell, indication, [AMPLE_ROOM; 3]) {
         Ok((after, received)) => {
             *receiver = after;
             tally.sound += 1;

@@ -15,10 +15,17 @@ pub struct Block {
 
 const NOTHING_BEGUN: Block = Block { bits: 0, octets: [0; 24] };
 
-/// A finished block, with the yes or no.
+/// What is said of octet 23 of a finished block.
+pub enum Character {
+    DoesNotFit,
+    Fits,
+    NoneCarried,
+}
+
+/// A finished block.
 pub struct Handed {
     pub octets: [u8; 24],
-    pub fits: bool,
+    pub character: Character,
 }
 
 /// The block afterwards, and the finished one if this was its last bit.
@@ -36,8 +43,19 @@ pub fn step(block: &Block, ancillary: u64, mark: u64) -> Result<(Block, Option<H
     if longer.bits < BLOCK_BITS {
         return Ok((longer, None));
     }
-    let fits = longer.octets[23] == check_character(&longer.octets[..23]);
-    Ok((NOTHING_BEGUN, Some(Handed { octets: longer.octets, fits })))
+    let character = judged(&longer.octets);
+    Ok((NOTHING_BEGUN, Some(Handed { octets: longer.octets, character })))
+}
+
+/// The first bit is 0 for consumer use. Only the professional layout has a check character.
+fn judged(octets: &[u8; 24]) -> Character {
+    let professional = octets[0] & 1 == 1;
+    let fits = octets[23] == check_character(&octets[..23]);
+    match (professional, fits) {
+        (false, _) => Character::NoneCarried,
+        (true, true) => Character::Fits,
+        (true, false) => Character::DoesNotFit,
+    }
 }
 
 /// "Bit k goes to octet k/8, bit k mod 8, bit 0 being the lowest; the other bits stay."

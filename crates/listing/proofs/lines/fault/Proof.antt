@@ -7,8 +7,10 @@ use Rattle.listing.proofs.lines.fault.Tie as tie
 
 returns : tie.Need-returns
 returns c =
-    puts-then (puts-then (c .before .before .before .before .before .before .before .before .before .before .before .put-item .ensures)
-    (c .before .before .before .before .before .before .before .put-item2 .ensures))
+    let at-put-item2 = c .before .before .before .before .before .before .before in
+    let at-put-item = at-put-item2 .before .before .before .before in
+    puts-then (puts-then (at-put-item .put-item .ensures)
+    (at-put-item2 .put-item2 .ensures))
     (c .before .before .put-all .ensures)
 
 pub fault-spec : {M : Type 1} → statement M

@@ -7,7 +7,8 @@ use Rattle.listing.proofs.lines.log_refused_line.Tie as tie
 
 returns : tie.Need-returns
 returns c =
-    puts-then (c .before .before .before .before .before .before .before .put-item .ensures)
+    let at-put-item = c .before .before .before .before .before .before .before in
+    puts-then (at-put-item .put-item .ensures)
     (c .before .before .put-all .ensures)
 
 pub log-refused-line-spec : {M : Type 1} → statement M

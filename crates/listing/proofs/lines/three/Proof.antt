@@ -7,9 +7,12 @@ use Rattle.listing.proofs.lines.three.Tie as tie
 
 returns : tie.Need-returns
 returns c =
-    puts-then (puts-then (puts-then (c .before .before .before .before .before .before .before .before .before .before .before .before .before .before .put-item .ensures)
-    (c .before .before .before .before .before .before .before .before .before .before .put-item2 .ensures))
-    (c .before .before .before .before .before .before .put-item3 .ensures))
+    let at-put-item3 = c .before .before .before .before .before .before in
+    let at-put-item2 = at-put-item3 .before .before .before .before in
+    let at-put-item = at-put-item2 .before .before .before .before in
+    puts-then (puts-then (puts-then (at-put-item .put-item .ensures)
+    (at-put-item2 .put-item2 .ensures))
+    (at-put-item3 .put-item3 .ensures))
     (c .before .before .put-all .ensures)
 
 pub three-spec : {M : Type 1} → statement M

@@ -7,10 +7,16 @@ use Rattle.listing.proofs.records.record_line.Statement.{statement}
 use Rattle.listing.proofs.records.record_line.Tie as tie
 
 returns : tie.Need-returns
-returns c = puts-same (line-sound (c .before .before .before .before .before .before .before .before .before .args .index) (c .before .before .before .before .before .before .before .before .before .args .got) (c .before .before .before .before .before .before .if1 .taken)) (c .before .before .sound-line .ensures)
+returns c =
+    let at-if1 = c .before .before .before .before .before .before in
+    let at-call = at-if1 .before .before .before in
+    puts-same (line-sound (at-call .args .index) (at-call .args .got) (at-if1 .if1 .taken)) (c .before .before .sound-line .ensures)
 
 returns-2 : tie.Need-returns-2
-returns-2 c = puts-same (line-refused (c .before .before .before .before .before .before .before .before .args .index) (c .before .before .before .before .before .before .before .before .args .got) (c .before .before .before .before .before .if1 .left)) (c .before .before .refused-line .ensures)
+returns-2 c =
+    let at-if1 = c .before .before .before .before .before in
+    let at-call = at-if1 .before .before .before in
+    puts-same (line-refused (at-call .args .index) (at-call .args .got) (at-if1 .if1 .left)) (c .before .before .refused-line .ensures)
 
 pub record-line-spec : {M : Type 1} → statement M
 record-line-spec =

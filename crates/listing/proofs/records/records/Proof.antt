@@ -18,23 +18,37 @@ loop-holds : tie.Need-loop-holds Inv-loop μ-loop
 loop-holds c = (c .before .before .before .pre .0, along-start _ _ _ (c .before .before .before .pre .1) (c .read .ensures))
 
 after-requires : tie.Need-after-requires Inv-loop μ-loop
-after-requires c κs = c .before .before .before .before .before .before .before .before .loop .inv .1 .counted
+after-requires c κs =
+    let at-loop = c .before .before .before .before .before .before .before .before in
+    at-loop .loop .inv .1 .counted
 
 loop-less : tie.Need-loop-less Inv-loop μ-loop
-loop-less c = step-less (c .before .before .before .before .before .before .before .before .before .before .loop .inv .1) (c .before .before .before .before .before .before .before .before .before .before .loop .inv .0) (c .before .before .before .before .before .before .before .before .if1 .taken) (c .before .before .before .before .before .before .judged .result) (c .before .after .ensures .0)
+loop-less c =
+    let at-judged = c .before .before .before .before .before .before in
+    let at-loop = at-judged .before .before .before .before in
+    step-less (at-loop .loop .inv .1) (at-loop .loop .inv .0) (at-judged .before .before .if1 .taken) (at-judged .judged .result) (c .before .after .ensures .0)
 
 loop-again : tie.Need-loop-again Inv-loop μ-loop
-loop-again c = (
-  c .before .before .before .before .before .before .before .before .before .before .loop .inv .0,
-  along-turn (c .before .before .before .before .before .before .before .before .before .before .loop .inv .1) (c .before .before .before .before .before .before .before .before .before .before .loop .inv .0) (c .before .before .before .before .before .before .before .before .if1 .taken) (c .before .before .before .before .before .before .judged .ensures) (c .before .before .before .before .before .before .before .read-cell .ensures .0)
-      (c .before .after .ensures .1) (c .before .before .before .before .record-line .ensures) (c .before .before .before .before .record-line .kept .0) (c .before .after .ensures .0) (c .read2 .ensures),
-)
+loop-again c =
+    let at-record-line = c .before .before .before .before in
+    let at-read-cell = at-record-line .before .before .before in
+    let at-loop = at-read-cell .before .before .before in (
+      at-loop .loop .inv .0,
+      along-turn (at-loop .loop .inv .1) (at-loop .loop .inv .0) (at-read-cell .before .if1 .taken) (at-record-line .before .before .judged .ensures)
+          (at-read-cell .read-cell .ensures .0)
+          (c .before .after .ensures .1) (at-record-line .record-line .ensures) (at-record-line .record-line .kept .0) (c .before .after .ensures .0)
+          (c .read2 .ensures),
+    )
 
 same-length : tie.Need-same-length Inv-loop μ-loop
-same-length c = c .before .before .end-lines .kept .0 ∙ c .before .before .before .before .before .before .loop .inv .1 .same
+same-length c =
+    let at-loop = c .before .before .before .before .before .before in
+    c .before .before .end-lines .kept .0 ∙ at-loop .loop .inv .1 .same
 
 returns : tie.Need-returns Inv-loop μ-loop
-returns c = along-end (c .before .before .before .before .before .before .loop .inv .1) (c .before .before .before .before .if1 .left) (c .before .before .end-lines .ensures)
+returns c =
+    let at-if1 = c .before .before .before .before in
+    along-end (at-if1 .before .before .loop .inv .1) (at-if1 .if1 .left) (c .before .before .end-lines .ensures)
 
 pub records-spec : {M : Type 1} → statement M
 records-spec =

@@ -29,17 +29,25 @@ known t = (digit-reads.Asked, digit-reads.Learnt, put-reads.Asked, put-reads.Lea
 
 returns : (t : ℕ) → lts.Need-returns (known t) (given t) put-number.Post
 returns t c =
-    number-one (c .before .before .before .before .before .before .before .args .n) (c .before .before .before .before .before .if1 .taken) (c .before .before .before .digit .ensures) (c .before .before .put .ensures)
+    let at-digit = c .before .before .before in
+    let at-call = at-digit .before .before .before .before in
+    number-one (at-call .args .n) (at-digit .before .before .if1 .taken) (at-digit .digit .ensures) (c .before .before .put .ensures)
 
 put-number-requires : (t : ℕ) → lts.Need-put-number-requires (known t) (given t) put-number.Post
 put-number-requires t c κs = (omega (arith, c .before .before .before .pre .0), tt)
 
 same-length-2 : (t : ℕ) → lts.Need-same-length-2 (known t) (given t) put-number.Post
-same-length-2 t c = c .before .before .put2 .kept .0 ∙ c .before .before .before .before .before .before .before .put-number .kept .0
+same-length-2 t c =
+    let at-put-number = c .before .before .before .before .before .before .before in
+    c .before .before .put2 .kept .0 ∙ at-put-number .put-number .kept .0
 
 returns-2 : (t : ℕ) → lts.Need-returns-2 (known t) (given t) put-number.Post
 returns-2 t c =
-    number-more (c .before .before .before .before .before .before .before .before .before .before .before .args .n) (c .before .before .before .before .before .before .before .before .before .if1 .left) (omega arith) (c .before .before .before .digit2 .ensures) (c .before .before .before .before .before .before .before .put-number .ensures) (c .before .before .put2 .ensures)
+    let at-digit2 = c .before .before .before in
+    let at-put-number = at-digit2 .before .before .before .before in
+    let at-call = at-put-number .before .before .before .before in
+    number-more (at-call .args .n) (at-put-number .before .before .if1 .left) (omega arith) (at-digit2 .digit2 .ensures)
+    (at-put-number .put-number .ensures) (c .before .before .put2 .ensures)
 
 pub +put-number-spec : {M : Type 1} → statement M
 +put-number-spec =

@@ -4,7 +4,7 @@ use mathlib.Core.Path.{_≡_, refl, _∙_}
 use Prim.Native.Nat.{_≤_, _-_}
 use borrow.Author.Needs.{needs}
 use lib.ListN.{length, take}
-use Rattle.listing.specs.Text.{Puts}
+use Rattle.listing.specs.Code.{Puts}
 use Rattle.listing.proofs.Laws.{puts-none, puts-turn, puts-all}
 use Rattle.listing.proofs.text.put_all.Statement.{statement}
 use Rattle.listing.proofs.text.put_all.Tie as tie
@@ -20,11 +20,14 @@ loop-holds : tie.Need-loop-holds Inv-loop μ-loop
 loop-holds c = (search needs, refl, puts-none _ _)
 
 loop-again : tie.Need-loop-again Inv-loop μ-loop
-loop-again c = (
-  search needs,
-  c .before .before .put .kept .0 ∙ c .before .before .before .before .before .before .loop .inv .1,
-  puts-turn (c .before .before .before .before .before .before .before .before .before .args .octets .now) (c .before .before .before .before .before .before .loop .i) (c .before .before .before .before .before .loop-test .taken) (c .before .before .before .before .before .before .loop .inv .2) (c .before .before .put .ensures),
-)
+loop-again c =
+    let at-loop-test = c .before .before .before .before .before in
+    let at-call = at-loop-test .before .before .before .before in (
+      search needs,
+      c .before .before .put .kept .0 ∙ at-loop-test .before .loop .inv .1,
+      puts-turn (at-call .args .octets .now) (at-loop-test .before .loop .i) (at-loop-test .loop-test .taken) (at-loop-test .before .loop .inv .2)
+          (c .before .before .put .ensures),
+    )
 
 returns : tie.Need-returns Inv-loop μ-loop
 returns c = puts-all (c .before .before .before .before .args .octets .now) (c .before .loop .i) (c .loop-test .left) (c .before .loop .inv .2)

@@ -6,7 +6,9 @@ use Rattle.listing.proofs.text.put_item.Statement.{statement}
 use Rattle.listing.proofs.text.put_item.Tie as tie
 
 returns : tie.Need-returns
-returns c = puts-then (c .before .before .before .before .before .before .put-all .ensures) (c .before .before .put-number .ensures)
+returns c =
+    let at-put-all = c .before .before .before .before .before .before in
+    puts-then (at-put-all .put-all .ensures) (c .before .before .put-number .ensures)
 
 pub put-item-spec : {M : Type 1} → statement M
 put-item-spec = tie.close (tie.spec (search needs) (search needs) (search needs) returns)

@@ -17,7 +17,8 @@ returns c =
 
 -- the numbers are those of a format
 settled : (c : tie.Else1)
-    → settingsRefusal (c .before .before .before .before .args .format) (c .before .before .before .before .args .channels) (c .before .before .before .before .args .order) ≡ 0
+    → settingsRefusal (c .before .before .before .before .args .format) (c .before .before .before .before .args .channels)
+    (c .before .before .before .before .args .order) ≡ 0
 settled c = given-none _ _ _ 0 (c .before .before .settings .ensures) (c .if1 .left)
 
 returns-2 : tie.Need-returns-2

@@ -25,8 +25,10 @@ same-length c = c .before .before .before .put .kept .0 ∙ simp length-set
 
 returns-4 : tie.Need-returns-4
 returns-4 c =
-    record-stored _ _ _ (c .before .before .before .before .before .octet-of .result) (c .before .before .before .before .before .octet-of .ensures) (c .before .before .before .before .before .before .before .before .if1 .left) (omega arith)
-    (c .kept-to .ensures) (c .before .before .before .put .ensures)
+    let at-put = c .before .before .before in
+    let at-if1 = at-put .before .before .before .before .before in
+    record-stored _ _ _ (at-put .before .before .octet-of .result) (at-put .before .before .octet-of .ensures) (at-if1 .if1 .left) (omega arith)
+    (c .kept-to .ensures) (at-put .put .ensures)
 
 pub write-record-spec : {M : Type 1} → statement M
 write-record-spec =

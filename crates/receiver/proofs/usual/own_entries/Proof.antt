@@ -14,7 +14,7 @@ use Rattle.receiver.proofs.usual.own_entries.Tie as tie
 
 abbrev Inv-loop : tie.InvT-loop
 Inv-loop cell at samples₀ ancillary₀ marks₀ i₀ samples ancillary marks i =
-    Entered fours 12 cell at samples₀ ancillary₀ marks₀ samples ancillary marks i
+    Entered cell at samples₀ ancillary₀ marks₀ samples ancillary marks i
 
 abbrev μ-loop : tie.MeasureT-loop
 μ-loop cell at samples₀ ancillary₀ marks₀ i₀ samples ancillary marks i = 12 - i
@@ -22,33 +22,36 @@ abbrev μ-loop : tie.MeasureT-loop
 loop-holds : tie.Need-loop-holds Inv-loop μ-loop
 loop-holds c =
     let s = c .before .before .before .before in
-    entered-begun fours refl refl 12 (now (s .args .cell)) (s .args .at) (now (s .args .samples)) (now (s .args .ancillary)) (now (s .args .marks))
+    entered-begun (now (s .args .cell)) (s .args .at) (now (s .args .samples)) (now (s .args .ancillary)) (now (s .args .marks))
     (s .pre .1)
 
 enter-requires : tie.Need-enter-requires Inv-loop μ-loop
 enter-requires c κs =
     let s = c .before .before .before .before .before .before .before .before .before .before .before in
-    room-here fours refl refl 12 (now (s .args .cell)) (s .args .at) (now (s .args .samples)) (now (s .args .ancillary)) (now (s .args .marks))
+    room-here (now (s .args .cell)) (s .args .at) (now (s .args .samples)) (now (s .args .ancillary)) (now (s .args .marks))
     (s .pre .1) (c .before .before .before .before .before .before .loop .inv) (c .before .before .before .before .before .loop-test .taken)
 
 loop-again : tie.Need-loop-again Inv-loop μ-loop
 loop-again c =
-    let s = c .before .before .before .before .before .before .before .before .before .before .before .before .before .before .before .before .before .before in
-    let less = c .before .before .before .before .before .before .before .before .before .before .before .before .loop-test .taken in
-    let slot = c .before .before .before .before .before .before .before .before .before .before .before .before .before .loop .i in
-    let word = c .before .before .before .before .before .before .before .before .before .before .before .in4 .result in
-    entered-on fours refl refl 12 (now (s .args .cell)) (s .args .at) (now (s .args .samples)) (now (s .args .ancillary)) (now (s .args .marks))
-    (s .pre .1) (c .before .before .before .before .before .before .before .before .before .before .before .before .before .loop .inv) less
-    (by-width fours (now (s .args .cell)) slot refl
-    (c .before .before .before .before .before .before .before .before .before .before .before .in4 .ensures .0 ∙ four-read (now (s .args .cell)) (slot * 4) (omega (arith, s .pre .0, less))))
+    let entered = c .before .before .before .before .before .before in
+    let marked = entered .before .before .before .before in
+    let l = marked .before .before .before in
+    let s = l .before .before .before .before .before in
+    let less = marked .before .before .loop-test .taken in
+    let word = marked .before .in4 .result in
+    entered-on (now (s .args .cell)) (s .args .at) (now (s .args .samples)) (now (s .args .ancillary)) (now (s .args .marks)) (s .pre .1)
+    (l .loop .inv) less
+    (by-width fours (now (s .args .cell)) (l .loop .i) refl
+    (marked .before .in4 .ensures .0 ∙ four-read (now (s .args .cell)) (l .loop .i * 4) (omega (arith, s .pre .0, less))))
     (mark-on-top fours refl refl word 24 (word / 8388608) refl (omega arith)
-    (let on-top : word / 8388608 % 512 ≡ word / 256 * 2 / 65536 % 512 = omega arith in on-top) (c .before .before .before .before .before .before .before .before .before .before .marks-at .result) (c .before .before .before .before .before .before .before .before .before .before .marks-at .ensures .0))
-    (c .before .before .before .before .before .before .enter .ensures)
+    (let on-top : word / 8388608 % 512 ≡ word / 256 * 2 / 65536 % 512 = omega arith in on-top) (marked .marks-for-usual .result)
+    (marked .marks-for-usual .ensures .0))
+    (entered .enter .ensures)
 
 returns : tie.Need-returns Inv-loop μ-loop
 returns c =
     let s = c .before .before .before .before .before .before in
-    entered-done fours refl refl 12 (now (s .args .cell)) (s .args .at) (now (s .args .samples)) (now (s .args .ancillary)) (now (s .args .marks))
+    entered-done (now (s .args .cell)) (s .args .at) (now (s .args .samples)) (now (s .args .ancillary)) (now (s .args .marks))
     (s .pre .1) (c .before .loop .inv) (c .loop-test .left)
 
 pub own-entries-spec : {M : Type 1} → statement M

@@ -1,68 +1,115 @@
 -- `receiver::usual::receive` meets its contract.
 -- Assumes nothing.
-use mathlib.Core.Path.{_≡_, refl, _∙_, sym}
-use Prim.Native.Nat.{_-_}
+use mathlib.Core.Path.{_≡_, _∙_, sym}
+use Prim.Native.Nat.{_≤_}
+use native.Mathlib.Omega.{arith}
 use denote.Ref.{now}
-use lib.ListN.{length}
-use Rattle.formats.specs.Formats.{settingsOf}
-use Rattle.receiver.specs.Receiver.{receiveRefusal, numberNow}
-use Rattle.receiver.proofs.AllSlots.{usual-settles, usual-sound, usual-number, usual-room, usual-writes}
-use Rattle.receiver.proofs.Laws.{receives-refused, gap-some, roomy, receives-taken}
+use Rattle.formats.specs.Settings.{settingsOf}
+use Rattle.receiver.proofs.AllSlots.{usual-settles, usual-sound, usual-found, usual-room, usual-fills}
+use Rattle.receiver.proofs.Laws.{
+  Call,
+  early-of,
+  judged-format,
+  judged-whole,
+  early-refused,
+  equal-early,
+  judged-refused,
+  cell-whole,
+  missing-few,
+  roomy,
+  judged-taken,
+}
 use borrow.Author.Needs.{needs}
 use Rattle.receiver.proofs.usual.receive.Statement.{statement}
 use Rattle.receiver.proofs.usual.receive.Tie as tie
 
-number-in-requires : tie.Need-number-in-requires
-number-in-requires c κs = (usual-sound (c .before .before .before .before .before .before .before .pre) (c .before .usual .ensures), c .before .before .before .before .before .before .before .pre .cell-whole)
+-- the way back from the settings, and the call
+abbrev from : tie.After-usual → tie.Start
+from u = u .before .before .before .before .before .before
 
-receive-refusal-requires : tie.Need-receive-refusal-requires
-receive-refusal-requires c κs = (
-  usual-settles (c .before .before .before .before .before .before .before .before .pre) (c .before .before .usual .ensures),
-  λ taken whole. usual-number (c .before .before .before .before .before .before .before .before .pre) (c .before .before .usual .ensures) (now (c .before .before .before .before .before .before .before .before .args .cell)) (c .number-in .ensures),
-)
+abbrev call : tie.Start → Call
+call s =
+    record {
+      state = s .args .state;
+      cell = now (s .args .cell);
+      indication = s .args .indication;
+      samples = now (s .args .samples);
+      ancillary = now (s .args .ancillary);
+      marks = now (s .args .marks);
+    }
+
+settles : (u : tie.After-usual)
+    → u .usual .result ≡ settingsOf (from u .args .state .format) (from u .args .state .channels) (from u .args .state .order)
+settles u = usual-settles (from u .args .state) (u .usual .ensures) (from u .pre)
+
+early-refusal-requires : tie.Need-early-refusal-requires
+early-refusal-requires c κs = settles c
 
 returns : tie.Need-returns
 returns c =
-    let s = c .before .before .before .before .before .before .before .before .before .before in
-    receives-refused (s .args .state) (now (s .args .cell)) (s .args .indication) (now (s .args .samples)) (now (s .args .ancillary))
-    (now (s .args .marks)) (c .if1 .taken) (c .before .receive-refusal .ensures)
+    let e = c .before .before in
+    rw (c .refused .ensures) (early-refused (call (from (e .before))) (c .before .if1 .taken) (e .early-refusal .ensures))
 
-none : (c : tie.Else1)
-    → 0
-    ≡ receiveRefusal (c .before .before .before .before .before .before .before .before .before .before .args .state) (now (c .before .before .before .before .before .before .before .before .before .before .args .cell)) (length (now (c .before .before .before .before .before .before .before .before .before .before .args .samples))) (length (now (c .before .before .before .before .before .before .before .before .before .before .args .ancillary))) (length (now (c .before .before .before .before .before .before .before .before .before .before .args .marks)))
-none c = sym (c .if1 .left) ∙ c .before .receive-refusal .ensures
+none : (c : tie.Else1) → early-of (call (from (c .before .before))) ≡ 0
+none c = sym (c .before .early-refusal .ensures) ∙ c .if1 .left
 
-given : (c : tie.Else1)
-    → c .before .before .before .before .usual .result ≡ settingsOf (c .before .before .before .before .before .before .before .before .before .before .args .state .format) (c .before .before .before .before .before .before .before .before .before .before .args .state .channels) (c .before .before .before .before .before .before .before .before .before .before .args .state .order)
-given c = usual-settles (c .before .before .before .before .before .before .before .before .before .before .pre) (c .before .before .before .before .usual .ensures)
-
-number-is : (c : tie.Else1) → c .before .before .number-in .result ≡ numberNow (c .before .before .before .before .usual .result .format) (now (c .before .before .before .before .before .before .before .before .before .before .args .cell))
-number-is c = usual-number (c .before .before .before .before .before .before .before .before .before .before .pre) (c .before .before .before .before .usual .ensures) (now (c .before .before .before .before .before .before .before .before .before .before .args .cell)) (c .before .before .number-in .ensures)
-
-sub-missing : tie.Need-sub-missing
-sub-missing c =
-    let s = c .before .before .before .before .before .before .before .before .before .before .before in
-    gap-some (s .args .state) (now (s .args .cell)) (s .args .indication) (now (s .args .samples)) (now (s .args .ancillary)) (now (s .args .marks)) (given (c .before)) (none (c .before)) (number-is (c .before)) (c .gap-now .ensures)
-
-write-requires : tie.Need-write-requires
-write-requires c κs =
-    let s = c .before .before .before .before .before .before .before .before .before .before .before .before .before .before in (
-      s .pre .cell-whole,
-      usual-room (s .pre) (c .before .before .before .before .before .before .before .before .usual .ensures) (c .before .before .before .gap-now .result - 1) refl
-          (roomy (s .args .state) (now (s .args .cell)) (s .args .indication) (now (s .args .samples)) (now (s .args .ancillary)) (now (s .args .marks)) (given (c .before .before .before .before)) (none (c .before .before .before .before)) (number-is (c .before .before .before .before)) (c .before .before .before .gap-now .ensures)),
+found-in-requires : tie.Need-found-in-requires
+found-in-requires c κs =
+    let u = c .before .before in
+    let s = from u in (
+      usual-sound (s .args .state) (u .usual .ensures),
+      judged-whole (s .args .state) (now (s .args .cell)) (s .args .indication) _ (settles u) (equal-early (call s) (none c)),
     )
 
-second-now-requires : tie.Need-second-now-requires
-second-now-requires c κs = (usual-sound (c .before .before .before .before .before .before .before .before .before .before .before .before .before .before .before .before .before .before .before .before .before .pre) (c .before .before .before .before .before .before .before .before .before .before .before .before .before .before .before .usual .ensures), c .before .before .before .before .before .before .before .before .before .before .before .before .before .before .before .before .before .before .before .before .before .pre .cell-whole)
+judged-requires : tie.Need-judged-requires
+judged-requires c κs =
+    let u = c .before .before .before in
+    let s = from u in
+    let early = equal-early (call s) (none (c .before)) in (
+      settles u,
+      early,
+      usual-found (s .args .state) (u .usual .ensures) (now (s .args .cell))
+          (judged-format (s .args .state) (now (s .args .cell)) (s .args .indication) _ (settles u) early) (c .found-in .ensures),
+    )
 
 returns-2 : tie.Need-returns-2
 returns-2 c =
-    let s = c .before .before .before .before .before .before .before .before .before .before .before .before .before .before .before .before .before .before .before .before .before .before in
-    receives-taken (s .args .state) (now (s .args .cell)) (s .args .indication) (now (s .args .samples)) (now (s .args .ancillary)) (now (s .args .marks)) (given (c .before .before .before .before .before .before .before .before .before .before .before .before)) (none (c .before .before .before .before .before .before .before .before .before .before .before .before)) (number-is (c .before .before .before .before .before .before .before .before .before .before .before .before)) (c .before .before .before .before .before .before .before .before .before .before .before .gap-now .ensures) (c .second-now .ensures)
-    (usual-writes (s .pre) (c .before .before .before .before .before .before .before .before .before .before .before .before .before .before .before .before .usual .ensures) (now (s .args .cell)) (c .before .before .before .before .before .before .before .before .before .before .before .gap-now .result - 1) refl (c .before .before .before .before .before .before .before .write .ensures))
+    let one = c .before .before .before .before in
+    judged-refused (call (from (one .before .before))) (none one) (c .before .before .judged .ensures) (c .if2 .taken)
+
+-- where the call is taken: the way back to checks 1 to 5
+abbrev one : tie.Else2 → tie.Else1
+one t = t .before .before .before .before
+
+few : (t : tie.Else2) → t .before .before .judged .result .missing ≤ 14
+few t =
+    missing-few (call (from (one t .before .before))) (none (one t)) (t .before .before .judged .ensures) (settles (one t .before .before))
+    (t .if2 .left)
+
+mul-place : tie.Need-mul-place
+mul-place c = omega (arith, few (c .before))
+
+write-requires : tie.Need-write-requires
+write-requires c κs =
+    let t = c .before .before .before .before in
+    let u = one t .before .before in
+    let k = call (from u) in (
+      cell-whole k (none (one t)) (t .before .before .judged .ensures) (settles u) (t .if2 .left),
+      usual-room (k .state) (u .usual .ensures) (t .before .before .judged .result .missing)
+          (roomy k (none (one t)) (t .before .before .judged .ensures) (settles u) (t .if2 .left)),
+    )
+
+returns-3 : tie.Need-returns-3
+returns-3 c =
+    let t = c .before .before .before .before .before .before .before .before .before .before .before in
+    let u = one t .before .before in
+    let k = call (from u) in
+    judged-taken k (none (one t)) (t .before .before .judged .ensures) (settles u) (t .if2 .left)
+    (usual-fills (k .state) (u .usual .ensures) (k .cell) (t .before .before .judged .result .missing)
+    (c .before .before .before .before .before .before .write .ensures))
 
 pub receive-spec : {M : Type 1} → statement M
 receive-spec =
     tie.close
-    (tie.spec (search needs) number-in-requires receive-refusal-requires returns (search needs) sub-missing (search needs)
-    (search needs) write-requires second-now-requires (search needs) (search needs) (search needs) returns-2)
+    (tie.spec (search needs) early-refusal-requires (search needs) returns found-in-requires judged-requires returns-2 (search needs)
+    mul-place write-requires (search needs) (search needs) (search needs) returns-3)

@@ -1,17 +1,23 @@
 -- `receiver::usual::write` meets its contract.
 -- Assumes nothing.
 use denote.Ref.{now}
-use Rattle.receiver.specs.Unpacking.{straightWith, fours}
-use Rattle.receiver.proofs.Unpacking.{writes}
+use Rattle.receiver.specs.Unpacking.{straight}
+use Rattle.receiver.proofs.Unpacking.{fills}
 use borrow.Author.Needs.{needs}
 use Rattle.receiver.proofs.usual.write.Statement.{statement}
 use Rattle.receiver.proofs.usual.write.Tie as tie
 
+-- the way back from the missing entries
+abbrev from : tie.After-missing-entries → tie.Start
+from m = m .before .before .before .before .before .before .before .before
+
 returns : tie.Need-returns
 returns c =
-    let s = c .before .before .before .before .before .before .before .before .before .before .before .before .before .before .before .before .before .before .before .before .before .before .before .before in
-    writes (straightWith fours 12) (now (s .args .cell)) (s .args .missing) (now (s .args .samples)) (now (s .args .ancillary))
-    (now (s .args .marks)) (s .pre .1) (c .before .before .before .before .before .before .before .before .before .before .before .before .before .before .before .before .missing-entries .ensures) (c .before .before .before .before .before .before .own-entries .ensures)
+    let own = c .before .before .before .before .before .before in
+    let missing = own .before .before .before .before .before .before .before .before .before .before in
+    let s = from missing in
+    fills straight (now (s .args .cell)) (s .args .missing) (now (s .args .samples)) (now (s .args .ancillary)) (now (s .args .marks))
+    (s .pre .1) (missing .missing-entries .ensures) (own .own-entries .ensures)
 
 pub write-spec : {M : Type 1} → statement M
 write-spec =

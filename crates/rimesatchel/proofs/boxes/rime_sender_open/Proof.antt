@@ -1,7 +1,7 @@
 -- `rimesatchel::boxes::rime_sender_open` meets its contract.
 -- Assumes nothing.
 use mathlib.Core.Path.{_∙_, ap}
-use Rattle.sender.specs.declared.Sent.{Sent}
+use Rattle.sender.specs.declared.Ready.{Ready}
 use Rattle.rimesatchel.specs.Boxes.{senderOctets}
 use borrow.Author.Needs.{needs}
 use Rattle.rimesatchel.proofs.boxes.rime_sender_open.Statement.{statement}
@@ -10,8 +10,8 @@ use Rattle.rimesatchel.proofs.boxes.rime_sender_open.Tie as tie
 returns : tie.Need-returns
 returns c =
     record {
-      refused = ap (λ (x : Sent). x .refusal) (c .before .before .opened .ensures);
-      leaves = c .sender-octets .ensures ∙ ap (λ (x : Sent). senderOctets (x .state)) (c .before .before .opened .ensures);
+      refused = ap (λ (x : Ready). x .refusal) (c .before .before .opened .ensures);
+      leaves = c .sender-octets .ensures ∙ ap (λ (x : Ready). senderOctets (x .state)) (c .before .before .opened .ensures);
     }
 
 pub rime-sender-open-spec : {M : Type 1} → statement M

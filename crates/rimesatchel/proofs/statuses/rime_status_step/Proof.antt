@@ -14,7 +14,8 @@ use Rattle.rimesatchel.proofs.statuses.rime_status_step.Tie as tie
 
 returns : tie.Need-returns
 returns c =
-    let b = c .before .before .before .before .before .before in
+    let at-brought-forward = c .before .before .before .before .before .before in
+    let b = at-brought-forward in
     let s = b .before .before .before .args in
     let e : b .brought-forward .result ≡ steppedOf (now (s .block)) (s .ancillary) (s .mark) =
     b .brought-forward .ensures

@@ -29,8 +29,11 @@ returns-3 c =
 returns-4 : tie.Need-returns-4
 unfolding secondNow
 returns-4 c =
-    let a = c .before .before .before .before .before .before .args in rw
-    (not-false (a .state .wanted) (c .before .before .before .before .if1 .left), not-false (a .indication) (c .before .before .before .if2 .left), not-false (a .state .sent) (c .before .if3 .left))
+    let a = c .before .before .before .before .before .before .args in rw (
+      not-false (a .state .wanted) (c .before .before .before .before .if1 .left),
+      not-false (a .indication) (c .before .before .before .if2 .left),
+      not-false (a .state .sent) (c .before .if3 .left),
+    )
     (omega (arith, c .wrapping-add-u8 .ensures))
 
 pub second-now-spec : {M : Type 1} → statement M

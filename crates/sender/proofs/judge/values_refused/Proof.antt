@@ -6,16 +6,19 @@ use borrow.Author.Needs.{needs}
 use Rattle.sender.proofs.judge.values_refused.Statement.{statement}
 use Rattle.sender.proofs.judge.values_refused.Tie as tie
 
+abbrev from : tie.After-united → tie.Start
+from c = c .before .before .before
+
 returns : tie.Need-returns
 returns c =
-    let s = c .before .before .before .before .before .before in
-    samples-refused (s .args .format) (now (s .args .samples)) (now (s .args .ancillary)) (c .before .before .before .united .ensures .0) (s .pre .0) (c .if1 .taken)
+    let u = c .before .before .before in
+    samples-refused (from u .args .format) (now (from u .args .ancillary)) (u .united .ensures .0) (from u .pre .0) (c .if1 .taken)
 
 returns-2 : tie.Need-returns-2
 returns-2 c =
-    let s = c .before .before .before .before .before .before .before .before in
-    ancillary-refused (s .args .format) (now (s .args .samples)) (now (s .args .ancillary)) (c .before .before .before .before .before .united .ensures .0)
-    (s .pre .0) (c .before .before .if1 .left) (s .pre .1) (c .before .before .before .before .before .united .ensures .1) (c .wide .ensures)
+    let u = c .before .before .before .before .before in
+    ancillary-refused (from u .args .format) (now (from u .args .ancillary)) (u .united .ensures .0) (from u .pre .0)
+    (c .before .before .if1 .left) (from u .pre .1) (u .united .ensures .1) (c .wide .ensures .0)
 
 pub values-refused-spec : {M : Type 1} → statement M
 values-refused-spec = tie.close (tie.spec (search needs) (search needs) returns (search needs) (search needs) returns-2)

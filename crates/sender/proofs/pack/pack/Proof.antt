@@ -1,30 +1,41 @@
 -- `sender::pack::pack` meets its contract.
 -- Assumes nothing.
-use Prim.Native.Nat.{_%_}
-use native.Mathlib.Nat.{mod-lt}
-use native.Mathlib.Omega.{arith}
+use mathlib.Core.List.{List}
+use mathlib.Core.Path.{_≡_, _∙_}
+use Prim.Native.Nat.{ℕ}
 use denote.Ref.{now}
-use Rattle.numbers.specs.Numbers.{entryOf}
-use Rattle.numbers.proofs.Laws.{entry-lt}
-use Rattle.sender.proofs.Packing.{packs}
+use lib.ListN.{length}
+use Rattle.sender.proofs.Packing.{refilled, all-filled}
 use borrow.Author.Needs.{needs}
 use Rattle.sender.proofs.pack.pack.Statement.{statement}
 use Rattle.sender.proofs.pack.pack.Tie as tie
 
-pack-used-requires : tie.Need-pack-used-requires
-pack-used-requires c κs = search needs
+abbrev from : tie.After-pack-used → tie.Start
+from c = c .before .before .before .before .before
+
+-- what the used slots leave
+abbrev used : tie.After-pack-used → List ℕ
+used c = c .pack-used .last .1 .1 .1 .1 .0
+
+whole : (c : tie.After-pack-used) → length (used c) ≡ 48
+whole c = c .pack-used .kept .1 .1 .1 .1 .0 ∙ from c .pre .1
+
+fill-idle-requires : tie.Need-fill-idle-requires
+fill-idle-requires c κs =
+    let u = c .before .before .before in
+    let a = from u .args in (
+      from u .pre .0,
+      whole u,
+      refilled (a .set) (now (a .samples)) (now (a .ancillary)) (a .sequence) (now (a .cell)) (length (now (a .samples)))
+          (u .pack-used .ensures),
+    )
 
 returns : tie.Need-returns
 returns c =
-    let a = c .before .before .before .before .before .before .before .before .before .before .before .before .args in
-    let given = c .before .before .before .before .before .before .before .before .before .before .before .before .pre in
-    packs (entryOf (a .number % 16)) (a .second) (c .before .before .before .before .before .before .before .before .sequence-of .result)
-    (now (a .cell)) (given .0)
-    (entry-lt (mod-lt (a .number) (omega arith)))
-    (given .1) (given .2) (c .before .before .before .before .before .before .before .before .sequence-of .ensures)
-    (c .before .before .before .before .before .before .pack-used .ensures) (c .before .before .fill-idle .ensures)
+    let u = c .before .before .before .before .before .before in
+    let a = from u .args in
+    all-filled (a .set) (now (a .samples)) (now (a .ancillary)) (from u .pre .0) (a .sequence) (used u) (whole u)
+    (c .before .before .fill-idle .ensures)
 
 pub pack-spec : {M : Type 1} → statement M
-pack-spec =
-    tie.close
-    (tie.spec (search needs) pack-used-requires (search needs) (search needs) returns)
+pack-spec = tie.close (tie.spec (λ c κs. search needs) fill-idle-requires (search needs) returns)

@@ -17,8 +17,10 @@ use prog.Wp.{Heap, Calls, Loops, WpFn}
 use ghost.Atoms.{Atoms, sem}
 use contract.Monad.{Fun, fact}
 use contract.Running.{givenOf, tables}
-use types.Kit.{Given, ‵, raw, some, later, _⊛_, ⋆, _$_, _∵_, !, qed, by, move, keep, drop, use1, use2, split, join, pick, rewrite, fsplit, fsplit3, fjoin, fjoin3, feqI, suffices, frame, await, done}
-use types.Run.{look, look-raw, init, store-raw, forget, stop, hop, fld, from, load, of-opd, and-then, no-more, assigns, land, returns, enter, alloc1, alloc0, params1, pass1, pass0, free1, free0}
+use types.Kit.{Given, ‵, raw, some, later, _⊛_, ⋆, _$_, _∵_, !, qed, by, move, keep, drop}
+use types.Kit.{use1, use2, split, join, pick, rewrite, fsplit, fsplit3, fjoin, fjoin3, feqI, suffices, frame, await, done}
+use types.Run.{look, look-raw, init, store-raw, forget, stop, hop, fld, from, load, of-opd, and-then}
+use types.Run.{no-more, assigns, land, returns, enter, alloc1, alloc0, params1, pass1, pass0, free1, free0}
 use types.Part.{whole, sub, look-in}
 use types.SemTy.{Body}
 use sound.WpLaws.{FmC}
@@ -72,10 +74,12 @@ module _ {M : Type 1} (𝓤 : URA M) (H : Heap 𝓤) (A : Atoms 𝓤) (mem : Mem
   Step = tripleOf 𝓤 H A step.signature (step.spec 𝓤 H A mem run)
 
   -- of its `ensured` the clause alone: it has no last value
-  stepped-of : (h : Block) (a m : ℕ) (r : Stepped) → ent 𝓤 (ensured 𝓤 H A step.ended (step.clauses 𝓤 H A mem run) tt (h, (a, (m, tt))) tt r) (fact 𝓤 (r ≡ stepOf h a m))
+  stepped-of : (h : Block) (a m : ℕ) (r : Stepped) → ent 𝓤 (ensured 𝓤 H A step.ended (step.clauses 𝓤 H A mem run) tt (h, (a, (m, tt))) tt r)
+      (fact 𝓤 (r ≡ stepOf h a m))
   stepped-of h a m r = exE 𝓤 _ (λ ws. snd∗ 𝓤 (sem 𝓤 H A (lasts step.ended tt (h, (a, (m, tt))) ws)) (fact 𝓤 (r ≡ stepOf h a m)))
 
-module _ {M : Type 1} (𝓤 : URA M) (H : Heap 𝓤) (A : Atoms 𝓤) (W : Given 𝓤 H A) (at-mem : Memory → SProp 𝓤) (run : Routine → Fun 𝓤) (κ : Lft) (q : Share) (b o : ℕ) (γ : GName) (h : Block) (a m : ℕ) (a-fits : a < 2 ^ 8) (m-fits : m < 2 ^ 8) where
+module _ {M : Type 1} (𝓤 : URA M) (H : Heap 𝓤) (A : Atoms 𝓤) (W : Given 𝓤 H A) (at-mem : Memory → SProp 𝓤) (run : Routine → Fun 𝓤) (κ : Lft)
+    (q : Share) (b o : ℕ) (γ : GName) (h : Block) (a m : ℕ) (a-fits : a < 2 ^ 8) (m-fits : m < 2 ^ 8) where
   abbrev R : RattleType
   R = B.the-row
 
@@ -98,10 +102,12 @@ module _ {M : Type 1} (𝓤 : URA M) (H : Heap 𝓤) (A : Atoms 𝓤) (W : Given
       owned ! u8 (Is u8) (uint-makes 𝓤 H A W w8) a _ (refl, a-fits) $ fjoin ! $ move ! (2 ∷ 0 ∷ []) $ fjoin ! $ move ! (1 ∷ 0 ∷ []) $ join ! $ frame ! $ done !
 
   exits : (r : Stepped) (w : Val) → r ≡ stepOf h a m
-      → ent 𝓤 (⋆ 𝓤 H A (‵ (fobs γ (R .coded .code (r .block))) ∷ ‵ (fbor κ (Body (mem R) b o γ)) ∷ ‵ (flft κ q) ∷ ‵ (G.the-row .own (r .handed) (w ∷ [])) ∷ [])) (Post w)
+      → ent 𝓤 (⋆ 𝓤 H A (‵ (fobs γ (R .coded .code (r .block))) ∷ ‵ (fbor κ (Body (mem R) b o γ)) ∷ ‵ (flft κ q) ∷ ‵
+      (G.the-row .own (r .handed) (w ∷ [])) ∷ [])) (Post w)
   exits r w e =
       qed W (‵ (fobs γ (R .coded .code (r .block))) ∷ ‵ (fbor κ (Body (mem R) b o γ)) ∷ ‵ (flft κ q) ∷ ‵ (G.the-row .own (r .handed) (w ∷ [])) ∷ []) ∵
-      suffices ! _ (ends-at 𝓤 H A bring-forward.ended stayed (bring-forward.clauses 𝓤 H A at-mem run) W (((κ, tt), (q, tt), tt, x, at), tt) w (r .handed) (r .block, (tt, (tt, tt))) (tt, (tt, (tt, tt)))) $
+      suffices ! _ (ends-at 𝓤 H A bring-forward.ended stayed (bring-forward.clauses 𝓤 H A at-mem run) W (((κ, tt), (q, tt), tt, x, at), tt) w
+      (r .handed) (r .block, (tt, (tt, tt))) (tt, (tt, (tt, tt)))) $
       says ! (ap (λ (s : Stepped). s .handed) e, ap (λ (s : Stepped). s .block) e) $ nothing ! $ move ! (3 ∷ 0 ∷ []) $ join ! $ frame ! $
       feqI ! (List Val) (vptr b o ∷ []) (vptr b o ∷ []) refl $ fjoin3 ! $ nothing ! $ owned ! u8 (Is u8) (uint-makes 𝓤 H A W w8) m _ (refl, m-fits) $ fjoin ! $
       owned ! u8 (Is u8) (uint-makes 𝓤 H A W w8) a _ (refl, a-fits) $ fjoin ! $ move ! (1 ∷ 0 ∷ []) $ fjoin ! $ done !
@@ -119,40 +125,59 @@ module _ {M : Type 1} (𝓤 : URA M) (H : Heap 𝓤) (A : Atoms 𝓤) (W : Given
   module _ (C : Calls 𝓤 H) (Λ : Loops 𝓤 H) (fm : FmC 𝓤 H (W .laws) C) (known : Triple 𝓤 (C #step) (Step 𝓤 H A at-mem run)) where
     walk : ent 𝓤 (onEntry 𝓤 H A bring-forward.signature (κ, tt) (q, tt) x at) (WpFn 𝓤 H C Λ code.function (vptr b o ∷ vint w8 a ∷ vint w8 m ∷ []) Post)
     walk =
-        qed W ((‵ (flft κ q) ⊛ ‵ ftrue) ∷ ‵ (owns (MutRef (named 0) κ R ∷ u8 ∷ u8 ∷ []) x at) ∷ []) ∵ enter ! C Λ code.function (vptr b o ∷ vint w8 a ∷ vint w8 m ∷ []) _ $
+        qed W ((‵ (flft κ q) ⊛ ‵ ftrue) ∷ ‵ (owns (MutRef (named 0) κ R ∷ u8 ∷ u8 ∷ []) x at) ∷ []) ∵ enter ! C Λ code.function
+        (vptr b o ∷ vint w8 a ∷ vint w8 m ∷ []) _ $
         alloc1 ! (λ l₀. alloc1 ! (λ l₁. alloc1 ! (λ l₂. alloc1 ! (λ l₃. alloc1 ! (λ l₄. alloc1 ! (λ l₅. alloc0 ! $ params1 ! $
-        pass1 ! (init ! 8 refl (tt, tt)) $ pass1 ! (init ! 6 refl (tt, record { fits = a-fits })) $ pass1 ! (init ! 4 refl (tt, record { fits = m-fits })) $ pass0 ! $
+        pass1 ! (init ! 8 refl (tt, tt)) $ pass1 ! (init ! 6 refl (tt, record { fits = a-fits })) $
+        pass1 ! (init ! 4 refl (tt, record { fits = m-fits })) $ pass0 ! $
         -- the borrow is opened
         move ! (13 ∷ []) $ fsplit ! $ fsplit3 ! $ drop ! $ move ! (15 ∷ []) $ split ! $ move ! (2 ∷ 3 ∷ 0 ∷ []) $
         opens ! tt R {h = h} b o (λ vs. spelt ! R (Is R) (shows 𝓤 H A R) (LL.vals B.the-type B′.the-laws) (LL.tells B.the-type B′.the-laws) fullShare h vs b o $
         move ! (1 ∷ []) $ peeks ! R (Is R) (shows 𝓤 H A R) h (mach h ∷ []) (λ g. move ! (1 ∷ 0 ∷ []) $
         -- [the block's cell; what a Block owns; the open borrow; obs; auth; true; what a and m own; _5; …; _4; …; _3; …; _2; …; _1; …; room for _0; …]
-        assigns ! (of-opd ! (load ! (from ! (hop ! (look ! 15 refl) (stop !))) (look-raw ! 0 refl))) (from ! (stop !)) (init ! 7 refl (LL.lawful B.the-type B′.the-laws 𝓤 H A W .typed h _ g .0)) $
+        assigns ! (of-opd ! (load ! (from ! (hop ! (look ! 15 refl) (stop !))) (look-raw ! 0 refl))) (from ! (stop !))
+        (init ! 7 refl (LL.lawful B.the-type B′.the-laws 𝓤 H A W .typed h _ g .0)) $
         -- `step`
         move ! (1 ∷ []) $ nothing ! $ use2 W (raw (Step 𝓤 H A at-mem run .pre to-step)) goes-step $
-        calls-at ! fm (Step 𝓤 H A at-mem run) known to-step (and-then ! (load ! (from ! (stop !)) (look ! 7 refl)) (and-then ! (load ! (from ! (stop !)) (look ! 13 refl)) (and-then ! (load ! (from ! (stop !)) (look ! 11 refl)) (no-more !)))) (λ v.
-        use1 W (later (some (λ (r : Stepped). (‵ ftrue ⊛ ‵ (S.the-row .own r (v ∷ []))) ⊛ raw (ensured 𝓤 H A step.ended (step.clauses 𝓤 H A at-mem run) tt (h, (a, (m, tt))) tt r)))) (id⊢ 𝓤 _) $ await ! tt $ pick ! (λ r.
-        split ! $ move ! (1 ∷ []) $ use1 W (raw (fact 𝓤 (r ≡ stepOf h a m))) (stepped-of 𝓤 H A at-mem run h a m r) $ heard ! (r ≡ stepOf h a m) (λ e. split ! $ drop ! $
+        calls-at ! fm (Step 𝓤 H A at-mem run) known to-step (and-then ! (load ! (from ! (stop !)) (look ! 7 refl))
+        (and-then ! (load ! (from ! (stop !)) (look ! 13 refl)) (and-then ! (load ! (from ! (stop !)) (look ! 11 refl)) (no-more !)))) (λ v.
+        use1 W (later (some (λ (r : Stepped). (‵ ftrue ⊛ ‵ (S.the-row .own r (v ∷ []))) ⊛ raw
+        (ensured 𝓤 H A step.ended (step.clauses 𝓤 H A at-mem run) tt (h, (a, (m, tt))) tt r)))) (id⊢ 𝓤 _) $ await ! tt $ pick ! (λ r.
+        split ! $ move ! (1 ∷ []) $ use1 W (raw (fact 𝓤 (r ≡ stepOf h a m))) (stepped-of 𝓤 H A at-mem run h a m r) $
+        heard ! (r ≡ stepOf h a m) (λ e. split ! $ drop ! $
         peeks ! S.the-row (Is S.the-row) (shows 𝓤 H A S.the-row) r (v ∷ []) (λ is.
         land ! (from ! (stop !)) (init ! 9 refl (LL.lawful S.the-type S′.the-laws 𝓤 H A W .typed r _ is .0)) $
         rewrite ! 9 (λ (u : Val). ‵ (fat fullShare S′.mir l₄ 0 u)) (ap only (LL.tells S.the-type S′.the-laws r _ is)) refl $
         -- [what a Stepped owns; the block's cell; the open borrow; obs; auth; true; what a and m own; _5; …; _4; …; _3; …; _2; …; _1; …; room for _0; …]
-        assigns ! (of-opd ! (load ! (from ! (fld ! refl (stop !))) (look-in ! 9 (sub ! 0 refl (whole !))))) (from ! (hop ! (look ! 15 refl) (stop !))) (store-raw ! 1 refl (LL.lawful B.the-type B′.the-laws 𝓤 H A W .typed (r .block) _ (block-is r v is) .0)) $
-        assigns ! (of-opd ! (load ! (from ! (fld ! refl (stop !))) (look-in ! 9 (sub ! 1 refl (whole !))))) (from ! (stop !)) (init ! 17 refl (LL.lawful G.the-type G′.the-laws 𝓤 H A W .typed (r .handed) _ (handed-is r v is) .0)) $
+        assigns ! (of-opd ! (load ! (from ! (fld ! refl (stop !))) (look-in ! 9 (sub ! 0 refl (whole !))))) (from ! (hop ! (look ! 15 refl) (stop !)))
+        (store-raw ! 1 refl (LL.lawful B.the-type B′.the-laws 𝓤 H A W .typed (r .block) _ (block-is r v is) .0)) $
+        assigns ! (of-opd ! (load ! (from ! (fld ! refl (stop !))) (look-in ! 9 (sub ! 1 refl (whole !))))) (from ! (stop !))
+        (init ! 17 refl (LL.lawful G.the-type G′.the-laws 𝓤 H A W .typed (r .handed) _ (handed-is r v is) .0)) $
         -- the borrow is closed at the new block
-        drop ! $ owned ! R (Is R) (LL.makes B.the-type B′.the-plain 𝓤 H A) (r .block) _ (block-is r v is) $ move ! (1 ∷ 0 ∷ []) $ closes ! tt R (r .block) (mach (r .block) ∷ []) b o $
+        drop ! $ owned ! R (Is R) (LL.makes B.the-type B′.the-plain 𝓤 H A) (r .block) _ (block-is r v is) $ move ! (1 ∷ 0 ∷ []) $
+        closes ! tt R (r .block) (mach (r .block) ∷ []) b o $
         returns ! (look ! 15 refl) $ forget ! 5 refl $ forget ! 7 refl $ forget ! 9 refl $ forget ! 11 refl $ forget ! 13 refl $ forget ! 15 refl $
-        move ! (15 ∷ 16 ∷ []) $ free1 ! $ move ! (13 ∷ 14 ∷ []) $ free1 ! $ move ! (11 ∷ 12 ∷ []) $ free1 ! $ move ! (9 ∷ 10 ∷ []) $ free1 ! $ move ! (7 ∷ 8 ∷ []) $ free1 ! $ move ! (5 ∷ 6 ∷ []) $ free1 ! $ free0 ! $
+        move ! (15 ∷ 16 ∷ []) $ free1 ! $ move ! (13 ∷ 14 ∷ []) $ free1 ! $ move ! (11 ∷ 12 ∷ []) $ free1 ! $ move ! (9 ∷ 10 ∷ []) $ free1 ! $
+        move ! (7 ∷ 8 ∷ []) $ free1 ! $ move ! (5 ∷ 6 ∷ []) $ free1 ! $ free0 ! $
         owned ! G.the-row (Is G.the-row) (LL.makes G.the-type G′.the-plain 𝓤 H A) (r .handed) _ (handed-is r v is) $
         keep ! (1 ∷ 2 ∷ 3 ∷ 0 ∷ []) $ by ! (exits r _ e)))))))))))))
 
 pub bring-forward-spec : {M : Type 1} → stated.statement M
 unfolding code.routine
 bring-forward-spec 𝓤 H 𝓜 𝓖 𝓡 =
-    walk-ends 𝓤 H 𝓜 𝓖 𝓡 code.env bring-forward.ended stayed (bring-forward.clauses 𝓤 H (𝓖 .A) (𝓜 .mem) (𝓡 .run)) #bring-forward code.function (code.unfolded 𝓤 H 𝓜 𝓡)
-    (goes-ref 𝓤 H (𝓖 .A) (givenOf 𝓤 H 𝓜 𝓖) 1 0 tt (plain (λ _. B.the-row)), (goes-none 𝓤 H (𝓖 .A) (givenOf 𝓤 H 𝓜 𝓖) 1 (λ _. u8) yes (λ κs x f. refl), (goes-none 𝓤 H (𝓖 .A) (givenOf 𝓤 H 𝓜 𝓖) 1 (λ _. u8) yes (λ κs x f. refl), tt)))
-    (walked 𝓤 H (𝓖 .A) bring-forward.ended stayed (bring-forward.clauses 𝓤 H (𝓖 .A) (𝓜 .mem) (𝓡 .run)) (WpFn 𝓤 H (tables 𝓤 H 𝓜 𝓡 code.env .C) (tables 𝓤 H 𝓜 𝓡 code.env .Λ) code.function)
+    walk-ends 𝓤 H 𝓜 𝓖 𝓡 code.env bring-forward.ended stayed (bring-forward.clauses 𝓤 H (𝓖 .A) (𝓜 .mem) (𝓡 .run)) #bring-forward code.function
+    (code.unfolded 𝓤 H 𝓜 𝓡) (
+      goes-ref 𝓤 H (𝓖 .A) (givenOf 𝓤 H 𝓜 𝓖) 1 0 tt (plain (λ _. B.the-row)),
+      (
+        goes-none 𝓤 H (𝓖 .A) (givenOf 𝓤 H 𝓜 𝓖) 1 (λ _. u8) yes (λ κs x f. refl),
+        (goes-none 𝓤 H (𝓖 .A) (givenOf 𝓤 H 𝓜 𝓖) 1 (λ _. u8) yes (λ κs x f. refl), tt),
+      ),
+    )
+    (walked 𝓤 H (𝓖 .A) bring-forward.ended stayed (bring-forward.clauses 𝓤 H (𝓖 .A) (𝓜 .mem) (𝓡 .run))
+    (WpFn 𝓤 H (tables 𝓤 H 𝓜 𝓡 code.env .C) (tables 𝓤 H 𝓜 𝓡 code.env .Λ) code.function)
     (λ κs. (ptr-vals, (uint-vals w8, (uint-vals w8, tt)))) (λ κs. (mut-tells (named 0) (κs .0) B.the-row, (uint-tells w8, (uint-tells w8, tt))))
     (λ κs qs bounds a g are. via 𝓤 _ (fst∗ 𝓤 _ (emp 𝓤))
-    (walk 𝓤 H (𝓖 .A) (givenOf 𝓤 H 𝓜 𝓖) (𝓜 .mem) (𝓡 .run) (κs .0) (qs .0) (a .0 .ptr .0) (a .0 .ptr .1) (a .0 .name) (a .0 .now) (a .1 .0) (a .1 .1 .0) (are .1 .0 .1) (are .1 .1 .0 .1)
-    (tables 𝓤 H 𝓜 𝓡 code.env .C) (tables 𝓤 H 𝓜 𝓡 code.env .Λ) (calls-framed 𝓤 H 𝓜 𝓖 𝓡 code.env) (cited 𝓤 H (Step 𝓤 H (𝓖 .A) (𝓜 .mem) (𝓡 .run)) 𝓜 𝓡 code.env #step step-def.routine code.calls-status·step·step (step-thm.met 𝓤 H 𝓜 𝓖 𝓡)))))
+    (walk 𝓤 H (𝓖 .A) (givenOf 𝓤 H 𝓜 𝓖) (𝓜 .mem) (𝓡 .run) (κs .0) (qs .0) (a .0 .ptr .0) (a .0 .ptr .1) (a .0 .name) (a .0 .now) (a .1 .0) (a .1 .1 .0)
+    (are .1 .0 .1) (are .1 .1 .0 .1)
+    (tables 𝓤 H 𝓜 𝓡 code.env .C) (tables 𝓤 H 𝓜 𝓡 code.env .Λ) (calls-framed 𝓤 H 𝓜 𝓖 𝓡 code.env)
+    (cited 𝓤 H (Step 𝓤 H (𝓖 .A) (𝓜 .mem) (𝓡 .run)) 𝓜 𝓡 code.env #step step-def.routine code.calls-status·step·step (step-thm.met 𝓤 H 𝓜 𝓖 𝓡)))))

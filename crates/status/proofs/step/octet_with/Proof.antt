@@ -13,16 +13,26 @@ div-old : tie.Need-div-old
 div-old c = rw (c .worth-of .ensures) (pow-pos (c .before .args .k % 8))
 
 mul-old : tie.Need-mul-old
-mul-old c = record { fits = rw (c .worth-of .ensures) (omega (arith, old-le (c .before .args .octet) (c .before .args .k % 8) (c .before .args .c) (c .before .fits .octet .fits) (omega arith) (c .before .pre))) }
+mul-old c = record {
+  fits = rw (c .worth-of .ensures) (omega
+      (arith, old-le (c .before .args .octet) (c .before .args .k % 8) (c .before .args .c) (c .before .fits .octet .fits) (omega arith) (c .before .pre)));
+}
 
 mul-new : tie.Need-mul-new
-mul-new c = record { fits = rw (c .worth-of .ensures) (new-lt (c .before .args .octet) (c .before .args .k % 8) (c .before .args .c) (c .before .fits .octet .fits) (omega arith) (c .before .pre)) }
+mul-new c = record {
+  fits = rw (c .worth-of .ensures) (new-lt (c .before .args .octet) (c .before .args .k % 8) (c .before .args .c)
+      (c .before .fits .octet .fits) (omega arith) (c .before .pre));
+}
 
 sub-result : tie.Need-sub-result
-sub-result c = rw (c .worth-of .ensures) (old-le (c .before .args .octet) (c .before .args .k % 8) (c .before .args .c) (c .before .fits .octet .fits) (omega arith) (c .before .pre))
+sub-result c = rw (c .worth-of .ensures) (old-le (c .before .args .octet) (c .before .args .k % 8) (c .before .args .c) (c .before .fits .octet .fits)
+    (omega arith) (c .before .pre))
 
 add-result : tie.Need-add-result
-add-result c = record { fits = rw (c .worth-of .ensures) (put-lt (c .before .args .octet) (c .before .args .k % 8) (c .before .args .c) (c .before .fits .octet .fits) (omega arith) (c .before .pre)) }
+add-result c = record {
+  fits = rw (c .worth-of .ensures) (put-lt (c .before .args .octet) (c .before .args .k % 8) (c .before .args .c)
+      (c .before .fits .octet .fits) (omega arith) (c .before .pre));
+}
 
 returns : tie.Need-returns
 unfolding octetWith

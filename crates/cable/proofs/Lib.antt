@@ -1,0 +1,8 @@
+pub mod Back
+pub mod Demand1
+pub mod Labels
+pub mod Laws
+pub mod One
+pub mod Refusals
+pub mod Rows
+pub mod Wrong

@@ -1,0 +1,5 @@
+pub mod Back
+pub mod Frames
+pub mod Labels
+pub mod Rows
+pub mod Slots

@@ -1,0 +1,175 @@
+-- A refusal is the table's, and then nothing was changed and nothing else is told: each public call beside `send` and `receive`.
+-- Assumes nothing.
+use mathlib.Core.Bool.{Bool, cond, _||_}
+use mathlib.Core.List.{List, [], _∷_}
+use mathlib.Core.Path.{_≡_, refl, sym, _∙_, ap}
+use Prim.Native.Nat.{ℕ, _+_}
+use borrow.Author.Tests.{eqb-true}
+use lib.Dec.{eqb, leb, ltb}
+use lib.ListN.{length, getD, take}
+use Rattle.runs.specs.Runs.{over}
+use Rattle.runs.proofs.Laws.{split}
+use Rattle.formats.specs.Formats.{settingsRefusal}
+use Rattle.sender.specs.declared.Ready as SR
+use Rattle.sender.specs.Sender as S
+use Rattle.receiver.specs.declared.Ready.{Ready}
+use Rattle.receiver.specs.Receiver as R
+use Rattle.status.specs.declared.step.Block.{Block}
+use Rattle.status.specs.declared.step.Stepped.{Stepped}
+use Rattle.status.specs.Step.{isRefused}
+use Rattle.status.proofs.Refused.{step-refusal, refused-step}
+use Rattle.log.specs.declared.Number.{Number}
+use Rattle.log.specs.declared.Header.{Header}
+use Rattle.log.specs.declared.Record.{Record}
+use Rattle.log.specs.declared.keep.Kept.{Kept}
+use Rattle.log.specs.Numbers.{isCut, isLong, isPadded, numberAt}
+use Rattle.log.specs.Records.{headerRefusal, headerOfNumbers, headerOf, secondNumber, thirdNumber, recordAt}
+use Rattle.log.specs.Written.{Keeps}
+use Rattle.log.proofs.Refused.{refused-number, refused-header, refused-record, refused-cell, refused-place, keeps-refusal, refused-keeps}
+use Rattle.listing.specs.declared.Listed.{Listed}
+use Rattle.listing.specs.Lines.{logRefusedLine}
+use Rattle.listing.specs.List.{listRefusal}
+use Rattle.listing.specs.Text.{listed}
+use Rattle.listing.proofs.Refused.{refused-list}
+use Rattle.cable.specs.declared.Imported.{Imported}
+use Rattle.cable.specs.declared.Exported.{Exported}
+use Rattle.cable.specs.Frames.{importRefusal, exportRefusal}
+use Rattle.cable.proofs.Demand1 as cable
+use Rattle.line.specs.Contracts.{
+  MeetsOpenSender,
+  MeetsOpenReceiver,
+  MeetsStep,
+  MeetsReadNumber,
+  MeetsReadHeader,
+  MeetsReadRecord,
+  MeetsReadCell,
+  MeetsNextPlace,
+  MeetsList,
+  MeetsImport,
+  MeetsExport,
+}
+use Rattle.line.specs.Demands.{Refuses, SteppedNothing, recordTable, ReadNothing}
+
+-- an answer that is one of two, by whether the table refuses
+opening : {A : Type 0} (table : ℕ) (number : A → ℕ) (Nothing : A → Type 0) (taken refused : A) → number taken ≡ 0 → number refused ≡ table
+    → Nothing refused → Refuses (number (cond (eqb table 0) taken refused)) table (Nothing (cond (eqb table 0) taken refused))
+opening table number Nothing taken refused zero same nothing =
+    split (eqb table 0)
+    (λ e. rw e (record { by-the-table = zero ∙ sym (eqb-true table 0 e); then-nothing = λ some. absurd (some zero) }))
+    (λ e. rw e (record { by-the-table = same; then-nothing = λ some. nothing }))
+
+pub opens-sender : (octet channels order number : ℕ) (wanted : Bool) (second : ℕ) (r : SR.Ready)
+    → MeetsOpenSender octet channels order number wanted second r
+    → Refuses (r .refusal) (S.stateRefusal (S.openState octet channels order number wanted second)) (r .state ≡ S.zeroState)
+unfolding S.openedOf
+opens-sender octet channels order number wanted second r meets =
+    rw meets
+    (opening (S.stateRefusal (S.openState octet channels order number wanted second)) (λ (x : SR.Ready). x .refusal)
+    (λ (x : SR.Ready). x .state ≡ S.zeroState) _ _ refl refl refl)
+
+pub opens-receiver : (octet channels order : ℕ) (r : Ready) → MeetsOpenReceiver octet channels order r
+    → Refuses (r .refusal) (settingsRefusal octet channels order) (r .state ≡ R.zeroState)
+unfolding R.openedOf
+opens-receiver octet channels order r meets =
+    rw meets
+    (opening (settingsRefusal octet channels order) (λ (x : Ready). x .refusal) (λ (x : Ready). x .state ≡ R.zeroState) _ _ refl refl refl)
+
+pub steps : (block : Block) (ancillary mark : ℕ) (r : Stepped) → MeetsStep block ancillary mark r
+    → Refuses (r .handed .refusal) (cond (isRefused (block .bits) ancillary mark) 14 0) (SteppedNothing block r)
+steps block ancillary mark r meets =
+    rw meets
+    (record {
+      by-the-table = step-refusal block ancillary mark;
+      then-nothing =
+          λ some.
+          let none = refused-step block ancillary mark some in
+          record { block-as-lent = none .0; zeros-out = none .2; neither = none .1 };
+    })
+
+-- the refusals of a log's numbers and of its header
+abbrev numberTable : List ℕ → ℕ → ℕ
+numberTable log place = cond (isCut log place || (isLong log place || isPadded log place)) 11 0
+
+number-table : (log : List ℕ) (place : ℕ) → numberAt log place .refusal ≡ numberTable log place
+unfolding numberAt
+number-table log place = split (isCut log place || (isLong log place || isPadded log place)) (λ e. rw e) (λ e. rw e)
+
+pub reads-number : (log : List ℕ) (place : ℕ) (r : Number) → MeetsReadNumber log place r
+    → Refuses (r .refusal) (numberTable log place) ((r .value ≡ 0) × (r .next ≡ 0))
+reads-number log place r meets =
+    rw meets
+    (record {
+      by-the-table = number-table log place;
+      then-nothing = λ some. let none = refused-number log place some in (none .1, none .2);
+    })
+
+abbrev headerTable : List ℕ → ℕ
+headerTable log = headerRefusal (numberAt log 0) (secondNumber log) (thirdNumber log)
+
+header-table : (log : List ℕ) → headerOf log .refusal ≡ headerTable log
+unfolding headerOf headerOfNumbers
+header-table log = split (eqb (headerTable log) 0) (λ e. rw e (sym (eqb-true (headerTable log) 0 e))) (λ e. rw e)
+
+pub reads-header : (log : List ℕ) (r : Header) → MeetsReadHeader log r
+    → Refuses (r .refusal) (headerTable log) ((r .place ≡ 0) × (r .format ≡ 0) × (r .channels ≡ 0) × (r .order ≡ 0))
+reads-header log r meets = rw meets (record { by-the-table = header-table log; then-nothing = refused-header log })
+
+-- the refusal of a record
+record-table : (log : List ℕ) (place : ℕ) → recordAt log place .refusal ≡ recordTable log place
+unfolding recordAt
+record-table log place =
+    split (leb (length log) place)
+    (λ e. rw e)
+    (λ e.
+    split (ltb 1 (getD log place 0))
+    (λ f. rw (e, f))
+    (λ f. split (ltb (length log) (place + 49)) (λ g. rw (e, f, g)) (λ g. rw (e, f, g))))
+
+pub reads-record : (log : List ℕ) (place : ℕ) (r : Record) → MeetsReadRecord log place r
+    → Refuses (r .refusal) (recordTable log place) (ReadNothing r)
+reads-record log place r meets =
+    rw meets
+    (record {
+      by-the-table = record-table log place;
+      then-nothing =
+          λ some.
+          let none = refused-record log place some in
+          record { no-cell = none .0; no-indication = none .1; no-start = none .2; no-next = none .3 };
+    })
+
+pub reads-cell : (log : List ℕ) (place : ℕ) (part : List ℕ) → MeetsReadCell log place part → (recordTable log place ≡ 0 → ⊥) → part ≡ []
+reads-cell log place part meets some = meets ∙ refused-cell log place (λ none. some (sym (record-table log place) ∙ none))
+
+pub next-stays : (log : List ℕ) (place next : ℕ) → MeetsNextPlace log place next → (recordTable log place ≡ 0 → ⊥) → next ≡ place
+next-stays log place next meets some = meets ∙ refused-place log place (λ none. some (sym (record-table log place) ∙ none))
+
+pub keeps : {table place : ℕ} {octets log after : List ℕ} {r : Kept} → Keeps table place octets log r after
+    → Refuses (r .refusal) table ((r .next ≡ 0) × (after ≡ log))
+keeps meets =
+    record { by-the-table = keeps-refusal meets; then-nothing = λ some. refused-keeps meets (λ none. some (keeps-refusal meets ∙ none)) }
+
+pub lists : (log run : List ℕ) (r : Listed) (after : List ℕ) → MeetsList log run r after → (listRefusal log ≡ 0 → ⊥)
+    → (r ≡ listed (length run) (logRefusedLine (listRefusal log))) × (after ≡ over (take (length run) (logRefusedLine (listRefusal log))) run)
+lists log run r after meets some =
+    let line = refused-list log some in
+    (meets .answered ∙ ap (listed (length run)) line, meets .left ∙ ap (λ (l : List ℕ). over (take (length run) l) run) line)
+
+pub imports : (preambles subframes : List ℕ) (r : Imported) → MeetsImport preambles subframes r
+    → Refuses (r .refusal) (importRefusal preambles subframes) ((r .samples ≡ 0 ∷ 0 ∷ []) × (r .ancillary ≡ 0 ∷ 0 ∷ []))
+imports preambles subframes r meets =
+    let one = cable.demand-1-import preambles subframes r meets in
+    record {
+      by-the-table = one .0;
+      then-nothing =
+          λ some. (ap (λ (x : Imported). x .samples) (one .1 some), ap (λ (x : Imported). x .ancillary) (one .1 some));
+    }
+
+pub exports : (samples ancillary : List ℕ) (r : Exported) → MeetsExport samples ancillary r
+    → Refuses (r .refusal) (exportRefusal samples ancillary) ((r .preambles ≡ 0 ∷ 0 ∷ []) × (r .subframes ≡ 0 ∷ 0 ∷ []))
+exports samples ancillary r meets =
+    let one = cable.demand-1-export samples ancillary r meets in
+    record {
+      by-the-table = one .0;
+      then-nothing =
+          λ some. (ap (λ (x : Exported). x .preambles) (one .1 some), ap (λ (x : Exported). x .subframes) (one .1 some));
+    }

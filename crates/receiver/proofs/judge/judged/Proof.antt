@@ -1,0 +1,121 @@
+-- `receiver::judge::judged` meets its contract: each way out by the check that it goes by.
+-- Assumes nothing.
+use mathlib.Core.Path.{_≡_, sym, _∙_}
+use Prim.Native.Nat.{_*_, _^_, _≤_, _<_}
+use native.Mathlib.Nat.{mul-le-mul}
+use native.Mathlib.Omega.{arith}
+use denote.Ref.{now}
+use Rattle.formats.specs.Formats.{formatOf}
+use Rattle.formats.specs.Sound.{Limits}
+use Rattle.receiver.specs.Receiver.{gapOf}
+use Rattle.receiver.proofs.Laws.{
+  gap-to,
+  number-found,
+  judged-limits,
+  judged-format,
+  judged-whole,
+  judged-8,
+  judged-15,
+  judged-9,
+  judged-10,
+  judged-0,
+}
+use borrow.Author.Needs.{needs}
+use Rattle.receiver.proofs.judge.judged.Statement.{statement}
+use Rattle.receiver.proofs.judge.judged.Tie as tie
+
+-- what the call's settings give
+limits : (s : tie.Start) → Limits (s .args .set)
+limits s = judged-limits (s .args .state) (now (s .args .cell)) (s .args .indication) (s .args .samples) (s .pre .0) (s .pre .1)
+
+format-is : (s : tie.Start) → s .args .set .format ≡ formatOf (s .args .state .format)
+format-is s = judged-format (s .args .state) (now (s .args .cell)) (s .args .indication) (s .args .samples) (s .pre .0) (s .pre .1)
+
+returns : tie.Need-returns
+returns c =
+    let s = c .before .before .before .before in
+    c .refused .ensures
+    ∙ judged-8 (s .args .state) (now (s .args .cell)) (s .args .indication) (s .args .samples) (s .pre .0) (s .pre .1)
+    (sym (c .before .enum-told .given .1) ∙ s .pre .2)
+
+-- the way back from the indication
+abbrev start : tie.After-indication-refused → tie.Start
+start i = i .before .before .before .before .before
+
+returns-2 : tie.Need-returns-2
+returns-2 c =
+    let i = c .before .before in
+    let s = start i in
+    c .refused2 .ensures
+    ∙ judged-15 (s .args .state) (now (s .args .cell)) (s .args .indication) (s .args .samples) (s .pre .0) (s .pre .1)
+    (sym (i .before .before .found .given .1) ∙ s .pre .2) (sym (c .before .if1 .taken) ∙ i .indication-refused .ensures)
+
+second-now-requires : tie.Need-second-now-requires
+second-now-requires c κs =
+    let s = start (c .before) in
+    (limits s .sound, judged-whole (s .args .state) (now (s .args .cell)) (s .args .indication) (s .args .samples) (s .pre .0) (s .pre .1))
+
+gap-now-requires : tie.Need-gap-now-requires
+gap-now-requires c κs = format-is (start (c .before .before))
+
+-- the way back from the gap
+abbrev judged : tie.After-gap-now → tie.After-indication-refused
+judged g = g .before .before .before
+
+gap-is : (g : tie.After-gap-now) → g .gap-now .result ≡ gapOf (start (judged g) .args .state) (now (start (judged g) .args .cell))
+gap-is g =
+    let s = start (judged g) in
+    g .gap-now .ensures (now (s .args .cell))
+    (number-found (s .args .state) (now (s .args .cell)) (sym (judged g .before .before .found .given .1) ∙ s .pre .2))
+
+returns-3 : tie.Need-returns-3
+returns-3 c =
+    let g = c .before .before in
+    let i = judged g in
+    let s = start i in
+    c .refused3 .ensures
+    ∙ judged-9 (s .args .state) (now (s .args .cell)) (s .args .indication) (s .args .samples) (s .pre .0) (s .pre .1)
+    (sym (i .before .before .found .given .1) ∙ s .pre .2) (sym (g .before .before .if1 .left) ∙ i .indication-refused .ensures)
+    (gap-is g) (c .before .if2 .taken)
+
+mul-if3 : tie.Need-mul-if3
+mul-if3 c = omega (arith, limits (start (judged (c .before .before))) .used-to)
+
+gap-room : (g : tie.After-gap-now)
+    → g .gap-now .result * (start (judged g) .args .set .channels * start (judged g) .args .set .times) < 2 ^ 64
+gap-room g =
+    let s = start (judged g) in
+    let few : g .gap-now .result ≤ 15 = rw (gap-is g) (gap-to (s .args .state) (now (s .args .cell))) in
+    let product = mul-le-mul few (limits s .used-to) in
+    omega arith
+
+mul-if3-2 : tie.Need-mul-if3-2
+mul-if3-2 c = record { fits = gap-room (c .before .before) }
+
+returns-4 : tie.Need-returns-4
+returns-4 c =
+    let g = c .before .before .before .before in
+    let i = judged g in
+    let s = start i in
+    c .refused4 .ensures
+    ∙ judged-10 (s .args .state) (now (s .args .cell)) (s .args .indication) (s .args .samples) (s .pre .0) (s .pre .1)
+    (sym (i .before .before .found .given .1) ∙ s .pre .2) (sym (g .before .before .if1 .left) ∙ i .indication-refused .ensures)
+    (gap-is g) (c .before .before .before .if2 .left) (c .before .if3 .taken)
+
+returns-5 : tie.Need-returns-5
+returns-5 c =
+    let g = c .before .before .before .before in
+    let i = judged g in
+    let s = start i in
+    c .taken .ensures
+    ∙ judged-0 (s .args .state) (now (s .args .cell)) (s .args .indication) (s .args .samples) (s .pre .0) (s .pre .1)
+    (sym (i .before .before .found .given .1) ∙ s .pre .2) (sym (g .before .before .if1 .left) ∙ i .indication-refused .ensures)
+    (gap-is g) (c .before .before .before .if2 .left) (c .before .if3 .left)
+    (g .before .second-now .ensures (s .args .state) (format-is s))
+
+pub judged-spec : {M : Type 1} → statement M
+judged-spec =
+    tie.close
+    (tie.spec (search needs) (search needs) (search needs) returns (search needs) (search needs) returns-2 second-now-requires
+    gap-now-requires (search needs) returns-3 (search needs) mul-if3 mul-if3-2 (search needs) returns-4 (search needs) (search needs)
+    returns-5)
