@@ -13,7 +13,7 @@ use Rattle.circuits.specs.declared.Verdict.{Verdict}
 use Rattle.circuits.specs.declared.Verdict.the-variants.{Refused, Yes, Share, Allowance, Sum}
 use Rattle.circuits.specs.Circuits.{octetRefusal, slotsOf, fitsSlots, cellsPerSecond, pick, judgedFrom, checkRefusal, checkedOf}
 use Rattle.circuits.specs.Plans.{total, ShareFits, Allowed, GoodTo, Good, ShareFault, AllowanceFault, SumFault}
-use Rattle.circuits.proofs.Laws.{fits-by, check-passed, check-taken}
+use Rattle.circuits.proofs.Laws.{fits-by, check-passed, judged-where-taken}
 
 -- what is said of the circuits from one on, of which `carried` channels are carried before
 abbrev Means : ℕ → ℕ → ℕ → ℕ → ℕ → List ℕ → List ℕ → Verdict → Type 0
@@ -142,7 +142,7 @@ module _ (octet channels frequency : ℕ) (shares allowances : List ℕ)
 
     meant : Here verdict
     meant =
-        subst Here (check-taken octet channels frequency shares allowances refl taken refl)
+        subst Here (judged-where-taken octet channels frequency shares allowances taken)
         (means (slotsOf octet) channels frequency 0 0 shares allowances (check-passed _ _ _ _ _ taken .equal))
 
     -- "Our checker says yes exactly when" the plan is good

@@ -9,32 +9,16 @@ use borrow.Author.Tests.{eqb-true, eqb-false, ne-eqb, le-ltb}
 use lib.Dec.{eqb}
 use lib.ListN.{length}
 use Rattle.runs.proofs.Laws.{split}
-use Rattle.formats.specs.Formats as F
-use Rattle.formats.specs.Formats.{isBase, settingsRefusal}
-use Rattle.formats.proofs.Laws.{refusal-of, sound-fields}
+use Rattle.formats.specs.Formats.{isBase}
 use Rattle.circuits.specs.declared.Verdict.{Verdict}
 use Rattle.circuits.specs.declared.Verdict.the-variants.{Refused, Yes, Share, Allowance, Sum}
 use Rattle.circuits.specs.Circuits.{refusalOf, octetRefusal, checkRefusal, checkedOf, planRefusalOf, Plans}
 use Rattle.circuits.proofs.Checked.{never-refused}
-use Rattle.circuits.proofs.Laws.{check-refused}
-
-one-channel : (octet : ℕ) → isBase octet ≡ true → settingsRefusal octet 1 0 ≡ 0
-unfolding settingsRefusal
-one-channel octet h = rw (h, le-ltb (F.slotsOf octet) 1 (omega (arith, sound-fields octet h .slots-from)))
-
-no-format : (octet : ℕ) → isBase octet ≡ false → settingsRefusal octet 1 0 ≡ 1
-unfolding settingsRefusal
-no-format octet h = rw h
+use Rattle.circuits.proofs.Laws.{one-channel, no-format, check-refused}
 
 -- "1 as in 01": of one channel in order 0 only the octet can be refused
 pub octet-refused : (octet : ℕ) → octetRefusal octet ≡ cond (isBase octet) 0 1
-octet-refused octet = refusal-of octet 1 0 ∙ split (isBase octet) base none
-  where
-    base : isBase octet ≡ true → settingsRefusal octet 1 0 ≡ cond (isBase octet) 0 1
-    base h = one-channel octet h ∙ rw h
-
-    none : isBase octet ≡ false → settingsRefusal octet 1 0 ≡ cond (isBase octet) 0 1
-    none h = no-format octet h ∙ rw h
+octet-refused octet = split (isBase octet) (λ h. one-channel octet h ∙ rw h) (λ h. no-format octet h ∙ rw h)
 
 said-none : (v : Verdict) → ((n : ℕ) → v ≡ Refused n → ⊥) → refusalOf v ≡ 0
 said-none (Refused n) never = absurd (never n refl)

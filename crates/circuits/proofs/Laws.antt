@@ -16,8 +16,10 @@ use Rattle.runs.specs.Refusals.{orElse}
 use Rattle.runs.proofs.Laws.{split, past, past-both, neither, both-true, first-refuses, getD-tab, length-tab}
 use Rattle.runs.proofs.Filling.{Filled, begun, turned-front, done-to-end}
 use Rattle.formats.specs.declared.Settled.{Settled}
-use Rattle.formats.specs.Formats.{settingsRefusal, settingsOf, unsettledBy}
-use Rattle.formats.proofs.Laws.{refusal-of, settled-of, settled-limits}
+use Rattle.formats.specs.Formats as F
+use Rattle.formats.specs.Formats.{isBase, settingsRefusal}
+use Rattle.formats.specs.Settings.{settingsOf}
+use Rattle.formats.proofs.Laws.{refusal-of, settled-of, settles-all, sound-fields, sound-format, no-slots}
 use Rattle.circuits.specs.declared.Verdict.{Verdict}
 use Rattle.circuits.specs.declared.Verdict.the-variants.{Refused, Yes, Share, Allowance, Sum}
 use Rattle.circuits.specs.Circuits.{octetRefusal, slotsOf, fitsSlots, cellsPerSecond, pick, judgedFrom, checkRefusal, checkedOf, plannedOf, planRefusal, planRefusalOf, Plans}
@@ -195,19 +197,38 @@ module _ (octet slots channels circuits : ℕ) where
 
 -- ---- S, and what passes the checks
 
-no-settings : (octet : ℕ) → eqb (settingsRefusal octet 1 0) 0 ≡ false → settingsOf octet 1 0 ≡ unsettledBy (settingsRefusal octet 1 0)
+-- of one channel in order 0 only the octet can be refused
+pub one-channel : (octet : ℕ) → isBase octet ≡ true → settingsRefusal octet 1 0 ≡ 0
+unfolding settingsRefusal
+one-channel octet h = rw (h, le-ltb (F.slotsOf octet) 1 (omega (arith, sound-fields octet h .slots-from)))
+
+pub no-format : (octet : ℕ) → isBase octet ≡ false → settingsRefusal octet 1 0 ≡ 1
+unfolding settingsRefusal
+no-format octet h = rw h
+
+-- S of what is settled is that of the octet
+settled-slots : (octet : ℕ) → settingsOf octet 1 0 .format .slots ≡ slotsOf octet
 unfolding settingsOf
-no-settings octet t = rw t
+settled-slots octet =
+    split (isBase octet)
+    (λ h. ap (λ (s : Settled). s .format .slots) (settled-of octet 1 0 (one-channel octet h)))
+    (λ h. rw (no-format octet h) (no-slots octet h))
 
 pub slots-most : (octet : ℕ) → slotsOf octet ≤ 48
-slots-most octet =
-    split (eqb (settingsRefusal octet 1 0) 0)
-    (λ t. let none = eqb-true _ 0 t in settled-limits octet 1 0 (settled-of octet 1 0 none) none .sound .slots-to)
-    (λ t. omega (arith, ap (λ (s : Settled). s .format .slots) (no-settings octet t)))
+slots-most octet = split (isBase octet) (λ h. sound-format octet h .slots-to) (λ h. omega (arith, no-slots octet h))
 
 pub slots-least : (octet : ℕ) → octetRefusal octet ≡ 0 → 8 ≤ slotsOf octet
-slots-least octet taken =
-    let none = sym (refusal-of octet 1 0) ∙ taken in settled-limits octet 1 0 (settled-of octet 1 0 none) none .sound .slots-from
+slots-least octet taken = sound-format octet (settles-all octet 1 0 taken .base) .slots-from
+
+module _ {set : Settled} (octet : ℕ) (given : set ≡ settingsOf octet 1 0) where
+  refusal-given : set .refusal ≡ octetRefusal octet
+  refusal-given = ap (λ (s : Settled). s .refusal) given ∙ refusal-of octet 1 0
+
+  slots-are : set .format .slots ≡ slotsOf octet
+  slots-are = ap (λ (s : Settled). s .format .slots) given ∙ settled-slots octet
+
+  pub slots-given : set .format .slots ≤ 48
+  slots-given = omega (arith, slots-most octet, slots-are)
 
 pub record Passed (octet channels frequency circuits allowances : ℕ) : Type 0 where
   pub format : octet ≡ 0
@@ -258,12 +279,19 @@ plan-passed octet slots channels circuits none =
 
 -- ---- the answers
 
+pub judged-where-taken : (octet channels frequency : ℕ) (shares allowances : List ℕ)
+    → checkRefusal (octetRefusal octet) channels frequency (length shares) (length allowances) ≡ 0
+    → judgedFrom (slotsOf octet) channels frequency 0 0 shares allowances ≡ checkedOf octet channels frequency shares allowances
+unfolding checkedOf
+judged-where-taken octet channels frequency shares allowances none = rw none
+
 module _ {set : Settled} (octet channels frequency : ℕ) (shares allowances : List ℕ) (given : set ≡ settingsOf octet 1 0) where
   abbrev refusalHere : ℕ
   refusalHere = checkRefusal (octetRefusal octet) channels frequency (length shares) (length allowances)
 
   pub check-said : {n : ℕ} → n ≡ checkRefusal (set .refusal) channels frequency (length shares) (length allowances) → n ≡ refusalHere
-  check-said is = is ∙ ap (λ (s : Settled). checkRefusal (s .refusal) channels frequency (length shares) (length allowances)) given
+  check-said is =
+      is ∙ ap (λ (n : ℕ). checkRefusal n channels frequency (length shares) (length allowances)) (refusal-given octet given)
 
   pub check-refused : {n : ℕ} → n ≡ refusalHere → (n ≡ 0 → ⊥) → Refused n ≡ checkedOf octet channels frequency shares allowances
   unfolding checkedOf
@@ -271,13 +299,15 @@ module _ {set : Settled} (octet channels frequency : ℕ) (shares allowances : L
 
   pub check-taken : refusalHere ≡ 0 → {v : Verdict} → v ≡ judgedFrom (set .format .slots) channels frequency 0 0 shares allowances
       → v ≡ checkedOf octet channels frequency shares allowances
-  unfolding checkedOf
   check-taken none is =
-      is ∙ ap (λ (s : Settled). judgedFrom (s .format .slots) channels frequency 0 0 shares allowances) given ∙ rw none
+      is
+      ∙ ap (λ (n : ℕ). judgedFrom n channels frequency 0 0 shares allowances) (slots-are octet given)
+      ∙ judged-where-taken octet channels frequency shares allowances none
 
 module _ {set : Settled} (octet channels : ℕ) (shares : List ℕ) (given : set ≡ settingsOf octet 1 0) where
   pub plan-said : {n : ℕ} → n ≡ planRefusal (set .refusal) (set .format .slots) channels (length shares) → n ≡ planRefusalOf octet channels shares
-  plan-said is = is ∙ ap (λ (s : Settled). planRefusal (s .refusal) (s .format .slots) channels (length shares)) given
+  plan-said is =
+      is ∙ ap₂ (λ (n slots : ℕ). planRefusal n slots channels (length shares)) (refusal-given octet given) (slots-are octet given)
 
   pub plan-refused : {n : ℕ} → n ≡ planRefusalOf octet channels shares → (n ≡ 0 → ⊥) → Plans octet channels shares n shares
   plan-refused is some = record { refused = is; leaves = rw (ne-eqb _ 0 (λ e. some (is ∙ e))) }
@@ -287,8 +317,5 @@ module _ {set : Settled} (octet channels : ℕ) (shares : List ℕ) (given : set
   plan-taken is none made =
       record {
         refused = sym none ∙ is;
-        leaves = rw (sym is ∙ none) (made ∙ ap (λ (s : Settled). plannedOf (s .format .slots) channels (length shares)) given);
+        leaves = rw (sym is ∙ none) (made ∙ ap (λ (slots : ℕ). plannedOf slots channels (length shares)) (slots-are octet given));
       }
-
-  pub slots-given : set .format .slots ≤ 48
-  slots-given = omega (arith, slots-most octet, ap (λ (s : Settled). s .format .slots) given)

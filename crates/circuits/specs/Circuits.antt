@@ -8,7 +8,7 @@ use lib.Dec.{eqb, ltb, leb}
 use lib.ListN.{length}
 use Rattle.runs.specs.Refusals.{orElse}
 use Rattle.runs.specs.Runs.{tab}
-use Rattle.formats.specs.Formats.{timesOf, settingsOf}
+use Rattle.formats.specs.Formats.{formatOf, timesOf, settingsRefusal}
 use Rattle.circuits.specs.declared.Verdict.{Verdict}
 use Rattle.circuits.specs.declared.Verdict.the-variants.{Refused, Yes, Share, Allowance, Sum}
 
@@ -34,12 +34,13 @@ circuitOf (Share k) = k
 circuitOf (Allowance k) = k
 circuitOf Sum = 0
 
--- 1 as in document 01, and S: those of one channel in order 0, of which only the octet can be refused
+-- "1 as in 01": of one channel in order 0 only the octet can be refused
 abbrev pub octetRefusal : ℕ → ℕ
-octetRefusal octet = settingsOf octet 1 0 .refusal
+octetRefusal octet = settingsRefusal octet 1 0
 
+-- S
 abbrev pub slotsOf : ℕ → ℕ
-slotsOf octet = settingsOf octet 1 0 .format .slots
+slotsOf octet = formatOf octet .slots
 
 -- "the shares are each 1 to S"
 unfoldable pub fitsSlots : ℕ → ℕ → Bool

@@ -1,6 +1,5 @@
 -- `circuits::check` meets its contract.
 -- Assumes nothing.
-use mathlib.Core.List.{[]}
 use mathlib.Core.Path.{_≡_, sym, _∙_}
 use Prim.Native.Nat.{ℕ}
 use borrow.Author.Needs.{needs}
@@ -37,7 +36,7 @@ none c = sym (refusal-is (c .before)) ∙ c .if1 .left
 judge-requires : tie.Need-judge-requires
 judge-requires c κs =
     let passed = check-passed _ _ _ _ _ (none c) in
-    (slots-given _ 0 [] (c .before .before .before .settings .ensures), passed .circuits-to, passed .equal)
+    (slots-given _ (c .before .before .before .settings .ensures), passed .circuits-to, passed .equal)
 
 returns-2 : tie.Need-returns-2
 returns-2 c =

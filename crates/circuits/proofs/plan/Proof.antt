@@ -1,6 +1,5 @@
 -- `circuits::plan` meets its contract.
 -- Assumes nothing.
-use mathlib.Core.List.{[]}
 use mathlib.Core.Path.{_≡_}
 use native.Mathlib.Omega.{arith}
 use borrow.Author.Needs.{needs}
@@ -10,7 +9,7 @@ use Rattle.circuits.proofs.plan.Statement.{statement}
 use Rattle.circuits.proofs.plan.Tie as tie
 
 plan-refusal-requires : tie.Need-plan-refusal-requires
-plan-refusal-requires c κs = slots-given _ 0 [] (c .before .settings .ensures)
+plan-refusal-requires c κs = slots-given _ (c .before .settings .ensures)
 
 -- the function's entry, and what it refuses
 abbrev start-of : tie.After-plan-refusal → tie.Start
@@ -28,7 +27,7 @@ returns c =
     plan-refused (a .octet) (a .channels) (a .shares .now) (c .before .before .before .settings .ensures) (refusal-is (c .before)) (c .if1 .taken)
 
 cast-fill : tie.Need-cast-fill
-cast-fill c = omega (arith, slots-given _ 0 [] (c .before .before .before .settings .ensures))
+cast-fill c = omega (arith, slots-given _ (c .before .before .before .settings .ensures))
 
 returns-2 : tie.Need-returns-2
 returns-2 c =
