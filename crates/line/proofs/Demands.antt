@@ -29,6 +29,7 @@ use Rattle.listing.specs.Text.{listed}
 use Rattle.cable.specs.declared.Imported.{Imported}
 use Rattle.cable.specs.declared.Exported.{Exported}
 use Rattle.cable.specs.Frames.{importRefusal, exportRefusal}
+use Rattle.units.specs.Back.{ExportCall, exportTable, ExportedNothing, ReadCall, readTable, EnteredNothing}
 use Rattle.line.specs.Contracts.{
   SendCall,
   MeetsSend,
@@ -48,6 +49,8 @@ use Rattle.line.specs.Contracts.{
   MeetsList,
   MeetsImport,
   MeetsExport,
+  MeetsExportUnits,
+  MeetsReadUnit,
 }
 use Rattle.line.specs.Demands.{
   Refuses,
@@ -81,6 +84,8 @@ use Rattle.line.proofs.Refused.{
   lists,
   imports,
   exports,
+  exports-units,
+  reads-unit,
 }
 
 -- 1. "Each public call takes arbitrary octets, numbers, run lengths and states, and ends with an answer. It refuses exactly where
@@ -151,6 +156,12 @@ demand-1-import = imports
 pub demand-1-export : (samples ancillary : List ℕ) (r : Exported) → MeetsExport samples ancillary r
     → Refuses (r .refusal) (exportRefusal samples ancillary) ((r .preambles ≡ 0 ∷ 0 ∷ []) × (r .subframes ≡ 0 ∷ 0 ∷ []))
 demand-1-export = exports
+
+pub demand-1-export-units : (e : ExportCall) → MeetsExportUnits e → Refuses (e .answer .refusal) (exportTable e) (ExportedNothing e)
+demand-1-export-units = exports-units
+
+pub demand-1-read-unit : (r : ReadCall) → MeetsReadUnit r → Refuses (r .answer .refusal) (readTable r) (EnteredNothing r)
+demand-1-read-unit = reads-unit
 
 -- 2. "Cells, number protection, data protection and placement are document 01's for every format listed."
 pub demand-2-cell : (s : SendCall) → MeetsSend s → s .answer .refusal ≡ 0 → IsDocument01's s

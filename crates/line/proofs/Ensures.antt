@@ -61,6 +61,10 @@ use Rattle.cable.proofs.import_frame.Kinds as import-kinds
 use Rattle.cable.proofs.import_frame.Reads as import-reads
 use Rattle.cable.proofs.export_frame.Kinds as export-kinds
 use Rattle.cable.proofs.export_frame.Reads as export-reads
+use Rattle.units.proofs.export_units.Kinds as export-units-kinds
+use Rattle.units.proofs.export_units.Reads as export-units-reads
+use Rattle.units.proofs.read_unit.Kinds as read-unit-kinds
+use Rattle.units.proofs.read_unit.Reads as read-unit-reads
 use Rattle.line.specs.Contracts.{
   MeetsSend,
   MeetsReceive,
@@ -78,6 +82,8 @@ use Rattle.line.specs.Contracts.{
   MeetsList,
   MeetsImport,
   MeetsExport,
+  MeetsExportUnits,
+  MeetsReadUnit,
 }
 
 -- Whatever a function is called with (a), answers (x) and leaves in what was lent to it (v): where its `ensures` holds, so does
@@ -196,3 +202,29 @@ module _ {M : Type 1} (𝓤 : URA M) (H : Heap 𝓤) (A : Atoms 𝓤) (mem : Mem
   pub read-ensures : (a : Args read.signature κs) (x : Record)
       → ent 𝓤 (ReadEnsures 𝓤 H A mem run κs a x) (fact 𝓤 (MeetsReadRecord (now (a .0)) (a .1 .0) x))
   read-ensures a x = fact-mono 𝓤 _ _ (λ p. p)
+
+pub export-units-ensures : Ensured export-units-kinds.ps export-units-kinds.r export-units-reads.Post
+    (λ κs a x v. MeetsExportUnits (record {
+      octet = a .0;
+      channels = a .1 .0;
+      size = a .1 .1 .0;
+      samples = now (a .1 .1 .1 .0);
+      ancillary = now (a .1 .1 .1 .1 .0);
+      out = now (a .1 .1 .1 .1 .1 .0);
+      answer = x;
+      out-after = v .1 .1 .1 .1 .1 .0;
+    }))
+export-units-ensures κs a x v p = p
+
+pub read-unit-ensures : Ensured read-unit-kinds.ps read-unit-kinds.r read-unit-reads.Post
+    (λ κs a x v. MeetsReadUnit (record {
+      octet = a .0;
+      channels = a .1 .0;
+      unit = now (a .1 .1 .0);
+      samples = now (a .1 .1 .1 .0);
+      ancillary = now (a .1 .1 .1 .1 .0);
+      answer = x;
+      samples-after = v .1 .1 .1 .0;
+      ancillary-after = v .1 .1 .1 .1 .0;
+    }))
+read-unit-ensures κs a x v p = p

@@ -35,6 +35,8 @@ use Rattle.cable.specs.declared.Imported.{Imported}
 use Rattle.cable.specs.declared.Exported.{Exported}
 use Rattle.cable.specs.Frames.{importRefusal, exportRefusal}
 use Rattle.cable.proofs.Demand1 as cable
+use Rattle.units.specs.Back.{ExportCall, exportTable, ExportedNothing, ReadCall, readTable, EnteredNothing}
+use Rattle.units.proofs.Demand1 as units
 use Rattle.line.specs.Contracts.{
   MeetsOpenSender,
   MeetsOpenReceiver,
@@ -47,6 +49,8 @@ use Rattle.line.specs.Contracts.{
   MeetsList,
   MeetsImport,
   MeetsExport,
+  MeetsExportUnits,
+  MeetsReadUnit,
 }
 use Rattle.line.specs.Demands.{Refuses, SteppedNothing, recordTable, ReadNothing}
 
@@ -173,3 +177,9 @@ exports samples ancillary r meets =
       then-nothing =
           λ some. (ap (λ (x : Exported). x .preambles) (one .1 some), ap (λ (x : Exported). x .subframes) (one .1 some));
     }
+
+pub exports-units : (e : ExportCall) → MeetsExportUnits e → Refuses (e .answer .refusal) (exportTable e) (ExportedNothing e)
+exports-units e meets = let one = units.demand-1-export e meets in record { by-the-table = one .0; then-nothing = one .1 }
+
+pub reads-unit : (r : ReadCall) → MeetsReadUnit r → Refuses (r .answer .refusal) (readTable r) (EnteredNothing r)
+reads-unit r meets = let one = units.demand-1-read r meets in record { by-the-table = one .0; then-nothing = one .1 }

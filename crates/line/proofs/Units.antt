@@ -7,7 +7,6 @@ use mathlib.Core.Path.{_≡_, refl, sym, _∙_, ap, ap₂}
 use Prim.Native.Nat.{ℕ, suc, _*_, _%_, _-_, _<_}
 use native.Mathlib.Nat.{zero-mul, one-mul, mul-mod-right}
 use native.Mathlib.Omega.{arith}
-use denote.Ref.{now}
 use borrow.Author.Tests.{eq-eqb, ne-eqb, le-ltb}
 use lib.ListN.{length, take, drop, replicate}
 use lib.Seq.{take-at}
@@ -19,30 +18,15 @@ use Rattle.sender.specs.Sender as S
 use Rattle.receiver.specs.declared.Receiver.{Receiver}
 use Rattle.receiver.specs.Receiver as R
 use Rattle.units.specs.Units.{valuesRefused}
-use Rattle.units.specs.Back.{
-  ExportCall,
-  MeetsExport,
-  exportTable,
-  ExportedNothing,
-  ReadCall,
-  MeetsRead,
-  readTable,
-  ReadNothing,
-  ReadsUnit,
-}
+use Rattle.units.specs.Back.{ExportCall, MeetsExport, exportTable, ReadCall, MeetsRead, ReadsUnit}
 use Rattle.units.proofs.Laws.{export-taken}
-use Rattle.units.proofs.Demand1.{export-refusal, demand-1-export, demand-1-read}
-use Rattle.units.proofs.export_units.Kinds as export-kinds
-use Rattle.units.proofs.export_units.Reads as export-reads
-use Rattle.units.proofs.read_unit.Kinds as read-kinds
-use Rattle.units.proofs.read_unit.Reads as read-reads
+use Rattle.units.proofs.Demand1.{export-refusal}
 use Rattle.units.proofs.Back.{back-whole}
 use Rattle.line.specs.Contracts.{SendCall, MeetsSend, ReceiveCall, MeetsReceive}
-use Rattle.line.specs.Demands.{Refuses, receiveTable, InSettings, formatIn}
+use Rattle.line.specs.Demands.{receiveTable, InSettings, formatIn}
 use Rattle.line.specs.Units.{ExportsReceived, ComesBack}
 use Rattle.line.proofs.Cells.{sent-refusal, received-refusal, settings-none, used-in, fits}
 use Rattle.line.proofs.Calls.{gives-back}
-use Rattle.line.proofs.Ensures.{Ensured}
 
 -- order 0 is taken where another order is
 in-order : (octet channels order : ℕ) → settingsRefusal octet channels order ≡ 0 → settingsRefusal octet channels 0 ≡ 0
@@ -140,37 +124,3 @@ module _ (s : SendCall) (r : ReceiveCall) (sends : MeetsSend s) (sent : s .answe
             samples-back = back .samples-back ∙ samples-are;
             ancillary-back = back .ancillary-back ∙ ancillary-is;
           }
-
--- demand 1 for the two calls
-pub exports-or-nothing : (e : ExportCall) → MeetsExport e → Refuses (e .answer .refusal) (exportTable e) (ExportedNothing e)
-exports-or-nothing e meets = let one = demand-1-export e meets in record { by-the-table = one .0; then-nothing = one .1 }
-
-pub reads-or-nothing : (r : ReadCall) → MeetsRead r → Refuses (r .answer .refusal) (readTable r) (ReadNothing r)
-reads-or-nothing r meets = let one = demand-1-read r meets in record { by-the-table = one .0; then-nothing = one .1 }
-
--- what the calls are said to meet is what their functions' own `ensures` say
-pub export-ensures : Ensured export-kinds.ps export-kinds.r export-reads.Post
-    (λ κs a x v. MeetsExport (record {
-      octet = a .0;
-      channels = a .1 .0;
-      size = a .1 .1 .0;
-      samples = now (a .1 .1 .1 .0);
-      ancillary = now (a .1 .1 .1 .1 .0);
-      out = now (a .1 .1 .1 .1 .1 .0);
-      answer = x;
-      out-after = v .1 .1 .1 .1 .1 .0;
-    }))
-export-ensures κs a x v p = p
-
-pub read-ensures : Ensured read-kinds.ps read-kinds.r read-reads.Post
-    (λ κs a x v. MeetsRead (record {
-      octet = a .0;
-      channels = a .1 .0;
-      unit = now (a .1 .1 .0);
-      samples = now (a .1 .1 .1 .0);
-      ancillary = now (a .1 .1 .1 .1 .0);
-      answer = x;
-      samples-after = v .1 .1 .1 .0;
-      ancillary-after = v .1 .1 .1 .1 .0;
-    }))
-read-ensures κs a x v p = p

@@ -30,6 +30,8 @@ use Rattle.listing.specs.List.{Lists}
 use Rattle.cable.specs.declared.Imported.{Imported}
 use Rattle.cable.specs.declared.Exported.{Exported}
 use Rattle.cable.specs.Frames.{importOf, exportOf}
+use Rattle.units.specs.Back as U
+use Rattle.units.specs.Back.{ExportCall, ReadCall}
 
 -- a call of `send` and what it left
 pub record SendCall : Type 0 where
@@ -111,3 +113,10 @@ MeetsImport preambles subframes r = r ≡ importOf preambles subframes
 
 abbrev pub MeetsExport : List ℕ → List ℕ → Exported → Type 0
 MeetsExport samples ancillary r = r ≡ exportOf samples ancillary
+
+-- `export_units` and `read_unit`
+abbrev pub MeetsExportUnits : ExportCall → Type 0
+MeetsExportUnits e = U.MeetsExport e
+
+abbrev pub MeetsReadUnit : ReadCall → Type 0
+MeetsReadUnit r = U.MeetsRead r

@@ -9,7 +9,7 @@ use Rattle.runs.proofs.Laws.{split}
 use Rattle.units.specs.declared.Exported.{Exported}
 use Rattle.units.specs.declared.Entered.{Entered}
 use Rattle.units.specs.Units.{exportedOf, exportGives, enteredOf, readGives}
-use Rattle.units.specs.Back.{ExportCall, MeetsExport, exportTable, ExportedNothing, ReadCall, MeetsRead, readTable, ReadNothing}
+use Rattle.units.specs.Back.{ExportCall, MeetsExport, exportTable, ExportedNothing, ReadCall, MeetsRead, readTable, EnteredNothing}
 
 -- "Refusals: 1, 2 as in 01, 5 .., 6 as in 01, then 26 .., 27 .., 28"
 pub export-refusal : (e : ExportCall) → MeetsExport e → e .answer .refusal ≡ exportTable e
@@ -39,7 +39,7 @@ read-refusal r meets =
     ap (λ (x : Entered). x .refusal) (meets .answered)
     ∙ split (eqb (readTable r) 0) (λ t. rw t (sym (eqb-true (readTable r) 0 t))) (λ t. rw t)
 
-pub demand-1-read : (r : ReadCall) → MeetsRead r → (r .answer .refusal ≡ readTable r) × ((r .answer .refusal ≡ 0 → ⊥) → ReadNothing r)
+pub demand-1-read : (r : ReadCall) → MeetsRead r → (r .answer .refusal ≡ readTable r) × ((r .answer .refusal ≡ 0 → ⊥) → EnteredNothing r)
 unfolding enteredOf readGives over
 demand-1-read r meets = (
   read-refusal r meets,

@@ -102,7 +102,7 @@ pub record ExportedNothing (e : ExportCall) : Type 0 where
 abbrev pub readTable : ReadCall → ℕ
 readTable r = readRefusal (r .octet) (r .channels) (length (r .unit)) (length (r .samples)) (length (r .ancillary))
 
-pub record ReadNothing (r : ReadCall) : Type 0 where
+pub record EnteredNothing (r : ReadCall) : Type 0 where
   pub samples-as-lent : r .samples-after ≡ r .samples
   pub ancillary-as-lent : r .ancillary-after ≡ r .ancillary
   pub no-entries : r .answer .entries ≡ 0
