@@ -83,7 +83,8 @@ face-examples: $(EXAMPLES)/handover-c $(EXAMPLES)/handover-rust $(EXAMPLES)/libr
 	@echo "examples: C, Rust and Python print what is expected"
 
 # Everything that links the archive. The gate builds it while `rt ci` goes on.
-face-build: face-compare $(EXAMPLES)/handover-c $(EXAMPLES)/handover-rust $(EXAMPLES)/librimesatchel.so target/bench/bench
+face-build: face-compare $(EXAMPLES)/handover-c $(EXAMPLES)/handover-rust $(EXAMPLES)/librimesatchel.so $(EXAMPLES)/cast-c \
+    target/bench/bench
 
 face-test: face-compare face-examples
 	$(COMPARE) vectors tests/vectors $(LINELIST)
