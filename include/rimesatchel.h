@@ -7,9 +7,9 @@
  *
  * Every function but rime_check_character returns a refusal number, RIME_DONE (0) where there is none. A call never
  * does half of its work. A refusal leaves every lent run and the state as they were, and fills `report`, `out` of
- * rime_status_step, `header`, `record`, `units`, `*entries` or the two entries or halves of a frame with zeros; an opening
- * that is refused fills `state` with zeros, which is itself refused 1. Where several refusals apply, the first in the
- * order of the list at each function is given.
+ * rime_status_step, `header`, `record`, `units`, `*entries`, `answer` or the two entries or halves of a frame with zeros; an
+ * opening that is refused fills `state` with zeros, which is itself refused 1. Where several refusals apply, the first in
+ * the order of the list at each function is given.
  *
  * Lent memory: a run is a pointer and the number of its entries. A pointer is never NULL (a run of no entries may
  * point anywhere else), and no two arguments of one call overlap.
@@ -70,7 +70,7 @@ enum {
     RIME_REFUSED_CHANNELS = 2,    /* C is 0 or above S */
     RIME_REFUSED_ORDER = 3,       /* order above 1 */
     RIME_REFUSED_STATE = 4,       /* a number in a state, or a start number, that cannot be */
-    RIME_REFUSED_LENGTH = 5,      /* a cell not of 48 octets, or runs of a wrong length */
+    RIME_REFUSED_LENGTH = 5,      /* a cell not of 48 octets, or runs of a wrong or unequal length */
     RIME_REFUSED_SAMPLE = 6,      /* a sample or an ancillary number too large for the format */
     RIME_REFUSED_INDICATION = 7,  /* sending indication 1 where the number isn't a multiple of 8 */
     RIME_REFUSED_NUMBER = 8,      /* the cell's eight number bits are in no entry of Table A.1 */
@@ -83,10 +83,13 @@ enum {
     RIME_REFUSED_INDICATED = 15,  /* a cell that comes with indication 1 where its number isn't a multiple of 8 */
     RIME_REFUSED_PREAMBLES = 16,  /* the preambles of a frame aren't X then Y, or Z then Y */
     RIME_REFUSED_PARITY = 17,     /* odd parity over slots 4 to 31 in either half of a frame */
+    RIME_REFUSED_PLAN = 22,       /* more than 64 circuits or 1,024 channels */
+    RIME_REFUSED_FREQUENCY = 23,  /* a sampling frequency of 0 or above 1,000,000 */
     RIME_REFUSED_OVERHEAD = 26,   /* data units: a format with overhead */
     RIME_REFUSED_UNIT_SIZE = 27,  /* data units: a size below one frame */
     RIME_REFUSED_UNIT_ROOM = 28,  /* data units: too little room */
-    RIME_REFUSED_BLOCKS = 29      /* the B bits of a frame's halves differ */
+    RIME_REFUSED_BLOCKS = 29,     /* the B bits of a frame's halves differ */
+    RIME_REFUSED_CIRCUITS = 30    /* S times the circuits is below the channels */
 };
 
 /* Places in a sender's state. The three yes-or-no octets here and below: 0 is no, any other octet is yes. */
@@ -272,6 +275,33 @@ uint8_t rime_units_export(uint32_t format, uint32_t channels, size_t size, const
  */
 uint8_t rime_unit_read(uint32_t format, uint32_t channels, const uint8_t *unit, size_t unit_len, uint64_t *samples,
                        size_t samples_len, uint8_t *ancillary, size_t ancillary_len, uint64_t *entries);
+
+/* Places in what rime_circuits_check answers, and its answers. */
+enum { RIME_PLAN_ANSWER = 0, RIME_PLAN_CIRCUIT = 1 };
+enum { RIME_PLAN_YES = 1, RIME_PLAN_SHARE = 2, RIME_PLAN_ALLOWANCE = 3, RIME_PLAN_SUM = 4 };
+
+/*
+ * Judges a plan, anyone's: `channels` channels in one format at a sampling `frequency`, shared out over circuits.
+ * `shares` is how many of them each circuit carries, `allowances` the cells per second that each circuit may carry. A
+ * circuit with a share of C needs `frequency` / T cells per second, rounded up, with T = S / C rounded down.
+ * Leaves in `answer` RIME_PLAN_YES and 0 exactly when each share is 1 to S, the shares add up to `channels`, and each
+ * circuit's cells per second are within its allowance. A no names the first fault, circuit by circuit the share, then
+ * the allowance: RIME_PLAN_SHARE or RIME_PLAN_ALLOWANCE and the circuit, counted from 0; last RIME_PLAN_SUM and 0. No
+ * circuits and no channels is a yes.
+ * Refused, with `answer` zeros: 1, the octet is none of the eleven; 5, the two runs aren't equally long; 22, more than
+ * 64 circuits or 1,024 channels; 23, `frequency` is 0 or above 1,000,000.
+ */
+uint8_t rime_circuits_check(uint32_t format, uint32_t channels, uint32_t frequency, const uint32_t *shares,
+                            size_t shares_len, const uint32_t *allowances, size_t allowances_len, uint32_t answer[2]);
+
+/*
+ * A plain planner: fills circuits in the given order as far as S allows, allowances left aside. Writes all of `shares`,
+ * a number for each circuit: S for those that are full, the rest for one, and 0 for those left over, which the checker
+ * calls a fault: hand it the circuits that were filled.
+ * Refused, with `shares` untouched: 1, the octet is none of the eleven; 22, more than 64 circuits or 1,024 channels; 30,
+ * S times the circuits is below `channels`: nobody's plan could carry them.
+ */
+uint8_t rime_circuits_plan(uint32_t format, uint32_t channels, uint32_t *shares, size_t shares_len);
 
 #ifdef __cplusplus
 }

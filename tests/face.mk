@@ -7,7 +7,7 @@
 # ROWS         a pattern that picks the benchmark's rows
 
 RIME_LIB ?= $(CURDIR)/target/staticlib
-RIME_PARTS ?= boxes,status,log,cable,units,management
+RIME_PARTS ?= boxes,status,log,cable,units,circuits,management
 N ?= 1000000
 SEED ?= 2
 ROWS ?= .
@@ -50,6 +50,10 @@ $(EXAMPLES)/handover-rust: examples/rust/handover.rs examples/rust/rimesatchel.r
 	mkdir -p $(EXAMPLES)
 	rustc --edition 2021 -O -D warnings -L native=$(RIME_LIB) -l static=rimesatchel $< -o $@
 
+$(EXAMPLES)/cast-c: examples/c/cast.c include/rimesatchel.h $(ARCHIVE)
+	mkdir -p $(EXAMPLES)
+	gcc -O2 -std=c99 $(WARNINGS) -pedantic -Iinclude $< $(ARCHIVE) -o $@
+
 $(EXAMPLES)/librimesatchel.so: $(ARCHIVE)
 	mkdir -p $(EXAMPLES)
 	gcc -shared -Wl,--whole-archive $(ARCHIVE) -Wl,--no-whole-archive -o $@
@@ -68,15 +72,19 @@ $(1) > $(EXAMPLES)/printed
 diff examples/$(2).expected $(EXAMPLES)/printed
 endef
 
-face-examples: $(EXAMPLES)/handover-c $(EXAMPLES)/handover-rust $(EXAMPLES)/librimesatchel.so $(EXAMPLES)/management-c
+face-examples: $(EXAMPLES)/handover-c $(EXAMPLES)/handover-rust $(EXAMPLES)/librimesatchel.so $(EXAMPLES)/management-c \
+    $(EXAMPLES)/cast-c
 	$(call prints-expected,$(EXAMPLES)/handover-c,handover)
 	$(call prints-expected,$(EXAMPLES)/handover-rust,handover)
 	$(call prints-expected,python3 examples/python/handover.py $(EXAMPLES)/librimesatchel.so,handover)
 	$(call prints-expected,$(EXAMPLES)/management-c,management)
+	$(call prints-expected,$(EXAMPLES)/cast-c,cast)
+	$(call prints-expected,python3 examples/python/cast.py $(EXAMPLES)/librimesatchel.so,cast)
 	@echo "examples: C, Rust and Python print what is expected"
 
 # Everything that links the archive. The gate builds it while `rt ci` goes on.
-face-build: face-compare $(EXAMPLES)/handover-c $(EXAMPLES)/handover-rust $(EXAMPLES)/librimesatchel.so target/bench/bench
+face-build: face-compare $(EXAMPLES)/handover-c $(EXAMPLES)/handover-rust $(EXAMPLES)/librimesatchel.so $(EXAMPLES)/cast-c \
+    target/bench/bench
 
 face-test: face-compare face-examples
 	$(COMPARE) vectors tests/vectors $(LINELIST)

@@ -6,7 +6,7 @@ use std::path::PathBuf;
 fn main() {
     println!("cargo:rerun-if-env-changed=RIMESATCHEL_LIB");
     let wanted = |part: &str| env::var(format!("CARGO_FEATURE_{part}")).is_ok();
-    let boxes = ["BOXES", "STATUS", "LOG", "CABLE", "UNITS"].into_iter().any(wanted);
+    let boxes = ["BOXES", "STATUS", "LOG", "CABLE", "UNITS", "CIRCUITS"].into_iter().any(wanted);
     if !boxes && !wanted("MANAGEMENT") {
         return;
     }

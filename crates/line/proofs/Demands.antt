@@ -30,6 +30,8 @@ use Rattle.cable.specs.declared.Imported.{Imported}
 use Rattle.cable.specs.declared.Exported.{Exported}
 use Rattle.cable.specs.Frames.{importRefusal, exportRefusal}
 use Rattle.units.specs.Back.{ExportCall, exportTable, ExportedNothing, ReadCall, readTable, EnteredNothing}
+use Rattle.circuits.specs.declared.Verdict.{Verdict}
+use Rattle.circuits.specs.Circuits.{refusalOf, answerOf, circuitOf, octetRefusal, checkRefusal, planRefusalOf}
 use Rattle.line.specs.Contracts.{
   SendCall,
   MeetsSend,
@@ -51,6 +53,8 @@ use Rattle.line.specs.Contracts.{
   MeetsExport,
   MeetsExportUnits,
   MeetsReadUnit,
+  MeetsCheckCircuits,
+  MeetsPlanCircuits,
 }
 use Rattle.line.specs.Demands.{
   Refuses,
@@ -86,6 +90,8 @@ use Rattle.line.proofs.Refused.{
   exports,
   exports-units,
   reads-unit,
+  checks-circuits,
+  plans-circuits,
 }
 
 -- 1. "Each public call takes arbitrary octets, numbers, run lengths and states, and ends with an answer. It refuses exactly where
@@ -162,6 +168,16 @@ demand-1-export-units = exports-units
 
 pub demand-1-read-unit : (r : ReadCall) → MeetsReadUnit r → Refuses (r .answer .refusal) (readTable r) (EnteredNothing r)
 demand-1-read-unit = reads-unit
+
+pub demand-1-check-circuits : (octet channels frequency : ℕ) (shares allowances : List ℕ) (r : Verdict)
+    → MeetsCheckCircuits octet channels frequency shares allowances r
+    → Refuses (refusalOf r) (checkRefusal (octetRefusal octet) channels frequency (length shares) (length allowances))
+    ((answerOf r ≡ 0) × (circuitOf r ≡ 0))
+demand-1-check-circuits = checks-circuits
+
+pub demand-1-plan-circuits : (octet channels : ℕ) (shares : List ℕ) (r : ℕ) (after : List ℕ) → MeetsPlanCircuits octet channels shares r after
+    → Refuses r (planRefusalOf octet channels shares) (after ≡ shares)
+demand-1-plan-circuits = plans-circuits
 
 -- 2. "Cells, number protection, data protection and placement are document 01's for every format listed."
 pub demand-2-cell : (s : SendCall) → MeetsSend s → s .answer .refusal ≡ 0 → IsDocument01's s

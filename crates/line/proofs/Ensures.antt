@@ -65,6 +65,10 @@ use Rattle.units.proofs.export_units.Kinds as export-units-kinds
 use Rattle.units.proofs.export_units.Reads as export-units-reads
 use Rattle.units.proofs.read_unit.Kinds as read-unit-kinds
 use Rattle.units.proofs.read_unit.Reads as read-unit-reads
+use Rattle.circuits.proofs.check.Kinds as check-circuits-kinds
+use Rattle.circuits.proofs.check.Reads as check-circuits-reads
+use Rattle.circuits.proofs.plan.Kinds as plan-circuits-kinds
+use Rattle.circuits.proofs.plan.Reads as plan-circuits-reads
 use Rattle.line.specs.Contracts.{
   MeetsSend,
   MeetsReceive,
@@ -84,6 +88,8 @@ use Rattle.line.specs.Contracts.{
   MeetsExport,
   MeetsExportUnits,
   MeetsReadUnit,
+  MeetsCheckCircuits,
+  MeetsPlanCircuits,
 }
 
 -- Whatever a function is called with (a), answers (x) and leaves in what was lent to it (v): where its `ensures` holds, so does
@@ -228,3 +234,11 @@ pub read-unit-ensures : Ensured read-unit-kinds.ps read-unit-kinds.r read-unit-r
       ancillary-after = v .1 .1 .1 .1 .0;
     }))
 read-unit-ensures κs a x v p = p
+
+pub check-circuits-ensures : Ensured check-circuits-kinds.ps check-circuits-kinds.r check-circuits-reads.Post
+    (λ κs a x v. MeetsCheckCircuits (a .0) (a .1 .0) (a .1 .1 .0) (now (a .1 .1 .1 .0)) (now (a .1 .1 .1 .1 .0)) x)
+check-circuits-ensures κs a x v p = p
+
+pub plan-circuits-ensures : Ensured plan-circuits-kinds.ps plan-circuits-kinds.r plan-circuits-reads.Post
+    (λ κs a x v. MeetsPlanCircuits (a .0) (a .1 .0) (now (a .1 .1 .0)) x (v .1 .1 .0))
+plan-circuits-ensures κs a x v p = p

@@ -32,6 +32,8 @@ use Rattle.cable.specs.declared.Exported.{Exported}
 use Rattle.cable.specs.Frames.{importOf, exportOf}
 use Rattle.units.specs.Back as U
 use Rattle.units.specs.Back.{ExportCall, ReadCall}
+use Rattle.circuits.specs.declared.Verdict.{Verdict}
+use Rattle.circuits.specs.Circuits.{checkedOf, Plans}
 
 -- a call of `send` and what it left
 pub record SendCall : Type 0 where
@@ -120,3 +122,10 @@ MeetsExportUnits e = U.MeetsExport e
 
 abbrev pub MeetsReadUnit : ReadCall → Type 0
 MeetsReadUnit r = U.MeetsRead r
+
+-- `check` and `plan`, of channels shared out over circuits
+abbrev pub MeetsCheckCircuits : ℕ → ℕ → ℕ → List ℕ → List ℕ → Verdict → Type 0
+MeetsCheckCircuits octet channels frequency shares allowances r = r ≡ checkedOf octet channels frequency shares allowances
+
+abbrev pub MeetsPlanCircuits : ℕ → ℕ → List ℕ → ℕ → List ℕ → Type 0
+MeetsPlanCircuits octet channels shares r after = Plans octet channels shares r after

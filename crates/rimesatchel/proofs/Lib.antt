@@ -6,5 +6,7 @@ pub mod LogsOne
 pub mod NetworkLeaves
 pub mod NetworkOne
 pub mod NetworkWrong
+pub mod PlansOne
+pub mod PlansWrong
 pub mod StatusesOne
 pub mod Wrong

@@ -22,6 +22,8 @@ pub enum Kind {
     Controller,
     UnitsExport,
     UnitRead,
+    CircuitsCheck,
+    CircuitsPlan,
 }
 
 impl Kind {
@@ -31,7 +33,7 @@ impl Kind {
 }
 
 /// Kind, name, and the fields in and out: n a number, r a run of numbers or a state, o octets.
-const KINDS: [(Kind, &str, &str, &str); 16] = [
+const KINDS: [(Kind, &str, &str, &str); 18] = [
     (Kind::SenderOpen, "sender_open", "nnnnnn", "nr"),
     (Kind::ReceiverOpen, "receiver_open", "nnn", "nr"),
     (Kind::Send, "send", "rnrro", "nro"),
@@ -48,6 +50,8 @@ const KINDS: [(Kind, &str, &str, &str); 16] = [
     (Kind::Controller, "controller", "oo", "no"),
     (Kind::UnitsExport, "units_export", "nnnrro", "nonnn"),
     (Kind::UnitRead, "unit_read", "nnorr", "nrrn"),
+    (Kind::CircuitsCheck, "circuits_check", "nnnrr", "nnn"),
+    (Kind::CircuitsPlan, "circuits_plan", "nnr", "nr"),
 ];
 
 #[derive(Clone, Debug, PartialEq)]

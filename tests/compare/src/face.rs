@@ -93,6 +93,17 @@ mod raw {
             ancillary_len: usize,
             entries: *mut u64,
         ) -> u8;
+        pub fn rime_circuits_check(
+            format: u32,
+            channels: u32,
+            frequency: u32,
+            shares: *const u32,
+            shares_len: usize,
+            allowances: *const u32,
+            allowances_len: usize,
+            answer: *mut [u32; 2],
+        ) -> u8;
+        pub fn rime_circuits_plan(format: u32, channels: u32, shares: *mut u32, shares_len: usize) -> u8;
     }
 }
 
@@ -217,4 +228,29 @@ pub fn unit_read(
             entries,
         )
     }
+}
+
+pub fn circuits_check(
+    [format, channels, frequency]: [u32; 3],
+    shares: &[u32],
+    allowances: &[u32],
+    answer: &mut [u32; 2],
+) -> u8 {
+    let (shares_at, allowances_at) = (shares.as_ptr(), allowances.as_ptr());
+    unsafe {
+        raw::rime_circuits_check(
+            format,
+            channels,
+            frequency,
+            shares_at,
+            shares.len(),
+            allowances_at,
+            allowances.len(),
+            answer,
+        )
+    }
+}
+
+pub fn circuits_plan(format: u32, channels: u32, shares: &mut [u32]) -> u8 {
+    unsafe { raw::rime_circuits_plan(format, channels, shares.as_mut_ptr(), shares.len()) }
 }

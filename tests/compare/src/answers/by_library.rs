@@ -23,6 +23,8 @@ pub fn by_library(case: &Case) -> Option<Answer> {
         Kind::Controller => management::controller_by_library(case),
         Kind::UnitsExport if cfg!(feature = "units") => units_export(case),
         Kind::UnitRead if cfg!(feature = "units") => unit_read(case),
+        Kind::CircuitsCheck if cfg!(feature = "circuits") => circuits_check(case),
+        Kind::CircuitsPlan if cfg!(feature = "circuits") => circuits_plan(case),
         _ => None,
     }
 }
@@ -175,4 +177,19 @@ fn unit_read(case: &Case) -> Option<Answer> {
     let mut entries = u64::MAX;
     let refusal = face::unit_read(settings, case.octets(2), samples.lent(), ancillary.lent(), &mut entries);
     Some(values![u64::from(refusal), &samples.back()[..], &wide(&ancillary.back())[..], entries])
+}
+
+fn circuits_check(case: &Case) -> Option<Answer> {
+    let asked = narrow_array(&[case.number(0), case.number(1), case.number(2)])?;
+    let (shares, allowances): (Vec<u32>, Vec<u32>) = (narrow(case.run(3))?, narrow(case.run(4))?);
+    let mut answer = [u32::MAX; 2];
+    let refusal = face::circuits_check(asked, &shares, &allowances, &mut answer);
+    Some(values![u64::from(refusal), u64::from(answer[0]), u64::from(answer[1])])
+}
+
+fn circuits_plan(case: &Case) -> Option<Answer> {
+    let [format, channels] = narrow_array(&[case.number(0), case.number(1)])?;
+    let mut shares = Fenced::around(&narrow(case.run(2))?, u32::MAX);
+    let refusal = face::circuits_plan(format, channels, shares.lent());
+    Some(values![u64::from(refusal), &wide(&shares.back())[..]])
 }

@@ -4,7 +4,7 @@
 use super::line::line;
 use super::management;
 use crate::case::{values, Answer, Case, Kind, Value};
-use crate::plain::{self, Block, Receiver, Record, Refusal, Sender};
+use crate::plain::{self, Block, Fault, Receiver, Record, Refusal, Sender};
 
 pub fn by_plain(case: &Case) -> Answer {
     match case.kind {
@@ -24,6 +24,8 @@ pub fn by_plain(case: &Case) -> Answer {
         Kind::Aes3Export => aes3_export(case),
         Kind::UnitsExport => units_export(case),
         Kind::UnitRead => unit_read(case),
+        Kind::CircuitsCheck => circuits_check(case),
+        Kind::CircuitsPlan => circuits_plan(case),
     }
 }
 
@@ -172,5 +174,22 @@ fn unit_read(case: &Case) -> Answer {
             values![0, &runs[0][..], &runs[1][..], entries.len() as u64]
         }
         Err(refusal) => values![u64::from(refusal), &runs[0][..], &runs[1][..], 0],
+    }
+}
+
+fn circuits_check(case: &Case) -> Answer {
+    match plain::check_plan(case.number(0), case.number(1), case.number(2), case.run(3), case.run(4)) {
+        Ok(None) => values![0, 1, 0],
+        Ok(Some(Fault::Share(circuit))) => values![0, 2, circuit as u64],
+        Ok(Some(Fault::Allowance(circuit))) => values![0, 3, circuit as u64],
+        Ok(Some(Fault::Sum)) => values![0, 4, 0],
+        Err(refusal) => values![u64::from(refusal), 0, 0],
+    }
+}
+
+fn circuits_plan(case: &Case) -> Answer {
+    match plain::plan(case.number(0), case.number(1), case.run(2).len()) {
+        Ok(shares) => values![0, &shares[..]],
+        Err(refusal) => values![u64::from(refusal), case.run(2)],
     }
 }
