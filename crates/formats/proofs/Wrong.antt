@@ -11,9 +11,9 @@ use Rattle.formats.specs.Formats.{
   sampleBits,
   ancillaryBits,
   overheadBits,
-  eleven,
+  listedOctets,
   isAmong,
-  isBase,
+  isListed,
   widthOf,
   slotsOf,
   formatOf,
@@ -30,7 +30,7 @@ use Rattle.formats.proofs.usual.Reads as usual-reads
 
 -- every definition on the way down to the numbers
 unfoldable pub unfolded : Unit {0}
-unfolding lengthOf sampleBits ancillaryBits overheadBits eleven isAmong isBase widthOf slotsOf formatOf settingsRefusal settingsOf isUsual
+unfolding lengthOf sampleBits ancillaryBits overheadBits listedOctets isAmong isListed widthOf slotsOf formatOf settingsRefusal settingsOf isUsual
 unfolded = tt
 
 module _ (κs : Lfts 0) where

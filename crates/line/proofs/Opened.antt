@@ -19,7 +19,7 @@ unfolding flatMap zip zipWith ones onesIn coefficients divided takenDown orElse 
 runs = tt
 
 formats : Unit {0}
-unfolding F.lengthOf F.sampleBits F.ancillaryBits F.overheadBits F.eleven F.isAmong F.isBase F.widthOf F.slotsOf F.formatOf F.settingsRefusal
+unfolding F.lengthOf F.sampleBits F.ancillaryBits F.overheadBits F.listedOctets F.isAmong F.isListed F.widthOf F.slotsOf F.formatOf F.settingsRefusal
 formats = tt
 
 numbers : Unit {0}

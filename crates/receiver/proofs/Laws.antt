@@ -20,9 +20,9 @@ use Rattle.formats.specs.Formats.{
   sampleBits,
   ancillaryBits,
   overheadBits,
-  eleven,
+  listedOctets,
   isAmong,
-  isBase,
+  isListed,
   widthOf,
   slotsOf,
   formatOf,
@@ -31,8 +31,8 @@ use Rattle.formats.specs.Formats.{
 use Rattle.formats.specs.Settings.{settingsOf, settled}
 use Rattle.formats.specs.Sound.{Limits}
 use Rattle.formats.proofs.Laws.{
-  base-octet,
-  base-format,
+  listed-octet,
+  listed-format,
   settles-all,
   settled-of,
   settled-limits,
@@ -303,15 +303,15 @@ pub number-found : (st : Receiver) (cell : List ℕ) {number : ℕ} → Number n
 unfolding valueOf
 number-found st cell found = ap valueOf found
 
--- overhead comes with ancillary bits in each of the eleven
-base-together : (octet : ℕ) → isBase octet ≡ true → Together (formatOf octet)
-unfolding every isBase isAmong eleven sampleBits lengthOf ancillaryBits overheadBits widthOf slotsOf
+-- overhead comes with ancillary bits in each of the fourteen
+base-together : (octet : ℕ) → isListed octet ≡ true → Together (formatOf octet)
+unfolding every isListed isAmong listedOctets sampleBits lengthOf ancillaryBits overheadBits widthOf slotsOf
 base-together octet h some =
-    ap (λ (f : Format). f .«ancillary_bits») (base-format octet h)
+    ap (λ (f : Format). f .«ancillary_bits») (listed-format octet h)
     ∙ eqb→eq _ _
-    (third (isBase octet) (eqb (overheadBits octet) 0) (eqb (ancillaryBits octet) 4) h
-    (ne-eqb _ _ (λ e. some (ap (λ (f : Format). f .«overhead_bits») (base-format octet h) ∙ e)))
-    (every-at (λ k. not (isBase k) || (eqb (overheadBits k) 0 || eqb (ancillaryBits k) 4)) 256 tt octet (base-octet octet h)))
+    (third (isListed octet) (eqb (overheadBits octet) 0) (eqb (ancillaryBits octet) 4) h
+    (ne-eqb _ _ (λ e. some (ap (λ (f : Format). f .«overhead_bits») (listed-format octet h) ∙ e)))
+    (every-at (λ k. not (isListed k) || (eqb (overheadBits k) 0 || eqb (ancillaryBits k) 4)) 256 tt octet (listed-octet octet h)))
   where
     third : (a b c : Bool) → a ≡ true → b ≡ false → T (not a || (b || c)) → T c
     third true true c ha hb t = absurd (true≢false hb)
@@ -404,7 +404,7 @@ module _ (k : Call) where
             set-together =
                 subst (λ (x : Settled). Together (x .format)) (sym set-is)
                 (base-together (k .state .format)
-                (settles-all (k .state .format) (k .state .channels) (k .state .order) (fits .settings) .base))
+                (settles-all (k .state .format) (k .state .channels) (k .state .order) (fits .settings) .listed))
 
             pub cell-whole : length (k .cell) ≡ 48
             cell-whole = fits .whole
