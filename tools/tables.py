@@ -56,12 +56,12 @@ HEAD = '''// Two tables by the nine top bits of a sample: the protection bits, w
 // Two functions have the same table, because the compiler does so only where a function is called in one place of the program.
 // Where two loops call it, both make a call for every slot, which takes much longer. So each loop has its own.
 ghost use mathlib.Core.Path.{_≡_};
-ghost use Prim.Native.Nat.{_*_, _%_, _<_};
-ghost use Rattle.guards.specs.Guards.{tenGuard};
+ghost use Prim.Native.Nat.{_%_, _<_};
+ghost use Rattle.guards.specs.Guards.{withV, protectedBits, tenGuard};
 ghost use Rattle.tables.specs.Marks.{MarksOf};
 '''
 
-GUARD = '⌜ r ≡ tenGuard (nine % 512 * 2) ⌝'
+GUARD = '⌜ r ≡ tenGuard (protectedBits (nine % 512) (withV 0)) ⌝'
 MARKS = '⌜ MarksOf (nine % 512) r × (r < 4294967296) ⌝'
 
 # name, what it answers, the name of its key, comment

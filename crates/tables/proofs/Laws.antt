@@ -2,7 +2,7 @@
 -- Assumes nothing.
 use mathlib.Core.Bool.{Bool, cond}
 use mathlib.Core.List.{List, [], _∷_}
-use mathlib.Core.Path.{_≡_, sym, _∙_, ap}
+use mathlib.Core.Path.{_≡_, sym, _∙_, ap, ap₂}
 use Prim.Native.Nat.{ℕ, zero, suc, _+_, _*_, _/_, _%_, _^_, _<_}
 use native.Mathlib.Nat.{div-one, pow-suc, mod-lt}
 use native.Mathlib.Omega.{arith}
@@ -14,7 +14,7 @@ use lib.Pow.{shr-shr}
 use Rattle.runs.specs.Test.{every}
 use Rattle.runs.proofs.Arms.{NoneOf}
 use Rattle.runs.proofs.Laws.{every-at}
-use Rattle.guards.specs.Guards.{tenGuard}
+use Rattle.guards.specs.Guards.{withV, protectedBits, tenGuard}
 use Rattle.guards.proofs.Laws.{with-v, ten-guard-lt}
 use Rattle.tables.specs.Marks.{markBit, MarksOf}
 use Rattle.tables.proofs.Classes.{armAt, keysBack, nines, of-nine, of-nine-last}
@@ -23,19 +23,20 @@ use Rattle.tables.proofs.Classes.{armAt, keysBack, nines, of-nine, of-n
 unfoldable fits : ℕ → ℕ → Bool
 fits bits guard = every (λ low. eqb (bits / 2 ^ low % 2) (cond (eqb (low % 8) (bitXor guard (low / 16 * 3))) 0 1)) 32
 
-marks-by : (guard bits : ℕ) → T (fits bits guard) → {nine : ℕ} → nine < 512 → tenGuard (nine * 2) ≡ guard → MarksOf nine bits
+marks-by : (guard bits : ℕ) → T (fits bits guard) → {nine : ℕ} → nine < 512 → tenGuard (protectedBits nine (withV 0)) ≡ guard → MarksOf nine bits
 unfolding fits markBit
 marks-by guard bits t {nine} h e low less =
     eqb→eq _ _
     (every-at (λ k. eqb (bits / 2 ^ k % 2) (cond (eqb (k % 8) (bitXor guard (k / 16 * 3))) 0 1)) 32 t low less)
     ∙ ap (λ (x : ℕ). cond (eqb (low % 8) x) 0 1)
-    (ap (λ (x : ℕ). bitXor x (low / 16 * 3)) (sym e) ∙ with-v {nine = nine} h (omega arith))
+    (ap₂ (λ (x y : ℕ). bitXor x (y * 3)) (sym e) (let odd : low / 16 ≡ low / 16 % 2 = omega arith in odd)
+    ∙ with-v {nine = nine} (low / 16) h)
 
 -- for the protection bits 0 to 7
 abbrev pub words : List ℕ
 words = 0xF7F7FEFE ∷ 0xFBFBFDFD ∷ 0xFDFDFBFB ∷ 0xFEFEF7F7 ∷ 0x7F7FEFEF ∷ 0xBFBFDFDF ∷ 0xDFDFBFBF ∷ 0xEFEF7F7F ∷ []
 
-marks : (guard : ℕ) → guard < 8 → {nine : ℕ} → nine < 512 → tenGuard (nine * 2) ≡ guard
+marks : (guard : ℕ) → guard < 8 → {nine : ℕ} → nine < 512 → tenGuard (protectedBits nine (withV 0)) ≡ guard
     → MarksOf nine (getD words guard 0) × (getD words guard 0 < 4294967296)
 unfolding every fits
 marks guard few h e = (
@@ -47,7 +48,7 @@ marks guard few h e = (
 pub marks-in : (i nine : ℕ) → OneOf (armAt nines i .keys) (nine % 512)
     → MarksOf (nine % 512) (getD words (armAt nines i .guard) 0) × (getD words (armAt nines i .guard) 0 < 4294967296)
 marks-in i nine one =
-    marks (armAt nines i .guard) (rw (← of-nine i (nine % 512) one) (ten-guard-lt (nine % 512 * 2))) (mod-lt nine (omega arith)) (of-nine i (nine % 512) one)
+    marks (armAt nines i .guard) (rw (← of-nine i (nine % 512) one) (ten-guard-lt (protectedBits (nine % 512) (withV 0)))) (mod-lt nine (omega arith)) (of-nine i (nine % 512) one)
 
 pub marks-last : {X : Type 0} (nine : ℕ) → NoneOf X (keysBack nines []) (nine % 512)
     → MarksOf (nine % 512) (getD words 3 0) × (getD words 3 0 < 4294967296)

@@ -6,7 +6,7 @@ use native.Mathlib.Omega.{arith}
 use contract.Lifetimes.{Lfts}
 use Rattle.runs.specs.Division.{coefficients, divided, takenDown}
 use Rattle.runs.proofs.Wrong.{Never}
-use Rattle.guards.specs.Guards.{tenGuard}
+use Rattle.guards.specs.Guards.{protectedBits, tenGuard}
 use Rattle.tables.specs.Marks.{markBit, MarksOf}
 use Rattle.tables.proofs.protection_for_usual.Kinds as protection-kinds
 use Rattle.tables.proofs.protection_for_usual.Reads as protection-reads
@@ -16,7 +16,7 @@ use Rattle.tables.proofs.marks_for_usual.Kinds as usual-kinds
 use Rattle.tables.proofs.marks_for_usual.Reads as usual-reads
 
 unfoldable unfolded : Unit {0}
-unfolding coefficients divided takenDown tenGuard markBit
+unfolding coefficients divided takenDown protectedBits tenGuard markBit
 unfolded = tt
 
 module _ (κs : Lfts 0) where

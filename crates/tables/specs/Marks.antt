@@ -2,13 +2,13 @@
 -- Assumes nothing.
 use mathlib.Core.Bool.{cond}
 use mathlib.Core.Path.{_≡_}
-use Prim.Native.Nat.{ℕ, _+_, _*_, _/_, _%_, _^_, _<_}
+use Prim.Native.Nat.{ℕ, _/_, _%_, _^_, _<_}
 use lib.Dec.{eqb}
-use Rattle.guards.specs.Guards.{tenGuard}
+use Rattle.guards.specs.Guards.{withV, protectedBits, tenGuard}
 
 -- the mark of a subframe with these nine top sample bits and these five low bits: V, the sequencing bit, three protection bits
 unfoldable pub markBit : ℕ → ℕ → ℕ
-markBit nine low = cond (eqb (low % 8) (tenGuard (nine * 2 + low / 16))) 0 1
+markBit nine low = cond (eqb (low % 8) (tenGuard (protectedBits nine (withV (low / 16))))) 0 1
 
 -- a number whose bits are the marks of all five low bits
 abbrev pub MarksOf : ℕ → ℕ → Type 0
