@@ -1,6 +1,7 @@
 -- Laws of the protection bits: the two sentences of clause 4.1.4.2, the nine top bits of a sample of any length, and the fold to seven
 -- bits by one test over all tens.
 -- Assumes nothing.
+use mathlib.Core.List.{List, [], _∷_}
 use mathlib.Core.Path.{_≡_, refl, sym, _∙_, ap, ap₂}
 use Prim.Native.Nat.{ℕ, _+_, _*_, _/_, _%_, _-_, _^_, _≤_, _<_}
 use native.Mathlib.Nat.{mod-lt, mod-eq-of-lt, zero-div, div-lt-iff-lt-mul, mul-div-mul-right}
@@ -109,3 +110,13 @@ with-v {nine} v h =
     ap₂ (λ (n b : ℕ). bitXor (tenGuard n) (b * 3)) (sym half) (sym odd)
     ∙ eqb→eq _ _
     (every-at (λ k. eqb (bitXor (tenGuard (k / 2 * 2)) (k % 2 * 3)) (tenGuard k)) 1024 tt ten (omega arith))
+
+-- the bits of nine sample bits without V, by those with V = 0
+abbrev pub guardsWithoutV : List ℕ
+guardsWithoutV = 1 ∷ 4 ∷ 0 ∷ 5 ∷ 3 ∷ 6 ∷ 2 ∷ 7 ∷ []
+
+pub without-v : {nine : ℕ} → nine < 512
+    → getD guardsWithoutV (tenGuard (protectedBits nine (withV 0))) 0 ≡ tenGuard (protectedBits nine noV)
+unfolding protectedBits every tenGuard coefficients divided takenDown
+without-v {nine} h =
+    eqb→eq _ _ (every-at (λ k. eqb (getD guardsWithoutV (tenGuard (k * 2 + 0)) 0) (tenGuard k)) 512 tt nine h)
