@@ -92,6 +92,15 @@ nine-top bits {sample} long small =
     sym (mod-eq-of-lt (div-lt-iff-lt-mul (pow-pos (bits - 8)) .1 (omega (arith, above-eight bits long))))
     ∙ nine-shifted bits sample long
 
+-- where a sample has nine bits: they are what is left when the others are shifted out
+pub nine-down : (bits sample : ℕ) → 9 ≤ bits → sample / 2 ^ (bits - 9) % 512 ≡ nineOf bits sample
+nine-down bits sample long =
+    ap (λ (n : ℕ). n % 512)
+    (sym (mul-div-mul-right {m = 2} sample (2 ^ (bits - 9)) (omega arith))
+    ∙ ap (λ (d : ℕ). sample * 2 / d)
+    (sym (pow-add 2 (bits - 9) 1) ∙ ap (λ (k : ℕ). 2 ^ k) (let one : bits - 9 + 1 ≡ bits - 8 = omega arith in one)))
+    ∙ nine-shifted bits sample (omega arith)
+
 -- ten bits have the bits of the seven that they are folded to
 pub seven-guard : {ten : ℕ} → ten < 1024 → getD sevenGuards (bitXor ten (ten / 128) % 128) 0 ≡ tenGuard ten
 unfolding every sevenGuards tab tenGuard coefficients divided takenDown

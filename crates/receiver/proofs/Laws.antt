@@ -67,7 +67,7 @@ use Rattle.receiver.specs.Receiver.{
   entriesGiven,
   Receives,
 }
-use Rattle.receiver.specs.Unpacking.{usedIn, ownEntries, Fills, Room, Together, earlyRefusal, refusedBy, takenAs}
+use Rattle.receiver.specs.Unpacking.{usedIn, ownEntries, Fills, Room, earlyRefusal, refusedBy, takenAs}
 
 -- an opening, refused and taken
 module _ {set : Settled} (octet channels order : ℕ) (settles : set ≡ settingsOf octet channels order) where
@@ -303,21 +303,6 @@ pub number-found : (st : Receiver) (cell : List ℕ) {number : ℕ} → Number n
 unfolding valueOf
 number-found st cell found = ap valueOf found
 
--- overhead comes with ancillary bits in each of the fourteen
-base-together : (octet : ℕ) → isListed octet ≡ true → Together (formatOf octet)
-unfolding every isListed isAmong listedOctets sampleBits lengthOf ancillaryBits overheadBits widthOf slotsOf
-base-together octet h some =
-    ap (λ (f : Format). f .«ancillary_bits») (listed-format octet h)
-    ∙ eqb→eq _ _
-    (third (isListed octet) (eqb (overheadBits octet) 0) (eqb (ancillaryBits octet) 4) h
-    (ne-eqb _ _ (λ e. some (ap (λ (f : Format). f .«overhead_bits») (listed-format octet h) ∙ e)))
-    (every-at (λ k. not (isListed k) || (eqb (overheadBits k) 0 || eqb (ancillaryBits k) 4)) 256 tt octet (listed-octet octet h)))
-  where
-    third : (a b c : Bool) → a ≡ true → b ≡ false → T (not a || (b || c)) → T c
-    third true true c ha hb t = absurd (true≢false hb)
-    third true false c ha hb t = t
-    third false b c ha hb t = absurd (true≢false (sym ha))
-
 -- a call of `receive`
 pub record Call : Type 0 where
   pub state : Receiver
@@ -399,12 +384,6 @@ module _ (k : Call) where
 
             pub set-limits : Limits set
             set-limits = settled-limits (k .state .format) (k .state .channels) (k .state .order) set-is (fits .settings)
-
-            pub set-together : Together (set .format)
-            set-together =
-                subst (λ (x : Settled). Together (x .format)) (sym set-is)
-                (base-together (k .state .format)
-                (settles-all (k .state .format) (k .state .channels) (k .state .order) (fits .settings) .listed))
 
             pub cell-whole : length (k .cell) ≡ 48
             cell-whole = fits .whole
