@@ -44,6 +44,7 @@ enum {
  * The formats, by their subframe octet: sample bits, and S, the slots in a cell.
  *   02, 04, 06, 08 hex   8, 16, 24, 32 bits   S = 48, 24, 16, 12   neither ancillary nor overhead
  *   43, 45, 47 hex       12, 20, 28 bits      S = 24, 16, 12       ancillary
+ *   13, 15, 17 hex       12, 20, 28 bits      S = 24, 16, 12       overhead
  *   52, 54, 56, 5A hex   8, 16, 24, 40 bits   S = 24, 16, 12, 8    ancillary and overhead
  *
  * C channels (1 to S) share a cell. T = S / C, rounded down, is the number of sample times in it, and C * T the
@@ -65,7 +66,7 @@ enum {
 /* Refusal numbers. */
 enum {
     RIME_DONE = 0,
-    RIME_REFUSED_FORMAT = 1,      /* the octet is none of the eleven */
+    RIME_REFUSED_FORMAT = 1,      /* the octet is none of the fourteen */
     RIME_REFUSED_CHANNELS = 2,    /* C is 0 or above S */
     RIME_REFUSED_ORDER = 3,       /* order above 1 */
     RIME_REFUSED_STATE = 4,       /* a number in a state, or a start number, that cannot be */
@@ -124,7 +125,7 @@ enum { RIME_RECORD_IS_END = 0, RIME_RECORD_IS_CELL = 1 };
  * first cell and in those after it, and each later cell with indication 1 adds 1 modulo 16. Without, it sends 0.
  * Leaves in `state` a sender that has sent no cell. All numbers are judged as they stand, never cut: 342 (156 hex)
  * is not 56 hex.
- * Refused: 1, the octet is none of the eleven; 2, `channels` is 0 or above S; 3, `order` is above 1; 4, `number` or
+ * Refused: 1, the octet is none of the fourteen; 2, `channels` is 0 or above S; 3, `order` is above 1; 4, `number` or
  * `second` is above 15, or second numbers are wanted without overhead or with S = 8, or `second` isn't 0 and they
  * aren't wanted.
  */
@@ -147,7 +148,7 @@ uint8_t rime_send(uint8_t state[RIME_SENDER_STATE], bool indication, const uint6
 /*
  * Opens a receiver: leaves in `state` one that is not started, with last number 0. The first cell that it accepts
  * starts it, whatever its number. Numbers are judged as they stand, never cut.
- * Refused: 1, the octet is none of the eleven; 2, `channels` is 0 or above S; 3, `order` is above 1.
+ * Refused: 1, the octet is none of the fourteen; 2, `channels` is 0 or above S; 3, `order` is above 1.
  */
 uint8_t rime_receiver_open(uint32_t format, uint32_t channels, uint32_t order, uint8_t state[RIME_RECEIVER_STATE]);
 
