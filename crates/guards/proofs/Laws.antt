@@ -1,5 +1,5 @@
--- Laws of the protection bits: the two sentences of clause 4.1.4.2, the nine top bits of a sample of any length, and the fold to seven
--- bits by one test over all tens.
+-- Laws of the protection bits: the two sentences of clause 4.1.4.2, the nine top bits of a sample of any length, and the fold to
+-- seven bits by one test over all tens.
 -- Assumes nothing.
 use mathlib.Core.List.{List, [], _∷_}
 use mathlib.Core.Path.{_≡_, refl, sym, _∙_, ap, ap₂}
@@ -31,9 +31,9 @@ pub v-some : {bits : ℕ} (ancillary : ℕ) → (bits ≡ 0 → ⊥) → vOf bit
 unfolding vOf
 v-some ancillary any = rw (ne-eqb _ _ any)
 
--- "If the ancillary data field contains a V bit, the three data protection bits shall contain the 1's complement of the remainder of the
--- division (modulo 2) by the generator polynomial x3 + x + 1 of the sum of the product x4 multiplied by the most significant nine bits
--- of the audio sample and the product x3 multiplied by the V-bit."
+-- "If the ancillary data field contains a V bit, the three data protection bits shall contain the 1's complement of the remainder of
+-- the division (modulo 2) by the generator polynomial x3 + x + 1 of the sum of the product x4 multiplied by the most significant nine
+-- bits of the audio sample and the product x3 multiplied by the V-bit."
 pub first-sentence : (bits sample v : ℕ)
     → guardOf bits sample (withV v) ≡ 7 - remainder 3 0b1011 13 (nineOf bits sample * 2 ^ 4 + v % 2 * 2 ^ 3)
 unfolding guardOf protectedBits tenGuard

@@ -1,5 +1,5 @@
--- Protection of a sample, document 01 and clause 4.1.4.2 of source document 001, of a subframe that may have no V at all (request 4).
--- That both sentences of the clause are met is proved (guards/proofs/Laws).
+-- Protection of a sample, document 01 and clause 4.1.4.2 of source document 001. A subframe may have no V at all (request 4). That
+-- both sentences of the clause are met is proved (guards/proofs/Laws).
 -- Assumes nothing.
 use mathlib.Core.Bool.{cond}
 use Prim.Native.Nat.{ℕ, _+_, _*_, _/_, _%_, _-_, _^_}
@@ -24,9 +24,9 @@ unfoldable pub protectedBits : ℕ → VOrNone → ℕ
 protectedBits nine noV = nine
 protectedBits nine (withV v) = nine * 2 + v % 2
 
--- "The complement of the remainder by x^3 + x + 1" of x^3 times what is protected, which has ten bits at most. With V that is "x^4 times
--- the nine top sample bits (the top one as x^8) plus x^3 times V"; without it "the product x3 multiplied by the most significant nine
--- bits of the audio sample"
+-- "The complement of the remainder by x^3 + x + 1" of x^3 times what is protected, which has ten bits at most. With V that is "x^4
+-- times the nine top sample bits (the top one as x^8) plus x^3 times V"; without it "the product x3 multiplied by the most
+-- significant nine bits of the audio sample"
 unfoldable pub tenGuard : ℕ → ℕ
 tenGuard ten = 7 - remainder 3 0b1011 13 (ten * 8)
 

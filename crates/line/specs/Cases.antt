@@ -1,4 +1,5 @@
--- The cases of document 01 marked P, two of request 4, and one whole cell beside them: what the definitions give, and what is printed, row by row.
+-- The cases of document 01 marked P, two of request 4, and one whole cell beside them: what the definitions give, and what is
+-- printed, row by row.
 -- Assumes nothing.
 use mathlib.Core.Bool.{false, true}
 use mathlib.Core.List.{List, [], _∷_, map}

@@ -1,47 +1,23 @@
 -- Laws of the receiver's answers: what each check gives in its turn, what is known where none refuses, and what a call leaves.
 -- Assumes nothing.
-use mathlib.Core.Bool.{Bool, true, false, true≢false, cond, not, _||_}
+use mathlib.Core.Bool.{Bool, true, false, cond, not, _||_}
 use mathlib.Core.List.{List, _++_}
-use mathlib.Core.Path.{_≡_, sym, _∙_, ap, ap₂, subst}
+use mathlib.Core.Path.{_≡_, sym, _∙_, ap, ap₂}
 use Prim.Native.Nat.{ℕ, suc, _+_, _*_, _-_, _%_, _≤_, _<_}
 use native.Mathlib.Nat.{suc-ne-zero, pos-of-ne-zero, suc-mul, mod-lt, le-of-suc-le-suc}
 use native.Mathlib.Omega.{arith}
 use borrow.Author.Tests.{lt-ltb, le-ltb, eq-eqb, ne-eqb, ltb-false, eqb-true, eqb-false, not-false}
-use lib.Dec.{T, eqb, ltb, eqb→eq}
+use lib.Dec.{eqb, ltb}
 use lib.ListN.{length, replicate}
 use Rattle.runs.specs.Refusals.{orElse}
 use Rattle.runs.specs.Runs.{over}
-use Rattle.runs.specs.Test.{every}
-use Rattle.runs.proofs.Laws.{every-at, first-refuses, then-later, past, past-both, neither, split}
+use Rattle.runs.proofs.Laws.{first-refuses, then-later, past, past-both, neither, split}
 use Rattle.formats.specs.declared.Format.{Format}
 use Rattle.formats.specs.declared.Settled.{Settled}
-use Rattle.formats.specs.Formats.{
-  lengthOf,
-  sampleBits,
-  ancillaryBits,
-  overheadBits,
-  listedOctets,
-  isAmong,
-  isListed,
-  widthOf,
-  slotsOf,
-  formatOf,
-  settingsRefusal,
-}
+use Rattle.formats.specs.Formats.{formatOf, settingsRefusal}
 use Rattle.formats.specs.Settings.{settingsOf, settled}
 use Rattle.formats.specs.Sound.{Limits}
-use Rattle.formats.proofs.Laws.{
-  listed-octet,
-  listed-format,
-  settles-all,
-  settled-of,
-  settled-limits,
-  given-refusal,
-  given-refuses,
-  given-none,
-  given-settled,
-  given-later,
-}
+use Rattle.formats.proofs.Laws.{settled-of, settled-limits, given-refusal, given-refuses, given-none, given-settled, given-later}
 use Rattle.numbers.specs.declared.Found.{Found}
 use Rattle.numbers.specs.declared.Found.the-variants.{Number, Nothing}
 use Rattle.numbers.specs.Numbers.{foundOf, refusalOf, valueOf, differenceOf, indicationRefused}

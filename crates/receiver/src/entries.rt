@@ -85,8 +85,8 @@ fn blank_end(format: Format, missing: usize, used: usize) -> usize
     missing
 }
 
-// The same, and zeros in the ancillary run for the cell's own entries too where the format has no ancillary bits: one long fill takes
-// fewer instructions than two.
+// Writes `missing` entries of zero with mark 2 to the three runs. Where the format has no ancillary bits, the ancillary run's zeros
+// go on for the cell's own entries: one long fill takes fewer instructions than two.
 fn cleared(
     format: Format,
     missing: usize,
@@ -132,8 +132,8 @@ fn subframes_by_channel(set: Settled, cell: &[u8], at: usize, run: &mut [u64])
     }
 }
 
-// The same in order 0 where a subframe has three octets. A slot is read with the octet behind it, by one load; the last one, which
-// may have none behind it, alone.
+// The same in order 0 where a subframe has three octets. A slot is read with the octet behind it, by one load; the last one alone,
+// since it may have none behind it.
 fn threes_by_time(set: Settled, cell: &[u8], at: usize, run: &mut [u64])
     requires { ⌜ Limits set × (length (now cell) ≡ 48) × (at + usedIn set ≤ length (now run)) × (set .«by_channel» ≡ false) × (set .format .width ≡ 3) ⌝ }
     ensures { λ r. ⌜ now (run .exit) ≡ written (now (run .entry)) at (ownEntries (λ x. x) set (now (cell .entry))) ⌝ }
@@ -269,7 +269,8 @@ fn parts(
     split_bare(at, used, samples, ancillary);
 }
 
-// Writes the cell's own entries to the three runs from `at` on; the ancillary run is zero there where the format has no ancillary bits.
+// Writes the cell's own entries to the three runs from `at` on. Where the format has no ancillary bits, the ancillary run is zero
+// there already.
 fn own_entries(
     set: Settled,
     cell: &[u8],

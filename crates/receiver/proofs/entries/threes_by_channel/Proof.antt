@@ -1,4 +1,4 @@
--- `receiver::entries::threes_by_channel` meets its contract: the slot goes along with the entry, and the last entry is in the last slot.
+-- `receiver::entries::threes_by_channel` meets its contract: the slot goes along with the entry.
 -- Assumes nothing.
 use mathlib.Core.Bool.{Bool, true}
 use mathlib.Core.Path.{_≡_, sym, _∙_, ap, subst}
