@@ -1,6 +1,7 @@
 /*
  * Packing and unpacking as a good embedded engineer writes them: one generic loop over the slots for every format, a
- * protection table of 512 octets, all of the refusals. The proved functions are measured against these.
+ * protection table of 512 octets with V and one without, all of the refusals. The proved functions are measured against
+ * these.
  */
 #include "plain.h"
 
@@ -11,7 +12,7 @@
 /* gcc would clone a function for the constants that its caller passes, and look faster than it is in use. */
 #define MEASURED __attribute__((noipa))
 
-/* What a subframe octet says; no slots where it is none of the eleven. */
+/* What a subframe octet says; no slots where it is none of the fourteen. */
 struct format {
     uint8_t sample_bits, slots;
     bool ancillary, overhead;
@@ -30,16 +31,20 @@ static const uint8_t number_words[16] = {
 
 static const uint8_t turned[16] = {0, 8, 4, 12, 2, 10, 6, 14, 1, 9, 5, 13, 3, 11, 7, 15};
 
-/* x^(4+k) modulo x^3 + x + 1 for the nine bits k of a sample's top, and x^3 for V. */
+/*
+ * x^(3+k) modulo x^3 + x + 1 for the ten bits k of the nine at a sample's top and V. The second table is for V = 0; where
+ * there is no V at all the nine stand one place lower, as in the first.
+ */
 #define BIT(n, k, remainder) ((n) >> (k) & 1 ? (remainder) : 0)
-#define P1(n)                                                                                                 \
-    (7 ^ BIT(n, 0, 6) ^ BIT(n, 1, 7) ^ BIT(n, 2, 5) ^ BIT(n, 3, 1) ^ BIT(n, 4, 2) ^ BIT(n, 5, 4) ^ BIT(n, 6, 3) ^ \
-     BIT(n, 7, 6) ^ BIT(n, 8, 7))
-#define P8(n) P1(n), P1(n + 1), P1(n + 2), P1(n + 3), P1(n + 4), P1(n + 5), P1(n + 6), P1(n + 7)
-#define P64(n) P8(n), P8(n + 8), P8(n + 16), P8(n + 24), P8(n + 32), P8(n + 40), P8(n + 48), P8(n + 56)
-static const uint8_t protections[512] = {
-    P64(0), P64(64), P64(128), P64(192), P64(256), P64(320), P64(384), P64(448),
-};
+#define P1(n)                                                                                                     \
+    (7 ^ BIT(n, 0, 3) ^ BIT(n, 1, 6) ^ BIT(n, 2, 7) ^ BIT(n, 3, 5) ^ BIT(n, 4, 1) ^ BIT(n, 5, 2) ^ BIT(n, 6, 4) ^ \
+     BIT(n, 7, 3) ^ BIT(n, 8, 6) ^ BIT(n, 9, 7))
+#define P4(n, step) P1(n), P1((n) + (step)), P1((n) + 2 * (step)), P1((n) + 3 * (step))
+#define P16(n, step) P4(n, step), P4((n) + 4 * (step), step), P4((n) + 8 * (step), step), P4((n) + 12 * (step), step)
+#define P64(n, step) P16(n, step), P16((n) + 16 * (step), step), P16((n) + 32 * (step), step), P16((n) + 48 * (step), step)
+#define P256(n, step) P64(n, step), P64((n) + 64 * (step), step), P64((n) + 128 * (step), step), P64((n) + 192 * (step), step)
+#define P512(step) P256(0, step), P256(256 * (step), step)
+static const uint8_t protections[2][512] = {{P512(1)}, {P512(2)}};
 #define REMAINDER_OF_V 3
 
 static struct format format_of(uint8_t octet) {
@@ -51,6 +56,9 @@ static struct format format_of(uint8_t octet) {
     case 0x43: return (struct format){12, 24, true, false};
     case 0x45: return (struct format){20, 16, true, false};
     case 0x47: return (struct format){28, 12, true, false};
+    case 0x13: return (struct format){12, 24, false, true};
+    case 0x15: return (struct format){20, 16, false, true};
+    case 0x17: return (struct format){28, 12, false, true};
     case 0x52: return (struct format){8, 24, true, true};
     case 0x54: return (struct format){16, 16, true, true};
     case 0x56: return (struct format){24, 12, true, true};
@@ -92,9 +100,9 @@ static inline void advance(struct cursor *cursor, const struct layout *layout) {
     }
 }
 
-static inline uint8_t protection(uint64_t sample, unsigned sample_bits, uint8_t ancillary) {
-    uint64_t nine = sample_bits == 8 ? sample << 1 : sample >> (sample_bits - 9);
-    return protections[nine] ^ (ancillary & 1 ? REMAINDER_OF_V : 0);
+static inline uint8_t protection(struct format format, uint64_t sample, uint8_t ancillary) {
+    uint64_t nine = format.sample_bits == 8 ? sample << 1 : sample >> (format.sample_bits - 9);
+    return protections[format.ancillary][nine] ^ (ancillary & 1 ? REMAINDER_OF_V : 0);
 }
 
 static uint8_t check_sender(const uint8_t *state, struct layout *layout) {
@@ -128,7 +136,7 @@ static void pack(const struct layout *layout, uint32_t sequencing, const uint64_
         uint8_t four = used ? ancillary[cursor.entry] : 0;
         uint64_t word = format.ancillary ? sample << 4 | four : sample;
         if (format.overhead) {
-            word = word << 4 | (sequencing >> 31) << 3 | protection(sample, format.sample_bits, four);
+            word = word << 4 | (sequencing >> 31) << 3 | protection(format, sample, four);
             sequencing <<= 1;
         }
         for (size_t octet = layout->octets; octet-- > 0;) *cell++ = (uint8_t)(word >> 8 * octet);
@@ -186,7 +194,7 @@ static void unpack(const struct layout *layout, const uint8_t *cell, uint64_t *s
         uint64_t sample = format.ancillary ? word >> 4 : word;
         samples[cursor.entry] = sample;
         ancillary[cursor.entry] = four;
-        marks[cursor.entry] = format.overhead && received != protection(sample, format.sample_bits, four);
+        marks[cursor.entry] = format.overhead && received != protection(format, sample, four);
         advance(&cursor, layout);
     }
 }

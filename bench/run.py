@@ -25,6 +25,7 @@ CELLS = 16  # calls in a batch, as in bench.c
 # 0.04.
 USUAL = {'pack': 411, 'unpack': 358}
 PART_OF_PLAIN = {'0': 0.64, '1': 0.69}
+PART_OF_PLAIN_WITHOUT_V = {'0': 0.60, '1': 0.65}  # 13, 15 and 17 hex: overhead and no ancillary field, request 4
 PART_OF_PLAIN_FRAMES = 1.2  # rows of an AES3 cable: a frame in and a frame out
 PART_OF_PLAIN_UNITS = 0.55  # rows of data units: export and read
 
@@ -46,6 +47,8 @@ class Row:
             self.asked = PART_OF_PLAIN_FRAMES * plain
         elif self.way in ('export', 'read'):
             self.asked = PART_OF_PLAIN_UNITS * plain
+        elif self.octet in ('13', '15', '17'):
+            self.asked = PART_OF_PLAIN_WITHOUT_V[self.order] * plain
         elif self.octet == '56' and self.channels in ('1', '2') and self.order == '0' and not self.gap:
             self.asked = USUAL[self.way]
 

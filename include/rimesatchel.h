@@ -45,6 +45,7 @@ enum {
  * The formats, by their subframe octet: sample bits, and S, the slots in a cell.
  *   02, 04, 06, 08 hex   8, 16, 24, 32 bits   S = 48, 24, 16, 12   neither ancillary nor overhead
  *   43, 45, 47 hex       12, 20, 28 bits      S = 24, 16, 12       ancillary
+ *   13, 15, 17 hex       12, 20, 28 bits      S = 24, 16, 12       overhead
  *   52, 54, 56, 5A hex   8, 16, 24, 40 bits   S = 24, 16, 12, 8    ancillary and overhead
  *
  * C channels (1 to S) share a cell. T = S / C, rounded down, is the number of sample times in it, and C * T the
@@ -66,7 +67,7 @@ enum {
 /* Refusal numbers. */
 enum {
     RIME_DONE = 0,
-    RIME_REFUSED_FORMAT = 1,      /* the octet is none of the eleven */
+    RIME_REFUSED_FORMAT = 1,      /* the octet is none of the fourteen */
     RIME_REFUSED_CHANNELS = 2,    /* C is 0 or above S */
     RIME_REFUSED_ORDER = 3,       /* order above 1 */
     RIME_REFUSED_STATE = 4,       /* a number in a state, or a start number, that cannot be */
@@ -134,7 +135,7 @@ enum { RIME_UNITS_OCTETS = 0, RIME_UNITS_FULL = 1, RIME_UNITS_COUNT = 2 };
  * first cell and in those after it, and each later cell with indication 1 adds 1 modulo 16. Without, it sends 0.
  * Leaves in `state` a sender that has sent no cell. All numbers are judged as they stand, never cut: 342 (156 hex)
  * is not 56 hex.
- * Refused: 1, the octet is none of the eleven; 2, `channels` is 0 or above S; 3, `order` is above 1; 4, `number` or
+ * Refused: 1, the octet is none of the fourteen; 2, `channels` is 0 or above S; 3, `order` is above 1; 4, `number` or
  * `second` is above 15, or second numbers are wanted without overhead or with S = 8, or `second` isn't 0 and they
  * aren't wanted.
  */
@@ -157,7 +158,7 @@ uint8_t rime_send(uint8_t state[RIME_SENDER_STATE], bool indication, const uint6
 /*
  * Opens a receiver: leaves in `state` one that is not started, with last number 0. The first cell that it accepts
  * starts it, whatever its number. Numbers are judged as they stand, never cut.
- * Refused: 1, the octet is none of the eleven; 2, `channels` is 0 or above S; 3, `order` is above 1.
+ * Refused: 1, the octet is none of the fourteen; 2, `channels` is 0 or above S; 3, `order` is above 1.
  */
 uint8_t rime_receiver_open(uint32_t format, uint32_t channels, uint32_t order, uint8_t state[RIME_RECEIVER_STATE]);
 
@@ -255,7 +256,7 @@ uint8_t rime_aes3_export(const uint64_t samples[2], const uint8_t ancillary[2], 
  * MARKS DON'T TRAVEL. An entry of a missing cell, mark 2, leaves as the zeros that it is: at the other end a gap is
  * silence that looks like sound. Nor does a mark 1 leave. Who needs them must carry them beside the units.
  *
- * Refused, with `out` untouched and `units` zeros: 1, the octet is none of the eleven; 2, `channels` is 0 or above S; 5,
+ * Refused, with `out` untouched and `units` zeros: 1, the octet is none of the fourteen; 2, `channels` is 0 or above S; 5,
  * the runs aren't equally long, or their length isn't a multiple of `channels`; 6, a sample too large for its bits, an
  * ancillary number above 15, or not 0 where the format has none; 26, the format has overhead; 27, `size` is below one
  * frame; 28, `out` is shorter than all units together.
@@ -269,7 +270,7 @@ uint8_t rime_units_export(uint32_t format, uint32_t channels, size_t size, const
  * two runs; entries past them stay. Leaves in `entries` how many there were: the frames of the unit times `channels`. The
  * units of an export, read one after the other, give back all that was exported. Nothing in a unit says its format or
  * number of channels: both ends must be told the same.
- * Refused, with the runs untouched and `*entries` 0: 1, the octet is none of the eleven; 2, `channels` is 0 or above S; 5,
+ * Refused, with the runs untouched and `*entries` 0: 1, the octet is none of the fourteen; 2, `channels` is 0 or above S; 5,
  * the runs aren't equally long, the unit is empty, or it isn't whole frames; 26, the format has overhead; 28, the runs are
  * shorter than the unit's entries.
  */
@@ -288,7 +289,7 @@ enum { RIME_PLAN_YES = 1, RIME_PLAN_SHARE = 2, RIME_PLAN_ALLOWANCE = 3, RIME_PLA
  * circuit's cells per second are within its allowance. A no names the first fault, circuit by circuit the share, then
  * the allowance: RIME_PLAN_SHARE or RIME_PLAN_ALLOWANCE and the circuit, counted from 0; last RIME_PLAN_SUM and 0. No
  * circuits and no channels is a yes.
- * Refused, with `answer` zeros: 1, the octet is none of the eleven; 5, the two runs aren't equally long; 22, more than
+ * Refused, with `answer` zeros: 1, the octet is none of the fourteen; 5, the two runs aren't equally long; 22, more than
  * 64 circuits or 1,024 channels; 23, `frequency` is 0 or above 1,000,000.
  */
 uint8_t rime_circuits_check(uint32_t format, uint32_t channels, uint32_t frequency, const uint32_t *shares,
@@ -298,7 +299,7 @@ uint8_t rime_circuits_check(uint32_t format, uint32_t channels, uint32_t frequen
  * A plain planner: fills circuits in the given order as far as S allows, allowances left aside. Writes all of `shares`,
  * a number for each circuit: S for those that are full, the rest for one, and 0 for those left over, which the checker
  * calls a fault: hand it the circuits that were filled.
- * Refused, with `shares` untouched: 1, the octet is none of the eleven; 22, more than 64 circuits or 1,024 channels; 30,
+ * Refused, with `shares` untouched: 1, the octet is none of the fourteen; 22, more than 64 circuits or 1,024 channels; 30,
  * S times the circuits is below `channels`: nobody's plan could carry them.
  */
 uint8_t rime_circuits_plan(uint32_t format, uint32_t channels, uint32_t *shares, size_t shares_len);

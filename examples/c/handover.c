@@ -13,7 +13,7 @@ enum { CELLS = 4, LOST = 1, SPOILED = 3 };
 /* What each refusal number means. */
 static const char *const reasons[] = {
     "done",
-    "the format is none of the eleven",
+    "the format is none of the fourteen",
     "there are no channels, or more than slots",
     "the order is above 1",
     "a state or start number cannot be",

@@ -16,7 +16,7 @@ MARKS = ["sound", "doubtful", "missing"]
 ANSWERS = ["neither", "doesn't fit", "fits", "none carried"]  # of a channel status block
 REASONS = [
     "done",
-    "the format is none of the eleven",
+    "the format is none of the fourteen",
     "there are no channels, or more than slots",
     "the order is above 1",
     "a state or start number cannot be",

@@ -9,7 +9,7 @@ use std::fmt;
 /// What each refusal number means.
 const REASONS: [&str; 16] = [
     "done",
-    "the format is none of the eleven",
+    "the format is none of the fourteen",
     "there are no channels, or more than slots",
     "the order is above 1",
     "a state or start number cannot be",

@@ -9,7 +9,7 @@ use borrow.Author.Tests.{eqb-true, eqb-false, ne-eqb, le-ltb}
 use lib.Dec.{eqb}
 use lib.ListN.{length}
 use Rattle.runs.proofs.Laws.{split}
-use Rattle.formats.specs.Formats.{isBase}
+use Rattle.formats.specs.Formats.{isListed}
 use Rattle.circuits.specs.declared.Verdict.{Verdict}
 use Rattle.circuits.specs.declared.Verdict.the-variants.{Refused, Yes, Share, Allowance, Sum}
 use Rattle.circuits.specs.Circuits.{refusalOf, octetRefusal, checkRefusal, checkedOf, planRefusalOf, Plans}
@@ -17,8 +17,8 @@ use Rattle.circuits.proofs.Checked.{never-refused}
 use Rattle.circuits.proofs.Laws.{one-channel, no-format, check-refused}
 
 -- "1 as in 01": of one channel in order 0 only the octet can be refused
-pub octet-refused : (octet : ℕ) → octetRefusal octet ≡ cond (isBase octet) 0 1
-octet-refused octet = split (isBase octet) (λ h. one-channel octet h ∙ rw h) (λ h. no-format octet h ∙ rw h)
+pub octet-refused : (octet : ℕ) → octetRefusal octet ≡ cond (isListed octet) 0 1
+octet-refused octet = split (isListed octet) (λ h. one-channel octet h ∙ rw h) (λ h. no-format octet h ∙ rw h)
 
 said-none : (v : Verdict) → ((n : ℕ) → v ≡ Refused n → ⊥) → refusalOf v ≡ 0
 said-none (Refused n) never = absurd (never n refl)

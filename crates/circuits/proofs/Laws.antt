@@ -17,7 +17,7 @@ use Rattle.runs.proofs.Laws.{split, past, past-both, neither, both-true, first-
 use Rattle.runs.proofs.Filling.{Filled, begun, turned-front, done-to-end}
 use Rattle.formats.specs.declared.Settled.{Settled}
 use Rattle.formats.specs.Formats as F
-use Rattle.formats.specs.Formats.{isBase, settingsRefusal}
+use Rattle.formats.specs.Formats.{isListed, settingsRefusal}
 use Rattle.formats.specs.Settings.{settingsOf}
 use Rattle.formats.proofs.Laws.{refusal-of, settled-of, settles-all, sound-fields, sound-format, no-slots}
 use Rattle.circuits.specs.declared.Verdict.{Verdict}
@@ -198,11 +198,11 @@ module _ (octet slots channels circuits : ℕ) where
 -- ---- S, and what passes the checks
 
 -- of one channel in order 0 only the octet can be refused
-pub one-channel : (octet : ℕ) → isBase octet ≡ true → settingsRefusal octet 1 0 ≡ 0
+pub one-channel : (octet : ℕ) → isListed octet ≡ true → settingsRefusal octet 1 0 ≡ 0
 unfolding settingsRefusal
 one-channel octet h = rw (h, le-ltb (F.slotsOf octet) 1 (omega (arith, sound-fields octet h .slots-from)))
 
-pub no-format : (octet : ℕ) → isBase octet ≡ false → settingsRefusal octet 1 0 ≡ 1
+pub no-format : (octet : ℕ) → isListed octet ≡ false → settingsRefusal octet 1 0 ≡ 1
 unfolding settingsRefusal
 no-format octet h = rw h
 
@@ -210,15 +210,15 @@ no-format octet h = rw h
 settled-slots : (octet : ℕ) → settingsOf octet 1 0 .format .slots ≡ slotsOf octet
 unfolding settingsOf
 settled-slots octet =
-    split (isBase octet)
+    split (isListed octet)
     (λ h. ap (λ (s : Settled). s .format .slots) (settled-of octet 1 0 (one-channel octet h)))
     (λ h. rw (no-format octet h) (no-slots octet h))
 
 pub slots-most : (octet : ℕ) → slotsOf octet ≤ 48
-slots-most octet = split (isBase octet) (λ h. sound-format octet h .slots-to) (λ h. omega (arith, no-slots octet h))
+slots-most octet = split (isListed octet) (λ h. sound-format octet h .slots-to) (λ h. omega (arith, no-slots octet h))
 
 pub slots-least : (octet : ℕ) → octetRefusal octet ≡ 0 → 8 ≤ slotsOf octet
-slots-least octet taken = sound-format octet (settles-all octet 1 0 taken .base) .slots-from
+slots-least octet taken = sound-format octet (settles-all octet 1 0 taken .listed) .slots-from
 
 module _ {set : Settled} (octet : ℕ) (given : set ≡ settingsOf octet 1 0) where
   refusal-given : set .refusal ≡ octetRefusal octet

@@ -33,7 +33,7 @@ in-order : (octet channels order : ℕ) → settingsRefusal octet channels order
 unfolding settingsRefusal
 in-order octet channels order none =
     let settles = settles-all octet channels order none in
-    rw (settles .base, ne-eqb channels 0 (λ z. omega (arith, z, settles .channels-from)), le-ltb _ channels (settles .channels-to))
+    rw (settles .listed, ne-eqb channels 0 (λ z. omega (arith, z, settles .channels-from)), le-ltb _ channels (settles .channels-to))
 
 -- without overhead no cell is missing
 gap-one : (st : Receiver) (cell : List ℕ) → formatOf (st .format) .«overhead_bits» ≡ 0 → R.gapOf st cell ≡ 1

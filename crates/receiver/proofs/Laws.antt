@@ -1,47 +1,23 @@
 -- Laws of the receiver's answers: what each check gives in its turn, what is known where none refuses, and what a call leaves.
 -- Assumes nothing.
-use mathlib.Core.Bool.{Bool, true, false, true≢false, cond, not, _||_}
+use mathlib.Core.Bool.{Bool, true, false, cond, not, _||_}
 use mathlib.Core.List.{List, _++_}
-use mathlib.Core.Path.{_≡_, sym, _∙_, ap, ap₂, subst}
+use mathlib.Core.Path.{_≡_, sym, _∙_, ap, ap₂}
 use Prim.Native.Nat.{ℕ, suc, _+_, _*_, _-_, _%_, _≤_, _<_}
 use native.Mathlib.Nat.{suc-ne-zero, pos-of-ne-zero, suc-mul, mod-lt, le-of-suc-le-suc}
 use native.Mathlib.Omega.{arith}
 use borrow.Author.Tests.{lt-ltb, le-ltb, eq-eqb, ne-eqb, ltb-false, eqb-true, eqb-false, not-false}
-use lib.Dec.{T, eqb, ltb, eqb→eq}
+use lib.Dec.{eqb, ltb}
 use lib.ListN.{length, replicate}
 use Rattle.runs.specs.Refusals.{orElse}
 use Rattle.runs.specs.Runs.{over}
-use Rattle.runs.specs.Test.{every}
-use Rattle.runs.proofs.Laws.{every-at, first-refuses, then-later, past, past-both, neither, split}
+use Rattle.runs.proofs.Laws.{first-refuses, then-later, past, past-both, neither, split}
 use Rattle.formats.specs.declared.Format.{Format}
 use Rattle.formats.specs.declared.Settled.{Settled}
-use Rattle.formats.specs.Formats.{
-  lengthOf,
-  sampleBits,
-  ancillaryBits,
-  overheadBits,
-  eleven,
-  isAmong,
-  isBase,
-  widthOf,
-  slotsOf,
-  formatOf,
-  settingsRefusal,
-}
+use Rattle.formats.specs.Formats.{formatOf, settingsRefusal}
 use Rattle.formats.specs.Settings.{settingsOf, settled}
 use Rattle.formats.specs.Sound.{Limits}
-use Rattle.formats.proofs.Laws.{
-  base-octet,
-  base-format,
-  settles-all,
-  settled-of,
-  settled-limits,
-  given-refusal,
-  given-refuses,
-  given-none,
-  given-settled,
-  given-later,
-}
+use Rattle.formats.proofs.Laws.{settled-of, settled-limits, given-refusal, given-refuses, given-none, given-settled, given-later}
 use Rattle.numbers.specs.declared.Found.{Found}
 use Rattle.numbers.specs.declared.Found.the-variants.{Number, Nothing}
 use Rattle.numbers.specs.Numbers.{foundOf, refusalOf, valueOf, differenceOf, indicationRefused}
@@ -67,7 +43,7 @@ use Rattle.receiver.specs.Receiver.{
   entriesGiven,
   Receives,
 }
-use Rattle.receiver.specs.Unpacking.{usedIn, ownEntries, Fills, Room, Together, earlyRefusal, refusedBy, takenAs}
+use Rattle.receiver.specs.Unpacking.{usedIn, ownEntries, Fills, Room, earlyRefusal, refusedBy, takenAs}
 
 -- an opening, refused and taken
 module _ {set : Settled} (octet channels order : ℕ) (settles : set ≡ settingsOf octet channels order) where
@@ -303,21 +279,6 @@ pub number-found : (st : Receiver) (cell : List ℕ) {number : ℕ} → Number n
 unfolding valueOf
 number-found st cell found = ap valueOf found
 
--- overhead comes with ancillary bits in each of the eleven
-base-together : (octet : ℕ) → isBase octet ≡ true → Together (formatOf octet)
-unfolding every isBase isAmong eleven sampleBits lengthOf ancillaryBits overheadBits widthOf slotsOf
-base-together octet h some =
-    ap (λ (f : Format). f .«ancillary_bits») (base-format octet h)
-    ∙ eqb→eq _ _
-    (third (isBase octet) (eqb (overheadBits octet) 0) (eqb (ancillaryBits octet) 4) h
-    (ne-eqb _ _ (λ e. some (ap (λ (f : Format). f .«overhead_bits») (base-format octet h) ∙ e)))
-    (every-at (λ k. not (isBase k) || (eqb (overheadBits k) 0 || eqb (ancillaryBits k) 4)) 256 tt octet (base-octet octet h)))
-  where
-    third : (a b c : Bool) → a ≡ true → b ≡ false → T (not a || (b || c)) → T c
-    third true true c ha hb t = absurd (true≢false hb)
-    third true false c ha hb t = t
-    third false b c ha hb t = absurd (true≢false (sym ha))
-
 -- a call of `receive`
 pub record Call : Type 0 where
   pub state : Receiver
@@ -399,12 +360,6 @@ module _ (k : Call) where
 
             pub set-limits : Limits set
             set-limits = settled-limits (k .state .format) (k .state .channels) (k .state .order) set-is (fits .settings)
-
-            pub set-together : Together (set .format)
-            set-together =
-                subst (λ (x : Settled). Together (x .format)) (sym set-is)
-                (base-together (k .state .format)
-                (settles-all (k .state .format) (k .state .channels) (k .state .order) (fits .settings) .base))
 
             pub cell-whole : length (k .cell) ≡ 48
             cell-whole = fits .whole

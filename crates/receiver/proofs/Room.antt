@@ -11,7 +11,7 @@ use lib.Dec.{eqb, ltb}
 use lib.ListN.{length}
 use Rattle.runs.specs.Refusals.{orElse}
 use Rattle.runs.proofs.Laws.{split}
-use Rattle.formats.specs.Formats.{formatOf, isBase, slotsOf, settingsRefusal}
+use Rattle.formats.specs.Formats.{formatOf, isListed, slotsOf, settingsRefusal}
 use Rattle.formats.proofs.Laws.{sound-format}
 use Rattle.numbers.specs.declared.Found.{Found}
 use Rattle.numbers.specs.declared.Found.the-variants.{Number, Nothing}
@@ -33,7 +33,7 @@ at-most false here there = there
 settings-to : (octet channels order : ℕ) → settingsRefusal octet channels order ≤ 3
 unfolding settingsRefusal
 settings-to octet channels order =
-    at-most (not (isBase octet)) (omega arith)
+    at-most (not (isListed octet)) (omega arith)
     (at-most (eqb channels 0 || ltb (slotsOf octet) channels) (omega arith) (at-most (ltb 1 order) (omega arith) (omega arith)))
 
 pub state-to : (st : Receiver) → stateRefusal st ≤ 4
@@ -65,7 +65,7 @@ always-room st cell indication samples ancillary marks enough =
 
 slots-few : (octet : ℕ) → formatOf octet .slots ≤ 48
 unfolding formatOf
-slots-few octet = split (isBase octet) (λ e. sound-format octet e .slots-to) (λ e. rw e (omega arith))
+slots-few octet = split (isListed octet) (λ e. sound-format octet e .slots-to) (λ e. rw e (omega arith))
 
 used-few : (st : Receiver) → usedNow st ≤ 48
 used-few st = omega (arith, mul-div-le (formatOf (st .format) .slots) (st .channels), slots-few (st .format))

@@ -3,7 +3,7 @@
 use mathlib.Core.Bool.{Bool, true, false, true≢false}
 use mathlib.Core.List.{List, [], _∷_}
 use mathlib.Core.Path.{_≡_, sym, _∙_, ap}
-use Prim.Native.Nat.{ℕ}
+use Prim.Native.Nat.{ℕ, _^_}
 use native.Mathlib.Omega.{arith}
 use contract.Lifetimes.{Lfts}
 use lib.ListN.{getD, set, replicate}
@@ -100,6 +100,13 @@ third = cellNumbered 3
 abbrev bare : Receiver
 bare = record { format = 0x08; channels = 12; order = 0; started = true; last = 0 }
 
+-- a receiver of one channel in 17 hex, which has overhead and no ancillary field, and a cell with the ninth bit alone in each sample
+abbrev abroad : Receiver
+abroad = record { format = 0x17; channels = 1; order = 0; started = true; last = 2 }
+
+abbrev ninths : List ℕ
+ninths = cellOf (formatOf 0x17) false 1 12 (entryOf 3) 0 (replicate 12 (2 ^ 19)) (replicate 12 0)
+
 module _ (κs : Lfts 4) (c s a m : Place) where
   -- a call with this cell and this indication, on three runs of so many sevens
   abbrev Indicated : Bool → Receiver → List ℕ → ℕ → (Received → List ℕ → List ℕ → List ℕ → Type 0) → Type 0
@@ -153,6 +160,18 @@ module _ (κs : Lfts 4) (c s a m : Place) where
   unfolding unfolded
   spoiled-not-marked-sound x v wrong p =
       let right : getD (v .1 .1 .1 .1 .1 .0) 0 0 ≡ 1 = ap (λ (l : List ℕ). getD l 0 0) (p .marks-after) in omega arith
+
+  -- protection judged as if V were 0: the ninth bit alone has 100 without V, and 001 with it
+  pub no-v-not-judged-as-v-0 : Receiving abroad ninths 12 (λ x samples ancillary marks. getD marks 0 0 ≡ 1)
+  unfolding unfolded
+  no-v-not-judged-as-v-0 x v wrong p =
+      let right : getD (v .1 .1 .1 .1 .1 .0) 0 0 ≡ 0 = ap (λ (l : List ℕ). getD l 0 0) (p .marks-after) in omega arith
+
+  -- the ancillary run left where the format has no ancillary bits
+  pub no-field-not-left : Receiving abroad ninths 12 (λ x samples ancillary marks. ancillary ≡ replicate 12 7)
+  unfolding unfolded
+  no-field-not-left x v wrong p =
+      let first : _≡_ {A = ℕ} 7 0 = ap (λ (l : List ℕ). getD l 0 0) (sym wrong ∙ p .ancillary-after) in omega arith
 
   -- a spoiled number taken: the first sequencing bit is altered
   pub spoiled-number-not-taken : Receiving (archive 2) (set third 5 7) 9 (λ x samples ancillary marks. x .refusal ≡ 0)

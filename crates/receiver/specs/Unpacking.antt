@@ -3,7 +3,8 @@
 use mathlib.Core.Bool.{Bool, true, false, cond}
 use mathlib.Core.List.{List, _++_}
 use mathlib.Core.Path.{_≡_}
-use Prim.Native.Nat.{ℕ, _+_, _*_, _/_, _%_, _-_, _^_, _≤_}
+use Prim.Native.Nat.{ℕ, _+_, _*_, _/_, _%_, _-_, _^_, _≤_, _<_}
+use lib.Dec.{eqb}
 use lib.ListN as L
 use lib.ListN.{length, getD, replicate}
 use Rattle.runs.specs.Refusals.{orElse}
@@ -47,15 +48,19 @@ pub record Enters (subframe bits at : ℕ) (samples ancillary marks samples₁ a
   pub ancillary-is : ancillary₁ ≡ L.set ancillary at (subframe / 16 % 16)
   pub marks-are : marks₁ ≡ L.set marks at (bits / 2 ^ (subframe % 32) % 2)
 
--- three runs after the entries of missing cells were written from their start
-pub record Misses (missing : ℕ) (samples ancillary marks samples₁ ancillary₁ marks₁ : List ℕ) : Type 0 where
+-- three runs after the entries of missing cells were written from their start; the ancillary run's zeros may go on
+pub record Misses (missing blank : ℕ) (samples ancillary marks samples₁ ancillary₁ marks₁ : List ℕ) : Type 0 where
   pub samples-are : samples₁ ≡ over (replicate missing 0) samples
-  pub ancillary-is : ancillary₁ ≡ written ancillary 0 (replicate missing 0)
+  pub ancillary-is : ancillary₁ ≡ written ancillary 0 (replicate blank 0)
   pub marks-are : marks₁ ≡ written marks 0 (replicate missing 2)
 
--- overhead alone is "not yet in the base"
-abbrev pub Together : Format → Type 0
-Together f = (f .«overhead_bits» ≡ 0 → ⊥) → f .«ancillary_bits» ≡ 4
+-- where they end: behind the cell's own entries if the format has no ancillary bits
+unfoldable pub blankEnd : Format → ℕ → ℕ → ℕ
+blankEnd f missing used = cond (eqb (f .«ancillary_bits») 0) (missing + used) missing
+
+-- so that the ancillary run is zero where a cell without ancillary bits has its own entries
+abbrev pub Blank : Format → ℕ → ℕ → List ℕ → Type 0
+Blank f at used ancillary = f .«ancillary_bits» ≡ 0 → (i : ℕ) → i < used → getD ancillary (at + i) 0 ≡ 0
 
 -- 56 hex, and all its slots in order 0 as entries of one time
 abbrev pub fours : Format

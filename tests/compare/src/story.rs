@@ -6,7 +6,9 @@ use crate::answers::{Answerer, ANSWERERS};
 use crate::case::{values, Case, Kind};
 use crate::random::Random;
 
-const WITH_OVERHEAD: [(u64, usize); 4] = [(0x52, 24), (0x54, 16), (0x56, 12), (0x5A, 8)];
+/// Octet, S, and how many numbers the ancillary field can have: one, 0, where there is no such field.
+const WITH_OVERHEAD: [(u64, usize, u64); 7] =
+    [(0x13, 24, 1), (0x15, 16, 1), (0x17, 12, 1), (0x52, 24, 16), (0x54, 16, 16), (0x56, 12, 16), (0x5A, 8, 16)];
 const SEED: u64 = 62365;
 /// Stands in the runs before each call: past the entries handed out it must still stand.
 const UNTOUCHED: [u64; 3] = [u64::MAX, 0xA5, 0x5A];
@@ -68,6 +70,7 @@ fn repeated(fates: &[Fate]) -> Vec<Trip> {
 struct Call {
     format: u64,
     slots: usize,
+    ancillaries: u64,
     channels: usize,
     order: u64,
 }
@@ -78,11 +81,12 @@ impl Call {
     }
 
     fn sample_bits(&self) -> u64 {
-        (384 / self.slots - 8) as u64
+        let ancillary_bits = if self.ancillaries == 16 { 4 } else { 0 };
+        384 / self.slots as u64 - ancillary_bits - 4
     }
 
-    fn sample(&self, random: &mut Random) -> u64 {
-        random.below(1 << self.sample_bits())
+    fn entry(&self, random: &mut Random) -> Entry {
+        [random.below(1 << self.sample_bits()), random.below(self.ancillaries), 0]
     }
 
     fn setup(&self) -> Vec<u64> {
@@ -181,8 +185,7 @@ fn play(mut ends: Ends, trips: &[Trip]) -> Result<usize, String> {
     let mut sent = vec![];
     let mut handed = vec![];
     for &trip in trips {
-        let entries: Vec<Entry> =
-            (0..call.entries()).map(|_| [call.sample(&mut random), random.below(16), 0]).collect();
+        let entries: Vec<Entry> = (0..call.entries()).map(|_| call.entry(&mut random)).collect();
         let (mut cell, mut indication) = ends.send(&entries).ok_or("a cell was refused by the sender")?;
         sent.push(entries);
         match trip.0 {
@@ -204,10 +207,10 @@ fn play(mut ends: Ends, trips: &[Trip]) -> Result<usize, String> {
 }
 
 /// A format's readings with a few C and both orders: true where all come out right.
-fn play_format(who: &str, answer: Answerer, (format, slots): (u64, usize), rows: &[Vec<Trip>]) -> bool {
+fn play_format(who: &str, answer: Answerer, (format, slots, ancillaries): (u64, usize, u64), rows: &[Vec<Trip>]) -> bool {
     let calls = [1, 2, 3, 5, slots - 1, slots]
         .into_iter()
-        .flat_map(|channels| [0, 1].map(|order| Call { format, slots, channels, order }));
+        .flat_map(|channels| [0, 1].map(|order| Call { format, slots, ancillaries, channels, order }));
     let (mut readings, mut cells, mut copies, mut entries) = (0, 0, 0, 0);
     for (call, trips) in calls.flat_map(|call| rows.iter().map(move |trips| (call, trips))) {
         let Some(ends) = Ends::open(answer, call) else {
