@@ -87,11 +87,12 @@ earlyRefusal st cell samples ancillary marks =
 abbrev pub refusedBy : ℕ → Receiver → Received
 refusedBy refusal st = record { refusal = refusal; state = st; missing = 0; number = 0; second = 0; indication = false }
 
-abbrev pub takenAs : Receiver → ℕ → ℕ → ℕ → Bool → Received
-takenAs st missing number second indication =
+abbrev pub takenAs : Receiver → ℕ → ℕ → ℕ → Bool → ℕ → Received
+takenAs st missing number second indication count =
     record {
       refusal = 0;
-      state = record { format = st .format; channels = st .channels; order = st .order; started = true; last = number };
+      state =
+        record { format = st .format; channels = st .channels; order = st .order; started = true; last = number; count = count };
       missing = missing;
       number = number;
       second = second;

@@ -1,12 +1,13 @@
 // What a call is answered: the checks in the table's order, and the report. Both ways of receiving take it from here.
-ghost use mathlib.Core.Bool.{true, false};
+ghost use mathlib.Core.Bool.{true, false, _||_};
 ghost use mathlib.Core.List.{List};
 ghost use mathlib.Core.Path.{_≡_};
-ghost use Prim.Native.Nat.{ℕ};
+ghost use Prim.Native.Nat.{ℕ, _+_};
+ghost use lib.Dec.{ltb};
 ghost use lib.ListN.{length};
 ghost use Rattle.formats.specs.Formats.{formatOf};
 ghost use Rattle.formats.specs.Settings.{settingsOf};
-ghost use Rattle.receiver.specs.Receiver.{lastRefused, lengthsRefused, foundNow, numberNow, gapOf, receivedOf};
+ghost use Rattle.receiver.specs.Receiver.{lastRefused, countRefused, lengthsRefused, foundNow, numberNow, gapOf, receivedOf};
 ghost use Rattle.receiver.specs.Unpacking.{earlyRefusal, refusedBy, takenAs};
 use crate::Received;
 use crate::Receiver;
@@ -15,7 +16,7 @@ use formats::Format;
 use formats::Settled;
 use numbers::Found;
 
-// Check 4, beside checks 1 to 3.
+// Check 4 of the last number.
 fn last_refused(format: Format, state: Receiver) -> bool
     requires { ⌜ format ≡ formatOf (state .format) ⌝ }
     ensures { λ r. ⌜ r ≡ lastRefused state ⌝ }
@@ -30,6 +31,27 @@ fn last_refused(format: Format, state: Receiver) -> bool
         return true;
     }
     format.overhead_bits == 0
+}
+
+// Check 4 of the count.
+fn count_refused(state: Receiver) -> bool
+    ensures { λ r. ⌜ r ≡ countRefused state ⌝ }
+{
+    if state.started {
+        return false;
+    }
+    state.count != 0
+}
+
+// Check 4.
+fn numbers_refused(format: Format, state: Receiver) -> bool
+    requires { ⌜ format ≡ formatOf (state .format) ⌝ }
+    ensures { λ r. ⌜ r ≡ (lastRefused state || countRefused state) ⌝ }
+{
+    if last_refused(format, state) {
+        return true;
+    }
+    count_refused(state)
 }
 
 // Check 5.
@@ -61,7 +83,7 @@ pub(crate) fn early_refusal(
     if refusal != 0 {
         return refusal;
     }
-    if last_refused(set.format, state) {
+    if numbers_refused(set.format, state) {
         return 4;
     }
     if lengths_refused(cell, samples, ancillary, marks) {
@@ -84,6 +106,13 @@ fn gap_now(format: Format, state: Receiver, number: u8) -> u8
     numbers::difference(number, state.last)
 }
 
+// Check 20: the count would pass what its four octets hold.
+fn count_passed(count: u32, gap: u8) -> bool
+    ensures { λ r. ⌜ r ≡ ltb 4294967295 (count + gap) ⌝ }
+{
+    4294967295 < count as u64 + gap as u64
+}
+
 // The answer to a refused call: the state as it came, and zeros.
 pub(crate) fn refused(refusal: u8, state: Receiver) -> Received
     ensures { λ r. ⌜ r ≡ refusedBy refusal state ⌝ }
@@ -99,8 +128,15 @@ pub(crate) fn refused(refusal: u8, state: Receiver) -> Received
 }
 
 // The answer to a call that is taken.
-fn taken(state: Receiver, missing: u8, number: u8, second: u8, indication: bool) -> Received
-    ensures { λ r. ⌜ r ≡ takenAs state missing number second indication ⌝ }
+fn taken(
+    state: Receiver,
+    missing: u8,
+    number: u8,
+    second: u8,
+    indication: bool,
+    count: u32,
+) -> Received
+    ensures { λ r. ⌜ r ≡ takenAs state missing number second indication count ⌝ }
 {
     Received {
         refusal: 0,
@@ -110,6 +146,7 @@ fn taken(state: Receiver, missing: u8, number: u8, second: u8, indication: bool)
             order: state.order,
             started: true,
             last: number,
+            count,
         },
         missing,
         number,
@@ -118,7 +155,7 @@ fn taken(state: Receiver, missing: u8, number: u8, second: u8, indication: bool)
     }
 }
 
-// Checks 8, 15, 9 and 10 where the earlier ones refuse nothing, and the answer. `found` is the cell's number, which is 0 where the
+// Checks 8, 15, 9, 20 and 10 where the earlier ones refuse nothing, and the answer. `found` is the cell's number, which is 0 where the
 // format has no overhead, so that 15 is never given there. `samples` is how long each run is.
 pub(crate) fn judged(
     set: Settled,
@@ -137,14 +174,18 @@ pub(crate) fn judged(
     if numbers::indication_refused(number, indication) {
         return refused(15, state);
     }
-    // read before the last two checks, which takes fewer instructions
+    // read before the last three checks, which takes fewer instructions
     let second = bits::second_now(set.format, cell);
     let gap = gap_now(set.format, state, number);
     if gap == 0 {
         return refused(9, state);
     }
+    if count_passed(state.count, gap) {
+        return refused(20, state);
+    }
     if samples < gap as usize * (set.channels * set.times) {
         return refused(10, state);
     }
-    taken(state, gap - 1, number, second, indication)
+    let count = state.count + gap as u32;
+    taken(state, gap - 1, number, second, indication, count)
 }
