@@ -53,12 +53,14 @@ use Rattle.receiver.specs.Receiver.{
   openState,
   openedOf,
   lastRefused,
+  countRefused,
   stateRefusal,
   usedNow,
   lengthsRefused,
   foundNow,
   numberNow,
   gapOf,
+  countAfter,
   receiveRefusal,
   entriesNow,
   secondNow,
@@ -105,18 +107,18 @@ module _ {set : Settled} (st : Receiver) (settles : set ≡ settingsOf (st .form
     early-settings some = first some (given-refuses (st .format) (st .channels) (st .order) _ settles some)
 
     module _ (none : set .refusal ≡ 0) where
-      by-last : {b : Bool} → b ≡ lastRefused st → cond b 4 0 ≡ stateRefusal st
+      by-numbers : {b : Bool} → b ≡ (lastRefused st || countRefused st) → cond b 4 0 ≡ stateRefusal st
       unfolding stateRefusal
-      by-last e =
+      by-numbers e =
           ap (λ (b : Bool). cond b 4 0) e ∙ sym (given-later (st .format) (st .channels) (st .order) _ settles none)
 
-      pub early-4 : true ≡ lastRefused st → 4 ≡ earlyRefusal st cell samples ancillary marks
-      early-4 e = first (suc-ne-zero 3) (by-last e)
+      pub early-4 : true ≡ (lastRefused st || countRefused st) → 4 ≡ earlyRefusal st cell samples ancillary marks
+      early-4 e = first (suc-ne-zero 3) (by-numbers e)
 
-      pub early-5 : {b : Bool} → false ≡ lastRefused st → b ≡ lengthsRefused cell samples ancillary marks
+      pub early-5 : {b : Bool} → false ≡ (lastRefused st || countRefused st) → b ≡ lengthsRefused cell samples ancillary marks
           → cond b 5 0 ≡ earlyRefusal st cell samples ancillary marks
       unfolding earlyRefusal
-      early-5 fourth fifth = ap (λ (b : Bool). cond b 5 0) fifth ∙ sym (then-later _ (sym (by-last fourth)))
+      early-5 fourth fifth = ap (λ (b : Bool). cond b 5 0) fifth ∙ sym (then-later _ (sym (by-numbers fourth)))
 
 -- what is known where checks 1 to 5 refuse nothing
 pub record Whole (st : Receiver) (cell samples ancillary marks : ℕ) : Type 0 where
@@ -154,6 +156,7 @@ pub record Passes (st : Receiver) (cell : List ℕ) (samples ancillary marks : �
   pub early : Whole st (length cell) samples ancillary marks
   pub found : refusalOf (foundNow st cell) ≡ 0
   pub gap-from : 1 ≤ gapOf st cell
+  pub count-to : countAfter st cell ≤ 4294967295
   pub room : gapOf st cell * usedNow st ≤ samples
 
 pub passes : (st : Receiver) (cell : List ℕ) (indication : Bool) (samples ancillary marks : ℕ)
@@ -165,11 +168,13 @@ passes st cell indication samples ancillary marks e =
     let eighth = past-both (refusalOf (foundNow st cell)) _ (fifth .1) in
     let fifteenth = past (indicationRefused (numberNow st cell) indication) 14 _ (eighth .1) in
     let ninth = past (eqb (gapOf st cell) 0) 8 _ (fifteenth .1) in
-    let tenth = past (ltb samples (gapOf st cell * usedNow st)) 9 _ (ninth .1) in
+    let twentieth = past (ltb 4294967295 (countAfter st cell)) 19 _ (ninth .1) in
+    let tenth = past (ltb samples (gapOf st cell * usedNow st)) 9 _ (twentieth .1) in
     record {
       early = fits-lengths st (length cell) samples ancillary marks (state .0) (fifth .0);
       found = eighth .0;
       gap-from = pos-of-ne-zero (eqb-false (gapOf st cell) 0 (ninth .0));
+      count-to = ltb-false 4294967295 _ (twentieth .0);
       room = ltb-false samples _ (tenth .0);
     }
 
@@ -194,11 +199,12 @@ module _ (st : Receiver) (cell : List ℕ) (indication : Bool) (samples ancillar
   unfolding receivedOf
   answer-refused some e = rw (← e, ne-eqb _ _ some)
 
-  pub answer-taken : {missing number second : ℕ} → 0 ≡ receiveRefusal st cell indication samples ancillary marks
+  pub answer-taken : {missing number second count : ℕ} → 0 ≡ receiveRefusal st cell indication samples ancillary marks
       → missing ≡ gapOf st cell - 1 → number ≡ numberNow st cell → second ≡ secondNow st cell
-      → takenAs st missing number second indication ≡ receivedOf st cell indication samples ancillary marks
+      → count ≡ countAfter st cell
+      → takenAs st missing number second indication count ≡ receivedOf st cell indication samples ancillary marks
   unfolding receivedOf after
-  answer-taken none missing-is number-is second-is = rw (← none, missing-is, number-is, second-is)
+  answer-taken none missing-is number-is second-is count-is = rw (← none, missing-is, number-is, second-is, count-is)
 
   pub answer-refusal : receivedOf st cell indication samples ancillary marks .refusal
       ≡ receiveRefusal st cell indication samples ancillary marks
@@ -211,7 +217,7 @@ module _ (st : Receiver) (cell : List ℕ) (indication : Bool) (samples ancillar
   unfolding receivedOf
   answer-missing none = rw none
 
--- checks 8, 15, 9 and 10 in their turn, where the earlier ones refuse nothing; the runs are equally long
+-- checks 8, 15, 9, 20 and 10 in their turn, where the earlier ones refuse nothing; the runs are equally long
 module _ {set : Settled} (st : Receiver) (cell : List ℕ) (indication : Bool) (samples : ℕ)
     (settles : set ≡ settingsOf (st .format) (st .channels) (st .order))
     (early : earlyRefusal st (length cell) samples samples samples ≡ 0)
@@ -239,10 +245,11 @@ module _ {set : Settled} (st : Receiver) (cell : List ℕ) (indication : Bool) (
     later-of found s =
         orElse (refusalOf found)
         (cond (indicationRefused (valueOf found) indication) 15
-        (cond (eqb (gapOf st cell) 0) 9 (cond (ltb samples (gapOf st cell * usedIn s)) 10 0)))
+        (cond (eqb (gapOf st cell) 0) 9
+        (cond (ltb 4294967295 (st .count + gapOf st cell)) 20 (cond (ltb samples (gapOf st cell * usedIn s)) 10 0))))
 
     later : (found : Found) → found ≡ foundNow st cell → receiveRefusal st cell indication samples samples samples ≡ later-of found set
-    unfolding receiveRefusal
+    unfolding receiveRefusal countAfter
     later found e =
         then-later _ (whole-call .state-none)
         ∙ rw (whole-call .lengths-none) (ap₂ (λ (x : Found) (s : Settled). later-of x s) (sym e) (sym is))
@@ -259,7 +266,7 @@ module _ {set : Settled} (st : Receiver) (cell : List ℕ) (indication : Bool) (
 
       module _ (rightly : false ≡ indicationRefused number indication) {gap : ℕ} (gap-is : gap ≡ gapOf st cell) where
         from-9 : receiveRefusal st cell indication samples samples samples
-            ≡ cond (eqb gap 0) 9 (cond (ltb samples (gap * usedIn set)) 10 0)
+            ≡ cond (eqb gap 0) 9 (cond (ltb 4294967295 (st .count + gap)) 20 (cond (ltb samples (gap * usedIn set)) 10 0))
         unfolding orElse refusalOf valueOf
         from-9 = later (Number number) found ∙ rw (← rightly, ← gap-is)
 
@@ -267,17 +274,24 @@ module _ {set : Settled} (st : Receiver) (cell : List ℕ) (indication : Bool) (
         judged-9 e = answer-refused st cell indication samples samples samples (suc-ne-zero 8) (sym (from-9 ∙ rw (eq-eqb _ _ e)))
 
         module _ (some : gap ≡ 0 → ⊥) where
-          pub judged-10 : samples < gap * usedIn set → refusedBy 10 st ≡ wanted
-          judged-10 short =
-              answer-refused st cell indication samples samples samples (suc-ne-zero 9)
-              (sym (from-9 ∙ rw (ne-eqb _ _ some, lt-ltb _ _ short)))
+          pub judged-20 : true ≡ ltb 4294967295 (st .count + gap) → refusedBy 20 st ≡ wanted
+          judged-20 many =
+              answer-refused st cell indication samples samples samples (suc-ne-zero 19)
+              (sym (from-9 ∙ rw (ne-eqb _ _ some, ← many)))
 
-          pub judged-0 : gap * usedIn set ≤ samples → {second : ℕ} → second ≡ secondNow st cell
-              → takenAs st (gap - 1) number second indication ≡ wanted
-          unfolding valueOf
-          judged-0 room second-is =
-              answer-taken st cell indication samples samples samples
-              (sym (from-9 ∙ rw (ne-eqb _ _ some, le-ltb _ _ room))) (ap (λ (n : ℕ). n - 1) gap-is) (ap valueOf found) second-is
+          module _ (few : false ≡ ltb 4294967295 (st .count + gap)) where
+            pub judged-10 : samples < gap * usedIn set → refusedBy 10 st ≡ wanted
+            judged-10 short =
+                answer-refused st cell indication samples samples samples (suc-ne-zero 9)
+                (sym (from-9 ∙ rw (ne-eqb _ _ some, ← few, lt-ltb _ _ short)))
+
+            pub judged-0 : gap * usedIn set ≤ samples → {second : ℕ} → second ≡ secondNow st cell
+                → takenAs st (gap - 1) number second indication (st .count + gap) ≡ wanted
+            unfolding valueOf countAfter
+            judged-0 room second-is =
+                answer-taken st cell indication samples samples samples
+                (sym (from-9 ∙ rw (ne-eqb _ _ some, ← few, le-ltb _ _ room))) (ap (λ (n : ℕ). n - 1) gap-is) (ap valueOf found)
+                second-is (ap (λ (n : ℕ). st .count + n) gap-is)
 
 -- what is found and the second number where the format has overhead
 module _ {f : Format} (st : Receiver) (cell : List ℕ) (is : formatOf (st .format) ≡ f) (over : f .«overhead_bits» ≡ 0 → ⊥) where
