@@ -6,7 +6,7 @@ use mathlib.Core.Path.{_≡_, sym, _∙_, ap, ap₂, subst}
 use Prim.Native.Nat.{ℕ, suc, _+_, _*_, _-_, _%_, _≤_, _<_}
 use native.Mathlib.Nat.{suc-ne-zero, pos-of-ne-zero, suc-mul, mod-lt, le-of-suc-le-suc}
 use native.Mathlib.Omega.{arith}
-use borrow.Author.Tests.{lt-ltb, le-ltb, eq-eqb, ne-eqb, ltb-false, eqb-true, eqb-false, not-false}
+use borrow.Author.Tests.{ne-eqb, ltb-false, eqb-true, eqb-false, not-false}
 use lib.Dec.{T, eqb, ltb, eqb→eq}
 use lib.ListN.{length, replicate}
 use Rattle.runs.specs.Refusals.{orElse}
@@ -69,7 +69,7 @@ use Rattle.receiver.specs.Receiver.{
   entriesGiven,
   Receives,
 }
-use Rattle.receiver.specs.Unpacking.{usedIn, ownEntries, Fills, Room, Together, earlyRefusal, refusedBy, takenAs}
+use Rattle.receiver.specs.Unpacking.{usedIn, ownEntries, Fills, Room, Together, earlyRefusal, lateRefusal, refusedBy, takenAs}
 
 -- an opening, refused and taken
 module _ {set : Settled} (octet channels order : ℕ) (settles : set ≡ settingsOf octet channels order) where
@@ -217,7 +217,15 @@ module _ (st : Receiver) (cell : List ℕ) (indication : Bool) (samples ancillar
   unfolding receivedOf
   answer-missing none = rw none
 
--- checks 8, 15, 9, 20 and 10 in their turn, where the earlier ones refuse nothing; the runs are equally long
+-- what is known of d and the count where checks 9, 20 and 10 refuse nothing
+pub late-none : (gap count samples needed : ℕ) → lateRefusal gap count samples needed ≡ 0 → (1 ≤ gap) × (count + gap ≤ 4294967295)
+unfolding lateRefusal
+late-none gap count samples needed e =
+    let ninth = past (eqb gap 0) 8 _ e in
+    let twentieth = past (ltb 4294967295 (count + gap)) 19 _ (ninth .1) in
+    (pos-of-ne-zero (eqb-false gap 0 (ninth .0)), ltb-false 4294967295 (count + gap) (twentieth .0))
+
+-- checks 8, 15, and 9, 20 and 10 in their turn, where the earlier ones refuse nothing; the runs are equally long
 module _ {set : Settled} (st : Receiver) (cell : List ℕ) (indication : Bool) (samples : ℕ)
     (settles : set ≡ settingsOf (st .format) (st .channels) (st .order))
     (early : earlyRefusal st (length cell) samples samples samples ≡ 0)
@@ -265,33 +273,20 @@ module _ {set : Settled} (st : Receiver) (cell : List ℕ) (indication : Bool) (
           answer-refused st cell indication samples samples samples (suc-ne-zero 14) (sym (later (Number number) found ∙ rw (← e)))
 
       module _ (rightly : false ≡ indicationRefused number indication) {gap : ℕ} (gap-is : gap ≡ gapOf st cell) where
-        from-9 : receiveRefusal st cell indication samples samples samples
-            ≡ cond (eqb gap 0) 9 (cond (ltb 4294967295 (st .count + gap)) 20 (cond (ltb samples (gap * usedIn set)) 10 0))
-        unfolding orElse refusalOf valueOf
+        from-9 : receiveRefusal st cell indication samples samples samples ≡ lateRefusal gap (st .count) samples (gap * usedIn set)
+        unfolding orElse refusalOf valueOf lateRefusal
         from-9 = later (Number number) found ∙ rw (← rightly, ← gap-is)
 
-        pub judged-9 : gap ≡ 0 → refusedBy 9 st ≡ wanted
-        judged-9 e = answer-refused st cell indication samples samples samples (suc-ne-zero 8) (sym (from-9 ∙ rw (eq-eqb _ _ e)))
+        -- refused by 9, 20 or 10
+        pub judged-late : {n : ℕ} → (n ≡ 0 → ⊥) → n ≡ lateRefusal gap (st .count) samples (gap * usedIn set) → refusedBy n st ≡ wanted
+        judged-late some e = answer-refused st cell indication samples samples samples some (e ∙ sym from-9)
 
-        module _ (some : gap ≡ 0 → ⊥) where
-          pub judged-20 : true ≡ ltb 4294967295 (st .count + gap) → refusedBy 20 st ≡ wanted
-          judged-20 many =
-              answer-refused st cell indication samples samples samples (suc-ne-zero 19)
-              (sym (from-9 ∙ rw (ne-eqb _ _ some, ← many)))
-
-          module _ (few : false ≡ ltb 4294967295 (st .count + gap)) where
-            pub judged-10 : samples < gap * usedIn set → refusedBy 10 st ≡ wanted
-            judged-10 short =
-                answer-refused st cell indication samples samples samples (suc-ne-zero 9)
-                (sym (from-9 ∙ rw (ne-eqb _ _ some, ← few, lt-ltb _ _ short)))
-
-            pub judged-0 : gap * usedIn set ≤ samples → {second : ℕ} → second ≡ secondNow st cell
-                → takenAs st (gap - 1) number second indication (st .count + gap) ≡ wanted
-            unfolding valueOf countAfter
-            judged-0 room second-is =
-                answer-taken st cell indication samples samples samples
-                (sym (from-9 ∙ rw (ne-eqb _ _ some, ← few, le-ltb _ _ room))) (ap (λ (n : ℕ). n - 1) gap-is) (ap valueOf found)
-                second-is (ap (λ (n : ℕ). st .count + n) gap-is)
+        pub judged-0 : 0 ≡ lateRefusal gap (st .count) samples (gap * usedIn set) → {second : ℕ} → second ≡ secondNow st cell
+            → takenAs st (gap - 1) number second indication (st .count + gap) ≡ wanted
+        unfolding valueOf countAfter
+        judged-0 none second-is =
+            answer-taken st cell indication samples samples samples (none ∙ sym from-9) (ap (λ (n : ℕ). n - 1) gap-is)
+            (ap valueOf found) second-is (ap (λ (n : ℕ). st .count + n) gap-is)
 
 -- what is found and the second number where the format has overhead
 module _ {f : Format} (st : Receiver) (cell : List ℕ) (is : formatOf (st .format) ≡ f) (over : f .«overhead_bits» ≡ 0 → ⊥) where

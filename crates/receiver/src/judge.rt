@@ -2,13 +2,12 @@
 ghost use mathlib.Core.Bool.{true, false, _||_};
 ghost use mathlib.Core.List.{List};
 ghost use mathlib.Core.Path.{_≡_};
-ghost use Prim.Native.Nat.{ℕ, _+_};
-ghost use lib.Dec.{ltb};
+ghost use Prim.Native.Nat.{ℕ};
 ghost use lib.ListN.{length};
 ghost use Rattle.formats.specs.Formats.{formatOf};
 ghost use Rattle.formats.specs.Settings.{settingsOf};
 ghost use Rattle.receiver.specs.Receiver.{lastRefused, countRefused, lengthsRefused, foundNow, numberNow, gapOf, receivedOf};
-ghost use Rattle.receiver.specs.Unpacking.{earlyRefusal, refusedBy, takenAs};
+ghost use Rattle.receiver.specs.Unpacking.{earlyRefusal, lateRefusal, refusedBy, takenAs};
 use crate::Received;
 use crate::Receiver;
 use crate::bits;
@@ -106,11 +105,21 @@ fn gap_now(format: Format, state: Receiver, number: u8) -> u8
     numbers::difference(number, state.last)
 }
 
-// Check 20: the count would pass what its four octets hold.
-fn count_passed(count: u32, gap: u8) -> bool
-    ensures { λ r. ⌜ r ≡ ltb 4294967295 (count + gap) ⌝ }
+// Checks 9, 20 and 10: d, the count so far, how long each run is, and how long it has to be. 0 where they refuse nothing. One answer
+// is made of all three in `judged`, which else is too long to be compiled into both ways.
+fn late_refusal(gap: u8, count: u32, samples: usize, needed: usize) -> u8
+    ensures { λ r. ⌜ r ≡ lateRefusal gap count samples needed ⌝ }
 {
-    4294967295 < count as u64 + gap as u64
+    if gap == 0 {
+        return 9;
+    }
+    if 4294967295 < count as u64 + gap as u64 {
+        return 20;
+    }
+    if samples < needed {
+        return 10;
+    }
+    0
 }
 
 // The answer to a refused call: the state as it came, and zeros.
@@ -174,17 +183,13 @@ pub(crate) fn judged(
     if numbers::indication_refused(number, indication) {
         return refused(15, state);
     }
-    // read before the last three checks, which takes fewer instructions
-    let second = bits::second_now(set.format, cell);
     let gap = gap_now(set.format, state, number);
-    if gap == 0 {
-        return refused(9, state);
-    }
-    if count_passed(state.count, gap) {
-        return refused(20, state);
-    }
-    if samples < gap as usize * (set.channels * set.times) {
-        return refused(10, state);
+    // read before the last checks, which takes fewer instructions
+    let second = bits::second_now(set.format, cell);
+    let needed = gap as usize * (set.channels * set.times);
+    let refusal = late_refusal(gap, state.count, samples, needed);
+    if refusal != 0 {
+        return refused(refusal, state);
     }
     let count = state.count + gap as u32;
     taken(state, gap - 1, number, second, indication, count)
