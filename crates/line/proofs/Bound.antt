@@ -7,7 +7,7 @@ use Prim.Native.Nat.{ℕ, zero, suc, _+_, _%_, _≤_}
 use native.Mathlib.Nat.{le-refl, le-of-suc-le-suc, mod-lt}
 use native.Mathlib.Omega.{arith}
 use borrow.Author.Tests.{eq-eqb, le-ltb}
-use lib.ListN.{length, replicate, length-replicate}
+use lib.ListN.{length, replicate}
 use Rattle.sender.specs.declared.Sender.{Sender}
 use Rattle.sender.specs.Sender as S
 use Rattle.line.specs.Contracts.{SendCall, MeetsSend, MeetsReceive}
@@ -36,7 +36,8 @@ goes-on : (b : Bool) (k : ℕ) → k ≤ 15 → sending (before b k) 1 .answer .
 unfolding S.sentOf S.after S.secondNow
 goes-on b k low = rw (none-refused b k low)
 
-all-written : (n : ℕ) (b : Bool) (k : ℕ) → k ≤ 15 → sends (before b k) (allUnaltered n) ≡ wrote (sends (before b k) (allUnaltered n))
+all-written : (n : ℕ) (b : Bool) (k : ℕ) → k ≤ 15
+    → sends (before b k) (allUnaltered n) ≡ wrote (sends (before b k) (allUnaltered n))
 unfolding trips wrote
 all-written zero b k low = refl
 all-written (suc n) b k low =

@@ -63,11 +63,13 @@ again missing =
     (entriesAfter missing 0 st (R.ancillaryNow st (one .cell))) (entriesAfter missing 2 st (R.marksNow st (one .cell)))
 
 -- it hands out the cell's five places and no more
-only-five : (missing : ℕ) → Demand3 3 14 4294967295 MeetsSend (TakesRepeats missing) → length (handed (first ∷ again missing ∷ [])) ≡ 5
+only-five : (missing : ℕ) → Demand3 3 14 4294967295 MeetsSend (TakesRepeats missing)
+    → length (handed (first ∷ again missing ∷ [])) ≡ 5
 unfolding opened trips came-twice
 only-five missing meets =
     ap length
-    (plays 3 14 4294967295 (TakesRepeats missing) meets came-twice refl (omega arith) (tt, tt) (omega arith) (first ∷ again missing ∷ []) (
+    (plays 3 14 4294967295 (TakesRepeats missing) meets came-twice refl (omega arith) (tt, tt) (omega arith)
+    (first ∷ again missing ∷ []) (
       refl,
       promised _ _,
       (

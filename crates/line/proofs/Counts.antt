@@ -1,8 +1,8 @@
 -- The count after any row of calls is what the calls' own answers add up to.
 -- Assumes nothing.
 use mathlib.Core.List.{List, [], _∷_}
-use mathlib.Core.Path.{_≡_, sym, _∙_, ap}
-use Prim.Native.Nat.{ℕ, suc, _+_, _≤_}
+use mathlib.Core.Path.{_≡_, _∙_, ap}
+use Prim.Native.Nat.{ℕ, _+_, _≤_}
 use native.Mathlib.Omega.{arith}
 use borrow.Author.Tests.{eqb-true, eqb-false}
 use lib.Dec.{eqb}
@@ -22,8 +22,8 @@ one-taken : {left now before first : ℕ} (missing sound more : ℕ) → left �
     → before ≡ first → left ≡ first + (1 + sound + (missing + more))
 one-taken missing sound more rest here start = omega arith
 
-one-refused : {left now before first : ℕ} {missing : ℕ} (sound more : ℕ) → left ≡ now + (sound + more) → now ≡ before → before ≡ first
-    → missing ≡ 0 → left ≡ first + (0 + sound + (missing + more))
+one-refused : {left now before first missing : ℕ} (sound more : ℕ) → left ≡ now + (sound + more) → now ≡ before
+    → before ≡ first → missing ≡ 0 → left ≡ first + (0 + sound + (missing + more))
 one-refused sound more rest here start none = omega arith
 
 counted-on : (st : Receiver) (calls : List ReceiveCall) → Receiving MeetsReceive st calls

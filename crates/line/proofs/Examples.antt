@@ -1,7 +1,7 @@
 -- Calls of both boxes to try demand 3 on: a sender of five channels in 5A hex, and a receiver with three runs of eighty entries.
 -- Assumes nothing.
 use mathlib.Core.Bool.{true, false}
-use mathlib.Core.List.{List, [], _∷_, map, flatMap}
+use mathlib.Core.List.{List, [], _∷_, map}
 use mathlib.Core.Path.{_≡_, refl, ap}
 use Prim.Native.Nat.{ℕ, _*_, _≤_}
 use native.Mathlib.Nat.{suc-ne-zero}

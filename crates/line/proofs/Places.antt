@@ -26,13 +26,11 @@ use Rattle.line.specs.Line.{
   taken,
   WithRoom,
   Place,
-  handed,
   placesOf,
   fromFirst,
   allLost,
   toLast,
   pastLast,
-  leftBy,
   ComesOut,
   refusals,
   refusalsOf,
@@ -80,7 +78,10 @@ none-past [] e = refl
 none-past (t ∷ ts) e = rw e
 
 count-past : (ts : List Trip) → cond (allLost ts) 0 (0 + pastLast ts) ≡ pastLast ts
-count-past ts = split (allLost ts) (λ all. rw (all, none-past ts all)) (λ some. rw some (let same : 0 + pastLast ts ≡ pastLast ts = omega arith in same))
+count-past ts =
+    split (allLost ts)
+    (λ all. rw (all, none-past ts all))
+    (λ some. rw some (let same : 0 + pastLast ts ≡ pastLast ts = omega arith in same))
 
 count-after : (k : ℕ) (waiting : List Place) (ts : List Trip)
     → dueCount (after k waiting) ts ≡ cond (allLost ts) 0 (k + pastLast ts)

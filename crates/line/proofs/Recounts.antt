@@ -1,20 +1,18 @@
--- The count is sharp: receivers that count otherwise meet neither demand 3 nor the theorem over rows of calls, and no receiver counts
--- one cell more than 4,294,967,295.
+-- The count is sharp: receivers that count otherwise meet neither demand 3 nor the theorem over rows of calls.
 -- Assumes nothing.
-use mathlib.Core.Bool.{cond, false}
-use mathlib.Core.List.{List, [], _∷_, map, nil≢cons}
-use mathlib.Core.Path.{_≡_, refl, sym, _∙_, ap, subst}
-use Prim.Native.Nat.{ℕ, zero, suc, _+_, _≤_, max}
-use native.Mathlib.Nat.{le-refl}
+use mathlib.Core.Bool.{cond}
+use mathlib.Core.List.{List, [], _∷_}
+use mathlib.Core.Path.{_≡_, refl}
+use Prim.Native.Nat.{ℕ, _+_}
 use native.Mathlib.Omega.{arith}
 use lib.Dec.{eqb}
-use lib.ListN.{length, replicate, length-replicate}
+use lib.ListN.{length}
 use Rattle.runs.specs.Runs.{over}
 use Rattle.receiver.specs.declared.Receiver.{Receiver}
 use Rattle.receiver.specs.declared.Received.{Received}
 use Rattle.receiver.specs.Receiver as R
-use Rattle.line.specs.Contracts.{MeetsSend, ReceiveCall, MeetsReceive}
-use Rattle.line.specs.Line.{Fate, dropped, unaltered, Arrival, Receiving, leftBy, Demand3, CountsCells}
+use Rattle.line.specs.Contracts.{MeetsSend, ReceiveCall}
+use Rattle.line.specs.Line.{Fate, dropped, unaltered, Arrival, Receiving, Demand3, CountsCells}
 use Rattle.line.proofs.Examples.{always-room, studio, studioAt, fresh, sent, trips, call, answered, plays}
 use Rattle.line.proofs.Opened.{opened}
 
@@ -100,7 +98,8 @@ not-sound-only meets =
 pub not-sound-only-in-rows : CountsCells (Counts soundOnly) → ⊥
 unfolding opened
 not-sound-only-in-rows meets =
-    let counts : _≡_ {A = ℕ} 2 3 = meets 0x5A 5 0 (R.openedOf 0x5A 5 0) (two soundOnly one third) refl (two-in-a-row soundOnly one third) in
+    let counts : _≡_ {A = ℕ} 2 3
+    = meets 0x5A 5 0 (R.openedOf 0x5A 5 0) (two soundOnly one third) refl (two-in-a-row soundOnly one third) in
     omega arith
 
 -- a copy, which is refused
@@ -119,5 +118,6 @@ not-refused-too meets =
 pub not-refused-too-in-rows : CountsCells (Counts refusedToo) → ⊥
 unfolding opened
 not-refused-too-in-rows meets =
-    let counts : _≡_ {A = ℕ} 2 1 = meets 0x5A 5 0 (R.openedOf 0x5A 5 0) (two refusedToo one one) refl (two-in-a-row refusedToo one one) in
+    let counts : _≡_ {A = ℕ} 2 1
+    = meets 0x5A 5 0 (R.openedOf 0x5A 5 0) (two refusedToo one one) refl (two-in-a-row refusedToo one one) in
     omega arith

@@ -282,8 +282,13 @@ module _ (t : Trip) (ts : List Trip) (sends : MeetsSend (t .sent)) (sent : t .se
       unfolding due dueCount Between
       trip-dropped e calls takes =
           let lost = ap isLost e in
-          let on = follows rc (oneMore t since) calls (beside-lost lost since beside) (between .0 lost) (within-lost t since rc ts within) takes in
-          record { hands = on .hands ∙ rw lost; counts = on .counts ∙ rw lost; answers = answered (refusals calls) e refl (on .answers) }
+          let on = follows rc (oneMore t since) calls (beside-lost lost since beside) (between .0 lost)
+          (within-lost t since rc ts within) takes in
+          record {
+            hands = on .hands ∙ rw lost;
+            counts = on .counts ∙ rw lost;
+            answers = answered (refusals calls) e refl (on .answers);
+          }
 
       trip-spoiled : {came : List ℕ} {indication : Bool} {again : ℕ} → ComesOf (spoiled came indication again)
       unfolding due dueCount Between
@@ -337,7 +342,8 @@ module _ (t : Trip) (ts : List Trip) (sends : MeetsSend (t .sent)) (sent : t .se
           (room .ancillary-equal) (room .marks-equal) meets .0)
           again cs (record { meets = takes .meets .2; these = tail-eq-of-cons-eq (takes .these); room = takes .room .1 }) in
           let on = follows (c .answer .state) (after 0 []) (skipped .rest) next (few .1)
-          (within-next (c .answer .state .count) (c .state .count) (lostSince since) (length ts) (done .counted) bound) (skipped .takes) in
+          (within-next (c .answer .state .count) (c .state .count) (lostSince since) (length ts) (done .counted) bound)
+          (skipped .takes) in
           record {
             hands =
                 ap₂ (λ (x y : List Place). x ++ y) (done .hands) (skipped .hands ∙ on .hands)
@@ -346,7 +352,9 @@ module _ (t : Trip) (ts : List Trip) (sends : MeetsSend (t .sent)) (sent : t .se
                 placed-on (lostSince since) (dueCount (after 0 []) ts) (ap (λ (x : Receiver). x .count) (skipped .leaves) ∙ on .counts)
                 (done .counted) (ap (λ (x : Receiver). x .count) (takes .meets .0))
                 ∙ rw kept;
-            answers = answered (refusals (skipped .rest)) e (ap₂ (λ (n : ℕ) (l : List ℕ). n ∷ l) (done .refused-not) (skipped .answers)) (on .answers);
+            answers =
+                answered (refusals (skipped .rest)) e
+                (ap₂ (λ (n : ℕ) (l : List ℕ). n ∷ l) (done .refused-not) (skipped .answers)) (on .answers);
           }
 
       pub trip-any : (fate : Fate) → ComesOf fate
@@ -358,7 +366,8 @@ pub comes : (ts : List Trip) (st : Sender) (rc : Receiver) (since : Since) (call
     → Sending Wrote st (map (λ t. t .sent) ts) → Each (λ t. Fair 3 (t .sent) (t .fate)) ts
     → Beside st rc since → Between 14 since ts → Within rc since ts → Takes rc calls (arrivals ts) → Comes rc since ts calls
 unfolding Row Each flatMap due dueCount leftBy
-comes [] st rc since [] row fair beside between within takes = record { hands = refl; counts = none-more (rc .count); answers = refl }
+comes [] st rc since [] row fair beside between within takes =
+    record { hands = refl; counts = none-more (rc .count); answers = refl }
 comes [] st rc since (c ∷ cs) row fair beside between within takes = absurd (nil≢cons (sym (takes .these)))
 comes (t ∷ ts) st rc since calls row fair beside between within takes =
     trip-any t ts (row .1 .0) (row .1 .1) (fair .0)

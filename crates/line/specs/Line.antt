@@ -144,9 +144,10 @@ unfoldable pub leftBy : Receiver → List ReceiveCall → Receiver
 leftBy st [] = st
 leftBy st (c ∷ cs) = leftBy (c .answer .state) cs
 
--- what holds between two boxes of whatever the line carries, the receiver being fresh; it may alter `most` bits of a cell and lose
--- `row` cells in a row, and at most `cells` are sent
-abbrev pub OverTheLine : ℕ → ℕ → ℕ → (SendCall → Type 0) → (ReceiveCall → Type 0) → (Receiver → List Trip → List ReceiveCall → Type 0) → Type 0
+-- what holds between two boxes of whatever the line carries, the receiver being fresh; the line may alter `most` bits of a cell and
+-- lose `row` cells in a row, and at most `cells` are sent
+abbrev pub OverTheLine : ℕ → ℕ → ℕ → (SendCall → Type 0) → (ReceiveCall → Type 0)
+    → (Receiver → List Trip → List ReceiveCall → Type 0) → Type 0
 OverTheLine most row cells SendBox ReceiveBox Holds =
     (st : Sender) (sends : List SendCall) (trips : List Trip) (receives : List ReceiveCall)
     → (formatOf (st .format) .«overhead_bits» ≡ 0 → ⊥)
@@ -160,8 +161,8 @@ OverTheLine most row cells SendBox ReceiveBox Holds =
     → Each WithRoom receives
     → Holds (R.openState (st .format) (st .channels) (st .order)) trips receives
 
--- what demand 3 says of it. Request 5: "this number is the last unaltered cell's place counted from the first unaltered one, plus 1, or 0
--- where no cell came unaltered"
+-- what demand 3 says of it. Request 5: "this number is the last unaltered cell's place counted from the first unaltered one, plus
+-- 1, or 0 where no cell came unaltered"
 pub record ComesOut (fresh : Receiver) (trips : List Trip) (receives : List ReceiveCall) : Type 0 where
   pub handed-out : handed receives ≡ flatMap placesOf (toLast (fromFirst trips))
   pub counted : leftBy fresh receives .count ≡ pastLast (fromFirst trips)
@@ -181,8 +182,8 @@ refusalsOf dropped = []
 refusalsOf (spoiled came indication again) = replicate (suc again) (cond (eqb (length came) 48) 8 5)
 refusalsOf (unaltered again) = 0 ∷ replicate again 9
 
--- Request 5 of a receiver: "it equals the sound cells plus the missing counts of the calls made since the state was opened". A sum over
--- calls, 1 for a call that took its cell, and the missing count that a call answered:
+-- Request 5 of a receiver: "it equals the sound cells plus the missing counts of the calls made since the state was opened". A sum
+-- over calls, 1 for a call that took its cell, and the missing count that a call answered:
 unfoldable pub total : (ReceiveCall → ℕ) → List ReceiveCall → ℕ
 total number [] = 0
 total number (c ∷ cs) = number c + total number cs
