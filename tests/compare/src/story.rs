@@ -99,6 +99,10 @@ fn expected(fates: &[Fate], sent: &[Vec<Entry>]) -> Vec<Entry> {
         .collect()
 }
 
+fn whole(fate: &Fate) -> bool {
+    *fate == Fate::Whole
+}
+
 struct Ends {
     answer: Answerer,
     call: Call,
@@ -163,6 +167,12 @@ fn play(mut ends: Ends, fates: &[Fate]) -> Result<usize, String> {
             }
         }
         handed.extend(ends.receive(&cell, indication)?);
+    }
+    // the place of the last whole cell counted from the first whole one, plus 1
+    let (first, last) = (fates.iter().position(whole), fates.iter().rposition(whole));
+    let placed = first.zip(last).map_or(0, |(first, last)| last - first + 1);
+    if ends.receiver[5] != placed as u64 {
+        return Err(format!("{} cells placed, and not {placed}", ends.receiver[5]));
     }
     let must_be = expected(fates, &sent);
     match must_be.iter().zip(&handed).position(|(wanted, given)| wanted != given) {
