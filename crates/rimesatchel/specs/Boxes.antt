@@ -39,7 +39,7 @@ senderOctets st =
 
 -- "then the count in four octets, least significant first"
 unfoldable pub countOf : List ℕ → ℕ
-countOf o = getD o 5 0 + getD o 6 0 * 256 + (getD o 7 0 + getD o 8 0 * 256) * 65536
+countOf o = getD o 5 0 + getD o 6 0 * 256 + getD o 7 0 * 65536 + getD o 8 0 * 16777216
 
 unfoldable pub countOctets : ℕ → List ℕ
 countOctets count = count % 256 ∷ count / 256 % 256 ∷ count / 65536 % 256 ∷ count / 16777216 % 256 ∷ []

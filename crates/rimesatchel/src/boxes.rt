@@ -3,6 +3,7 @@
 use receiver::Receiver;
 use sender::Sender;
 ghost use mathlib.Core.Path.{_≡_};
+ghost use Prim.Native.Nat.{_<_};
 ghost use Rattle.rimesatchel.specs.Boxes.{
   yesNo,
   senderOf,
@@ -52,13 +53,21 @@ fn sender_octets(state: Sender) -> [u8; 7]
     ]
 }
 
+fn wide(octet: u8) -> u32
+    ensures { λ r. ⌜ (r ≡ octet) × (r < 256) ⌝ }
+{
+    octet as u32
+}
+
 // A receiver's count, from the last four octets of its state, least significant first.
 fn count_of(state: [u8; 9]) -> u32
     ensures { λ r. ⌜ r ≡ countOf state ⌝ }
 {
-    let low = state[5] as u32 + state[6] as u32 * 256;
-    let high = state[7] as u32 + state[8] as u32 * 256;
-    low + high * 65536
+    let first = wide(state[5]);
+    let second = wide(state[6]);
+    let third = wide(state[7]);
+    let fourth = wide(state[8]);
+    first + second * 256 + third * 65536 + fourth * 16777216
 }
 
 fn receiver_of(state: [u8; 9]) -> Receiver
