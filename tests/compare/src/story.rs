@@ -99,10 +99,6 @@ fn expected(fates: &[Fate], sent: &[Vec<Entry>]) -> Vec<Entry> {
         .collect()
 }
 
-fn whole(fate: &Fate) -> bool {
-    *fate == Fate::Whole
-}
-
 struct Ends {
     answer: Answerer,
     call: Call,
@@ -168,16 +164,14 @@ fn play(mut ends: Ends, fates: &[Fate]) -> Result<usize, String> {
         }
         handed.extend(ends.receive(&cell, indication)?);
     }
-    // the place of the last whole cell counted from the first whole one, plus 1
-    let (first, last) = (fates.iter().position(whole), fates.iter().rposition(whole));
-    let placed = first.zip(last).map_or(0, |(first, last)| last - first + 1);
-    if ends.receiver[5] != placed as u64 {
-        return Err(format!("{} cells placed, and not {placed}", ends.receiver[5]));
-    }
     let must_be = expected(fates, &sent);
     match must_be.iter().zip(&handed).position(|(wanted, given)| wanted != given) {
         Some(at) => Err(format!("entry {at}: {:?} handed out where {:?} must stand", handed[at], must_be[at])),
         None if handed.len() != must_be.len() => Err(format!("{} entries for {}", handed.len(), must_be.len())),
+        // from the first whole cell to the last: so many cells were placed
+        None if ends.receiver[5] * call.entries() as u64 != must_be.len() as u64 => {
+            Err(format!("{} cells placed for {}", ends.receiver[5], must_be.len() / call.entries()))
+        }
         None => Ok(handed.len()),
     }
 }
