@@ -6,11 +6,10 @@
  * all state is the caller's, in the arrays below, and may hold any octets whatever.
  *
  * Every function but rime_check_character and rime_receiver_placed returns a refusal number, RIME_DONE (0) where there
- * is none. A call never
- * does half of its work. A refusal leaves every lent run and the state as they were, and fills `report`, `out`,
- * `header`, `record` or the two entries or halves of a frame with zeros; an opening that is refused fills `state` with
- * zeros, which is itself refused 1. Where several refusals apply, the first in the order of the list at each function is
- * given.
+ * is none. A call never does half of its work. A refusal leaves every lent run and the state as they were, and fills
+ * `report`, `out`, `header`, `record` or the two entries or halves of a frame with zeros; an opening that is refused
+ * fills `state` with zeros, which is itself refused 1. Where several refusals apply, the first in the order of the list
+ * at each function is given.
  *
  * Lent memory: a run is a pointer and the number of its entries. A pointer is never NULL (a run of no entries may
  * point anywhere else), and no two arguments of one call overlap.
