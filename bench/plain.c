@@ -165,12 +165,19 @@ MEASURED uint8_t plain_send(uint8_t state[7], bool indication, const uint64_t *s
     return RIME_DONE;
 }
 
+/* Cells placed since the opening: four octets, least significant first. */
+static uint32_t count_of(const uint8_t *state) {
+    const uint8_t *octets = state + RIME_RECEIVER_COUNT;
+    return octets[0] | octets[1] << 8 | octets[2] << 16 | (uint32_t)octets[3] << 24;
+}
+
 static uint8_t check_receiver(const uint8_t *state, struct layout *layout) {
     uint8_t refusal = layout_of(state, layout);
     if (refusal != RIME_DONE) return refusal;
     uint8_t last = state[RIME_RECEIVER_LAST];
     bool may_count = state[RIME_RECEIVER_STARTED] != 0 && layout->format.overhead;
-    return last > (may_count ? 15 : 0) ? RIME_REFUSED_STATE : RIME_DONE;
+    if (last > (may_count ? 15 : 0)) return RIME_REFUSED_STATE;
+    return state[RIME_RECEIVER_STARTED] == 0 && count_of(state) != 0 ? RIME_REFUSED_STATE : RIME_DONE;
 }
 
 /* The first twelve sequencing bits, the first one on top; the cell has overhead. With S = 8 the last four are 0. */
@@ -199,7 +206,7 @@ static void unpack(const struct layout *layout, const uint8_t *cell, uint64_t *s
     }
 }
 
-MEASURED uint8_t plain_receive(uint8_t state[5], const uint8_t *cell, size_t cell_len, bool indication,
+MEASURED uint8_t plain_receive(uint8_t state[9], const uint8_t *cell, size_t cell_len, bool indication,
                                uint64_t *samples, size_t samples_len, uint8_t *ancillary, size_t ancillary_len,
                                uint8_t *marks, size_t marks_len, uint8_t report[4]) {
     struct layout layout;
@@ -219,6 +226,8 @@ MEASURED uint8_t plain_receive(uint8_t state[5], const uint8_t *cell, size_t cel
     bool counts = layout.format.overhead && state[RIME_RECEIVER_STARTED] != 0;
     size_t steps = counts ? (size_t)(number - state[RIME_RECEIVER_LAST]) % 16 : 1;
     if (steps == 0) return RIME_REFUSED_REPEAT;
+    uint64_t count = count_of(state) + (uint64_t)steps;
+    if (count > UINT32_MAX) return RIME_REFUSED_COUNT;
     if (samples_len < steps * layout.entries) return RIME_REFUSED_ROOM;
     size_t missing = (steps - 1) * layout.entries;
     memset(samples, 0, missing * sizeof *samples);
@@ -227,6 +236,7 @@ MEASURED uint8_t plain_receive(uint8_t state[5], const uint8_t *cell, size_t cel
     unpack(&layout, cell, samples + missing, ancillary + missing, marks + missing);
     state[RIME_RECEIVER_STARTED] = true;
     state[RIME_RECEIVER_LAST] = number;
+    for (int octet = 0; octet < 4; octet++) state[RIME_RECEIVER_COUNT + octet] = (uint8_t)(count >> 8 * octet);
     report[RIME_REPORT_MISSING] = (uint8_t)(steps - 1);
     report[RIME_REPORT_NUMBER] = number;
     report[RIME_REPORT_SECOND] = second;

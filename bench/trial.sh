@@ -37,7 +37,7 @@ mod network;
 
 fn main() {
     let mut sender = [0u8; 7];
-    let mut receiver = [0u8; 5];
+    let mut receiver = [0u8; 9];
     let mut cell = [0u8; 48];
     let mut samples = [0u64; 180];
     let mut ancillary = [0u8; 180];
@@ -53,6 +53,7 @@ fn main() {
     boxes::rime_receiver_open(0x56, 2, 0, &mut receiver);
     boxes::rime_send(&mut sender, false, &samples, &ancillary, &mut cell);
     boxes::rime_receive(&mut receiver, &cell, false, &mut samples, &mut ancillary, &mut marks, &mut report);
+    boxes::rime_receiver_placed(&receiver);
     frames::rime_aes3_import(&preambles, &subframes, &mut two, &mut beside);
     frames::rime_aes3_export(&two, &beside, &mut preambles, &mut subframes);
     network::rime_units_export(0x06, 2, 100, &samples, &ancillary, &mut cell, &mut told);
@@ -91,10 +92,10 @@ def run(n):
             f'  %e{n} = getelementptr i8, ptr %s{n}, i64 8\n  store i64 %n{n}, ptr %e{n}, align 8\n')
 
 
-def function(name, parameters, arguments, runs, file='boxes'):
+def function(name, parameters, arguments, runs, file='boxes', answer='i8'):
     made = ''.join(run(n) for n in range(1, runs + 1))
-    return (f'define zeroext i8 @{name}({parameters}) {{\n{made}  %r = call i8 @"face::{file}::{name}"({arguments})\n'
-            '  ret i8 %r\n}\n')
+    return (f'define zeroext {answer} @{name}({parameters}) {{\n{made}  %r = call {answer} @"face::{file}::{name}"({arguments})\n'
+            f'  ret {answer} %r\n}}\n')
 
 
 def lent(n):
@@ -109,6 +110,7 @@ opening = 'i32 %a, i32 %b, i32 %c, i32 %d, i1 zeroext %e, i32 %f, ptr %g'
 text += function('rime_sender_open', opening, opening, 0)
 opening = 'i32 %a, i32 %b, i32 %c, ptr %d'
 text += function('rime_receiver_open', opening, opening, 0)
+text += function('rime_receiver_placed', 'ptr %a', 'ptr %a', 0, answer='i32')
 frame = 'ptr %a, ptr %b, ptr %c, ptr %d'
 for name in ('rime_aes3_import', 'rime_aes3_export'):
     text += function(name, frame, frame, 0, 'frames')

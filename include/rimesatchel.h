@@ -5,11 +5,11 @@
  * marks. Nothing here allocates, keeps anything between two calls, or reads or writes anything but what it is lent:
  * all state is the caller's, in the arrays below, and may hold any octets whatever.
  *
- * Every function but rime_check_character returns a refusal number, RIME_DONE (0) where there is none. A call never
- * does half of its work. A refusal leaves every lent run and the state as they were, and fills `report`, `out` of
- * rime_status_step, `header`, `record`, `units`, `*entries`, `answer` or the two entries or halves of a frame with zeros; an
- * opening that is refused fills `state` with zeros, which is itself refused 1. Where several refusals apply, the first in
- * the order of the list at each function is given.
+ * Every function but rime_check_character and rime_receiver_placed returns a refusal number, RIME_DONE (0) where there
+ * is none. A call never does half of its work. A refusal leaves every lent run and the state as they were, and fills
+ * `report`, `out` of rime_status_step, `header`, `record`, `units`, `*entries`, `answer` or the two entries or halves of
+ * a frame with zeros; an opening that is refused fills `state` with zeros, which is itself refused 1. Where several
+ * refusals apply, the first in the order of the list at each function is given.
  *
  * Lent memory: a run is a pointer and the number of its entries. A pointer is never NULL (a run of no entries may
  * point anywhere else), and no two arguments of one call overlap.
@@ -29,7 +29,7 @@ extern "C" {
 enum {
     RIME_CELL_OCTETS = 48,
     RIME_SENDER_STATE = 7,
-    RIME_RECEIVER_STATE = 5,
+    RIME_RECEIVER_STATE = 9,
     RIME_REPORT = 4,
     RIME_BLOCK = 25,
     RIME_OUT = 25,
@@ -84,6 +84,7 @@ enum {
     RIME_REFUSED_INDICATED = 15,  /* a cell that comes with indication 1 where its number isn't a multiple of 8 */
     RIME_REFUSED_PREAMBLES = 16,  /* the preambles of a frame aren't X then Y, or Z then Y */
     RIME_REFUSED_PARITY = 17,     /* odd parity over slots 4 to 31 in either half of a frame */
+    RIME_REFUSED_COUNT = 20,      /* the count of cells placed would pass 4,294,967,295 */
     RIME_REFUSED_PLAN = 22,       /* more than 64 circuits or 1,024 channels */
     RIME_REFUSED_FREQUENCY = 23,  /* a sampling frequency of 0 or above 1,000,000 */
     RIME_REFUSED_OVERHEAD = 26,   /* data units: a format with overhead */
@@ -110,7 +111,8 @@ enum {
     RIME_RECEIVER_CHANNELS = 1,
     RIME_RECEIVER_ORDER = 2,
     RIME_RECEIVER_STARTED = 3,    /* yes: a cell was accepted */
-    RIME_RECEIVER_LAST = 4        /* number of the last accepted cell, 0 before it and without overhead */
+    RIME_RECEIVER_LAST = 4,       /* number of the last accepted cell, 0 before it and without overhead */
+    RIME_RECEIVER_COUNT = 5       /* four octets, least significant first: cells placed since the opening */
 };
 
 /* Places in what rime_receive reports. */
@@ -156,8 +158,8 @@ uint8_t rime_send(uint8_t state[RIME_SENDER_STATE], bool indication, const uint6
                   const uint8_t *ancillary, size_t ancillary_len, uint8_t *cell, size_t cell_len);
 
 /*
- * Opens a receiver: leaves in `state` one that is not started, with last number 0. The first cell that it accepts
- * starts it, whatever its number. Numbers are judged as they stand, never cut.
+ * Opens a receiver: leaves in `state` one that is not started, with last number 0 and count 0. The first cell that it
+ * accepts starts it, whatever its number. Numbers are judged as they stand, never cut.
  * Refused: 1, the octet is none of the fourteen; 2, `channels` is 0 or above S; 3, `order` is above 1.
  */
 uint8_t rime_receiver_open(uint32_t format, uint32_t channels, uint32_t order, uint8_t state[RIME_RECEIVER_STATE]);
@@ -167,13 +169,14 @@ uint8_t rime_receiver_open(uint32_t format, uint32_t channels, uint32_t order, u
  * the first cell, nor ever without overhead). Writes from the start of the three runs C * T entries of sample 0,
  * ancillary 0 and mark 2 for each missing cell, then the cell's own C * T entries with mark 0, or 1 where the three
  * protection bits disagree. Entries past these stay. 15 * C * T entries are always room enough. Leaves in `state` the
- * cell's number and started as 1; in `report` the missing count, the number, the second number (each 0 where the
- * format has none), and `indication` as it came.
+ * cell's number, started as 1 and the count greater by d (by 1 at the first cell and without overhead); in `report` the
+ * missing count, the number, the second number (each 0 where the format has none), and `indication` as it came.
  * Refused, with `state` and the runs untouched: 1, 2 and 3 of what stands in `state`; 4, a last number above 15, or not
- * 0 in a state not started or without overhead; 5, `cell` isn't 48 octets or the runs aren't equally long; 8, with
- * overhead, the eight number bits are in no entry of Table A.1; 15, with overhead, `indication` is true and the number
- * isn't a multiple of 8, at the first cell too; 9, d is 0; 10, the runs are shorter than d * C * T (C * T at the first
- * cell): the same cell may be given again with more room.
+ * 0 in a state not started or without overhead, or a count that isn't 0 in a state not started; 5, `cell` isn't 48
+ * octets or the runs aren't equally long; 8, with overhead, the eight number bits are in no entry of Table A.1; 15, with
+ * overhead, `indication` is true and the number isn't a multiple of 8, at the first cell too; 9, d is 0; 20, the count
+ * would pass 4,294,967,295, which itself is reached; 10, the runs are shorter than d * C * T (C * T at the first cell):
+ * the same cell may be given again with more room.
  *
  * Before you connect another maker's sender: by clause 4.5.3 of the standard it sets the indication in the last cell of
  * every block, which has number 7 or 15. This receiver refuses those cells, 15: every eighth cell of such a sender is
@@ -182,6 +185,13 @@ uint8_t rime_receiver_open(uint32_t format, uint32_t channels, uint32_t order, u
 uint8_t rime_receive(uint8_t state[RIME_RECEIVER_STATE], const uint8_t *cell, size_t cell_len, bool indication,
                      uint64_t *samples, size_t samples_len, uint8_t *ancillary, size_t ancillary_len,
                      uint8_t *marks, size_t marks_len, uint8_t report[RIME_REPORT]);
+
+/*
+ * Returns how many cells the receiver has placed since it was opened, sound and missing together: the sound cells plus
+ * the missing counts of the calls made since, as the count in `state` has it. A refused call doesn't move it. Any nine
+ * octets will do: nothing is refused, and nothing else of the state is looked at.
+ */
+uint32_t rime_receiver_placed(const uint8_t state[RIME_RECEIVER_STATE]);
 
 /*
  * Brings one channel's status block forward by one entry that the receiver wrote. `block` is the count of bits begun

@@ -14,7 +14,7 @@ use Rattle.receiver.specs.Receiver as R
 use Rattle.line.specs.Contracts.{MeetsSend, ReceiveCall, MeetsReceive}
 use Rattle.line.specs.Demands.{receiveTable}
 use Rattle.line.specs.Line.{Fate, unaltered, Arrival, handed, Demand3}
-use Rattle.line.proofs.Examples.{always-room, studio, studioAt, fresh, sent, trips, call, receiving, promised, receives, hands}
+use Rattle.line.proofs.Examples.{always-room, studio, studioAt, fresh, sent, trips, call, receiving, promised, receives, plays}
 use Rattle.line.proofs.Opened.{opened}
 
 -- A receiver that takes a repeat, where it should refuse it by 9, for a cell after this many missing ones. With fifteen it takes it
@@ -63,11 +63,13 @@ again missing =
     (entriesAfter missing 0 st (R.ancillaryNow st (one .cell))) (entriesAfter missing 2 st (R.marksNow st (one .cell)))
 
 -- it hands out the cell's five places and no more
-only-five : (missing : ℕ) → Demand3 3 14 MeetsSend (TakesRepeats missing) → length (handed (first ∷ again missing ∷ [])) ≡ 5
+only-five : (missing : ℕ) → Demand3 3 14 4294967295 MeetsSend (TakesRepeats missing)
+    → length (handed (first ∷ again missing ∷ [])) ≡ 5
 unfolding opened trips came-twice
 only-five missing meets =
     ap length
-    (hands 3 14 (TakesRepeats missing) meets came-twice refl (tt, tt) (omega arith) (first ∷ again missing ∷ []) (
+    (plays 3 14 4294967295 (TakesRepeats missing) meets came-twice refl (omega arith) (tt, tt) (omega arith)
+    (first ∷ again missing ∷ []) (
       refl,
       promised _ _,
       (
@@ -76,13 +78,14 @@ only-five missing meets =
         tt,
       ),
     )
-    refl (always-room refl refl (omega arith), (always-room refl refl (omega arith), tt)))
+    refl (always-room refl refl (omega arith), (always-room refl refl (omega arith), tt))
+    .handed-out)
 
-pub not-sixteen-on : Demand3 3 14 MeetsSend (TakesRepeats 15) → ⊥
+pub not-sixteen-on : Demand3 3 14 4294967295 MeetsSend (TakesRepeats 15) → ⊥
 unfolding opened
 not-sixteen-on meets = let places : _≡_ {A = ℕ} 85 5 = only-five 15 meets in omega arith
 
-pub not-written-twice : Demand3 3 14 MeetsSend (TakesRepeats 0) → ⊥
+pub not-written-twice : Demand3 3 14 4294967295 MeetsSend (TakesRepeats 0) → ⊥
 unfolding opened
 not-written-twice meets = let places : _≡_ {A = ℕ} 10 5 = only-five 0 meets in omega arith
 

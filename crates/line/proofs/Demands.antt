@@ -10,6 +10,7 @@ use Rattle.runs.specs.Runs.{over}
 use Rattle.formats.specs.Formats.{settingsRefusal}
 use Rattle.sender.specs.declared.Ready as SR
 use Rattle.sender.specs.Sender as S
+use Rattle.receiver.specs.declared.Receiver.{Receiver}
 use Rattle.receiver.specs.declared.Ready.{Ready}
 use Rattle.receiver.specs.Receiver as R
 use Rattle.status.specs.declared.step.Block.{Block}
@@ -39,6 +40,7 @@ use Rattle.line.specs.Contracts.{
   MeetsReceive,
   MeetsOpenSender,
   MeetsOpenReceiver,
+  MeetsPlaced,
   MeetsStep,
   MeetsReadNumber,
   MeetsReadHeader,
@@ -71,9 +73,10 @@ use Rattle.line.specs.Demands.{
   GivesBack,
   Tells,
 }
-use Rattle.line.specs.Line.{OverTheLine, Demand3, refusals, refusalsOf}
+use Rattle.line.specs.Line.{OverTheLine, Demand3, refusals, refusalsOf, CountsCells}
 use Rattle.line.proofs.Calls.{sends-or-nothing, receives-or-nothing, gives-back, tells}
 use Rattle.line.proofs.Cells.{is-document-01's}
+use Rattle.line.proofs.Counts.{counts-cells}
 use Rattle.line.proofs.Places.{longest-inside, demand-3-inside}
 use Rattle.line.proofs.Refused.{
   opens-sender,
@@ -110,6 +113,10 @@ demand-1-open-sender = opens-sender
 pub demand-1-open-receiver : (octet channels order : ℕ) (r : Ready) → MeetsOpenReceiver octet channels order r
     → Refuses (r .refusal) (settingsRefusal octet channels order) (r .state ≡ R.zeroState)
 demand-1-open-receiver = opens-receiver
+
+-- it refuses nothing
+pub demand-1-placed : (st : Receiver) (r : ℕ) → MeetsPlaced st r → r ≡ st .count
+demand-1-placed st r meets = meets
 
 pub demand-1-status : (block : Block) (ancillary mark : ℕ) (r : Stepped) → MeetsStep block ancillary mark r
     → Refuses (r .handed .refusal) (cond (isRefused (block .bits) ancillary mark) 14 0) (SteppedNothing block r)
@@ -201,13 +208,23 @@ demand-2-numbers = tells
 --
 -- Request 10: "Demand 3 also holds where a cell, as it first came, is delivered again any number of times before the next sent cell
 -- arrives." A cell's fate has that number.
-pub demand-3 : Demand3 3 14 MeetsSend MeetsReceive
+--
+-- Request 5: "Demand 3 then holds for at most 4,294,967,295 cells sent, and also says that this number is the last unaltered cell's
+-- place counted from the first unaltered one, plus 1, or 0 where no cell came unaltered."
+pub demand-3 : Demand3 3 14 4294967295 MeetsSend MeetsReceive
 unfolding Demand3
-demand-3 st sends trips receives with-overhead row these fair few meets came room =
-    demand-3-inside st sends trips receives with-overhead row these fair (le-trans (longest-inside trips) few) meets came room .handed-out
+demand-3 st sends trips receives with-overhead row these within fair few meets came room =
+    demand-3-inside st sends trips receives with-overhead row these within fair (le-trans (longest-inside trips) few) meets came room
+    .comes-out
 
--- "Extra copies of an unaltered cell are refused 9 and leave nothing behind": the latter is demand 1's.
-pub demand-3-copies : OverTheLine 3 14 MeetsSend MeetsReceive
-    (λ trips receives. refusals receives ≡ flatMap (λ t. refusalsOf (t .fate)) trips)
-demand-3-copies st sends trips receives with-overhead row these fair few meets came room =
-    demand-3-inside st sends trips receives with-overhead row these fair (le-trans (longest-inside trips) few) meets came room .refused-so
+-- "Extra copies of an unaltered cell are refused 9 and leave nothing behind": the latter is demand 1's. No call of the row gets 20.
+pub demand-3-copies : OverTheLine 3 14 4294967295 MeetsSend MeetsReceive
+    (λ fresh trips receives. refusals receives ≡ flatMap (λ t. refusalsOf (t .fate)) trips)
+demand-3-copies st sends trips receives with-overhead row these within fair few meets came room =
+    demand-3-inside st sends trips receives with-overhead row these within fair (le-trans (longest-inside trips) few) meets came room
+    .refused-so
+
+-- Request 5: "Keep it in the receiver's state, true after every call: it equals the sound cells plus the missing counts of the calls
+-- made since the state was opened, and a refused call doesn't move it."
+pub count-after-every-call : CountsCells MeetsReceive
+count-after-every-call = counts-cells

@@ -25,6 +25,8 @@ use Rattle.receiver.proofs.opened.Kinds as open-receiver-kinds
 use Rattle.receiver.proofs.opened.Reads as open-receiver-reads
 use Rattle.receiver.proofs.receive.Kinds as receive-kinds
 use Rattle.receiver.proofs.receive.Reads as receive-reads
+use Rattle.receiver.proofs.placed.Kinds as placed-kinds
+use Rattle.receiver.proofs.placed.Reads as placed-reads
 use Rattle.status.specs.declared.step.Handed.{Handed}
 use Rattle.status.proofs.step.step.Kinds as step-kinds
 use Rattle.status.proofs.step.step.Reads as step-reads
@@ -74,6 +76,7 @@ use Rattle.line.specs.Contracts.{
   MeetsReceive,
   MeetsOpenSender,
   MeetsOpenReceiver,
+  MeetsPlaced,
   MeetsStep,
   MeetsReadNumber,
   MeetsReadHeader,
@@ -135,6 +138,9 @@ pub receive-ensures : Ensured receive-kinds.ps receive-kinds.r receive-reads.Pos
       marks-after = v .1 .1 .1 .1 .1 .0;
     }))
 receive-ensures κs a x v p = p
+
+pub placed-ensures : Ensured placed-kinds.ps placed-kinds.r placed-reads.Post (λ κs a x v. MeetsPlaced (a .0) x)
+placed-ensures κs a x v p = p
 
 pub step-ensures : Ensured step-kinds.ps step-kinds.r step-reads.Post (λ κs a x v. MeetsStep (a .0) (a .1 .0) (a .1 .1 .0) x)
 step-ensures κs a x v p = p

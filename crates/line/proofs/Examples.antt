@@ -1,7 +1,7 @@
 -- Calls of both boxes to try demand 3 on: a sender of five channels in 5A hex, and a receiver with three runs of eighty entries.
 -- Assumes nothing.
 use mathlib.Core.Bool.{true, false}
-use mathlib.Core.List.{List, [], _∷_, map, flatMap}
+use mathlib.Core.List.{List, [], _∷_, map}
 use mathlib.Core.Path.{_≡_, refl, ap}
 use Prim.Native.Nat.{ℕ, _*_, _≤_}
 use native.Mathlib.Nat.{suc-ne-zero}
@@ -31,10 +31,7 @@ use Rattle.line.specs.Line.{
   arrivals,
   taken,
   WithRoom,
-  handed,
-  placesOf,
-  fromFirst,
-  toLast,
+  ComesOut,
   Demand3,
 }
 use Rattle.line.proofs.Opened.{opened}
@@ -132,22 +129,23 @@ receives-with-room rc (a ∷ came) few =
     (always-room refl refl (omega arith), receives-with-room (receiving rc a .answer .state) came (rw (used-stays rc a) few))
 
 -- demand 3 on such calls of `send`, and on such calls of `receive` too
-module _ (most row : ℕ) (Box : ReceiveCall → Type 0) (meets : Demand3 most row MeetsSend Box) (xs : List (ℕ × Fate))
-    (none-refused : sends studio xs ≡ wrote (sends studio xs)) (fair : Each (λ t. Fair most (t .sent) (t .fate)) (trips studio xs))
-    (few : longest 0 (trips studio xs) ≤ row)
+module _ (most row cells : ℕ) (Box : ReceiveCall → Type 0) (meets : Demand3 most row cells MeetsSend Box) (xs : List (ℕ × Fate))
+    (none-refused : sends studio xs ≡ wrote (sends studio xs)) (within : length (trips studio xs) ≤ cells)
+    (fair : Each (λ t. Fair most (t .sent) (t .fate)) (trips studio xs)) (few : longest 0 (trips studio xs) ≤ row)
   where
-    pub hands : (calls : List ReceiveCall) → Receiving Box fresh calls → map taken calls ≡ arrivals (trips studio xs) → Each WithRoom calls
-        → handed calls ≡ flatMap placesOf (toLast (fromFirst (trips studio xs)))
+    pub plays : (calls : List ReceiveCall) → Receiving Box fresh calls → map taken calls ≡ arrivals (trips studio xs) → Each WithRoom calls
+        → ComesOut fresh (trips studio xs) calls
     unfolding opened
-    hands calls =
-        meets studio (sends studio xs) (trips studio xs) calls (λ e. suc-ne-zero 3 e) (sends-in-a-row studio xs) none-refused fair few
+    plays calls =
+        meets studio (sends studio xs) (trips studio xs) calls (λ e. suc-ne-zero 3 e) (sends-in-a-row studio xs) none-refused within fair few
 
-pub honest-hands : (most row : ℕ) → Demand3 most row MeetsSend MeetsReceive → (xs : List (ℕ × Fate)) → sends studio xs ≡ wrote (sends studio xs)
+pub honest-plays : (most row cells : ℕ) → Demand3 most row cells MeetsSend MeetsReceive → (xs : List (ℕ × Fate))
+    → sends studio xs ≡ wrote (sends studio xs) → length (trips studio xs) ≤ cells
     → Each (λ t. Fair most (t .sent) (t .fate)) (trips studio xs) → longest 0 (trips studio xs) ≤ row
-    → handed (receives fresh (arrivals (trips studio xs))) ≡ flatMap placesOf (toLast (fromFirst (trips studio xs)))
+    → ComesOut fresh (trips studio xs) (receives fresh (arrivals (trips studio xs)))
 unfolding opened
-honest-hands most row meets xs none-refused fair few =
-    hands most row MeetsReceive meets xs none-refused fair few (receives fresh (arrivals (trips studio xs)))
+honest-plays most row cells meets xs none-refused within fair few =
+    plays most row cells MeetsReceive meets xs none-refused within fair few (receives fresh (arrivals (trips studio xs)))
     (receives-in-a-row fresh _) (receives-these fresh _) (receives-with-room fresh _ (omega arith))
 
 -- a sender whose next cell has this number

@@ -1,13 +1,16 @@
+pub mod Bound
 pub mod Calls
 pub mod Cases
 pub mod Cells
 pub mod Copies
+pub mod Counts
 pub mod Demands
 pub mod Ensures
 pub mod Examples
 pub mod Frames
 pub mod Opened
 pub mod Places
+pub mod Recounts
 pub mod Refused
 pub mod Repeats
 pub mod Rows

@@ -47,11 +47,11 @@ unfolding S.cellNow S.sentOf S.cellAfter
 sent = tt
 
 receiver : Unit {0}
-unfolding R.lastRefused R.stateRefusal R.lengthsRefused R.foundNow R.gapOf R.receiveRefusal R.entriesNow R.secondNow R.after R.receivedOf R.entriesGiven
+unfolding R.openedOf R.lastRefused R.countRefused R.stateRefusal R.lengthsRefused R.foundNow R.gapOf R.countAfter R.receiveRefusal R.entriesNow R.secondNow R.after R.receivedOf R.entriesGiven
 receiver = tt
 
 line : Unit {0}
-unfolding L.Row L.wrote L.Each L.longest L.placesOf L.fromFirst L.allLost L.toLast L.Demand3
+unfolding L.Row L.wrote L.Each L.longest L.placesOf L.fromFirst L.allLost L.toLast L.pastLast L.leftBy L.total L.CountsCells L.Demand3
 line = tt
 
 unfoldable pub opened : Unit {0}

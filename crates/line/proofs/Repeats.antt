@@ -1,6 +1,6 @@
 -- The same cell once more: what a receiver says to it that has just taken it.
 -- Assumes nothing.
-use mathlib.Core.Bool.{Bool, true, false, cond, not, _&&_}
+use mathlib.Core.Bool.{Bool, true, false, cond, not, _&&_, _||_}
 use mathlib.Core.List.{List, [], _∷_}
 use mathlib.Core.Path.{_≡_, refl, sym, _∙_, ap, subst}
 use Prim.Native.Nat.{ℕ, _+_, _*_, _%_, _-_, _≤_, _<_}
@@ -34,7 +34,8 @@ pub late : (st : Receiver) (cell : List ℕ) (indication : Bool) (samples ancill
     → length cell ≡ 48 → ancillary ≡ samples → marks ≡ samples → refusalOf (R.foundNow st cell) ≡ 0
     → R.receiveRefusal st cell indication samples ancillary marks
     ≡ cond (indicationRefused (R.numberNow st cell) indication) 15
-    (cond (eqb (R.gapOf st cell) 0) 9 (cond (ltb samples (R.gapOf st cell * R.usedNow st)) 10 0))
+    (cond (eqb (R.gapOf st cell) 0) 9
+    (cond (ltb 4294967295 (R.countAfter st cell)) 20 (cond (ltb samples (R.gapOf st cell * R.usedNow st)) 10 0)))
 unfolding R.receiveRefusal R.lengthsRefused
 late st cell indication samples ancillary marks state whole ancillary-equal marks-equal found =
     then-later _ state ∙ rw (eq-eqb _ _ whole, eq-eqb _ _ ancillary-equal, eq-eqb _ _ marks-equal) (then-later _ found)
@@ -58,11 +59,12 @@ module _ (st : Receiver) (cell : List ℕ) (with-overhead : formatOf (st .format
   and-false true = refl
   and-false false = refl
 
-  last-passes : R.lastRefused (R.after st cell) ≡ false
-  unfolding R.lastRefused R.after
-  last-passes =
+  fourth-passes : R.lastRefused (R.after st cell) || R.countRefused (R.after st cell) ≡ false
+  unfolding R.lastRefused R.countRefused R.after
+  fourth-passes =
       let low : R.numberNow st cell ≤ 15 = omega (arith, number-lt) in
-      rw (le-ltb 15 _ low, ne-eqb _ 0 with-overhead) (and-false (not (eqb (R.numberNow st cell) 0)))
+      rw (le-ltb 15 _ low, ne-eqb _ 0 with-overhead)
+      (ap (λ (b : Bool). b || false) (and-false (not (eqb (R.numberNow st cell) 0))))
 
   no-gap : R.gapOf (R.after st cell) cell ≡ 0
   unfolding R.after R.foundNow
@@ -79,7 +81,7 @@ module _ (st : Receiver) (cell : List ℕ) (with-overhead : formatOf (st .format
       let here = late st cell indication samples ancillary marks (early .state-none) (early .whole) (early .ancillary-length)
       (early .marks-length) (passed .found) in
       let rightly = past (indicationRefused (R.numberNow st cell) indication) 14 _ (sym here ∙ none) .0 in
-      let state : R.stateRefusal (R.after st cell) ≡ 0 = then-later _ (early .settings) ∙ rw last-passes in
+      let state : R.stateRefusal (R.after st cell) ≡ 0 = then-later _ (early .settings) ∙ rw fourth-passes in
       late (R.after st cell) cell indication room room room state (early .whole) refl refl (passed .found)
       ∙ rw (rightly, eq-eqb _ 0 no-gap)
 

@@ -31,6 +31,7 @@ use Rattle.line.specs.Line.{
   WithRoom,
   Place,
   handed,
+  leftBy,
   Demand3,
   refusals,
 }
@@ -50,8 +51,8 @@ use Rattle.line.proofs.Examples.{
   receives-in-a-row,
   receives-these,
   receives-with-room,
-  hands,
-  honest-hands,
+  plays,
+  honest-plays,
   studioAt,
   sent,
 }
@@ -61,23 +62,23 @@ use Rattle.line.proofs.Opened.{opened}
 lost-fifteen : List (ℕ × Fate)
 lost-fifteen = ((1, unaltered 0) ∷ replicate 15 (0, dropped)) ++ ((2, unaltered 0) ∷ [])
 
-pub not-fifteen : Demand3 3 15 MeetsSend MeetsReceive → ⊥
+pub not-fifteen : Demand3 3 15 4294967295 MeetsSend MeetsReceive → ⊥
 unfolding opened trips receives lost-fifteen
 not-fifteen meets =
-    let kept = honest-hands 3 15 meets lost-fifteen refl
+    let kept = honest-plays 3 15 4294967295 meets lost-fifteen refl (omega arith)
     (tt, (tt, (tt, (tt, (tt, (tt, (tt, (tt, (tt, (tt, (tt, (tt, (tt, (tt, (tt, (tt, (tt, tt))))))))))))))))) (omega arith) in
-    let lengths : _≡_ {A = ℕ} 5 85 = ap length kept in
+    let lengths : _≡_ {A = ℕ} 5 85 = ap length (kept .handed-out) in
     omega arith
 
 -- Four altered bits may make another entry: number 1's eight bits and number 3's differ in four, and the cell is taken for number 3's.
 four-altered : List (ℕ × Fate)
 four-altered = (1, unaltered 0) ∷ (2, spoiled (sending (studioAt 3) 2 .written) false 0) ∷ []
 
-pub not-four-bits : Demand3 4 14 MeetsSend MeetsReceive → ⊥
+pub not-four-bits : Demand3 4 14 4294967295 MeetsSend MeetsReceive → ⊥
 unfolding opened trips receives four-altered
 not-four-bits meets =
-    let kept = honest-hands 4 14 meets four-altered refl (tt, ((omega arith, omega arith), tt)) (omega arith) in
-    let lengths : _≡_ {A = ℕ} 20 5 = ap length kept in
+    let kept = honest-plays 4 14 4294967295 meets four-altered refl (omega arith) (tt, ((omega arith, omega arith), tt)) (omega arith) in
+    let lengths : _≡_ {A = ℕ} 20 5 = ap length (kept .handed-out) in
     omega arith
 
 -- A sender that answers as it should and always gives the zero cell.
@@ -97,14 +98,14 @@ zeros =
       written = replicate 48 0;
     }
 
-pub not-zero-cell : Demand3 3 14 ZeroCell MeetsReceive → ⊥
+pub not-zero-cell : Demand3 3 14 4294967295 ZeroCell MeetsReceive → ⊥
 unfolding opened receives
 not-zero-cell meets =
     let came : List Arrival = record { cell = replicate 48 0; indication = false } ∷ [] in
     let kept = meets studio (zeros ∷ []) (record { sent = zeros; fate = unaltered 0 } ∷ []) (receives fresh came) (λ e. suc-ne-zero 3 e)
-    (refl, record { answer-right = refl; always-zero = refl }, tt) refl (tt, tt) (omega arith)
+    (refl, record { answer-right = refl; always-zero = refl }, tt) refl (omega arith) (tt, tt) (omega arith)
     (receives-in-a-row fresh came) (receives-these fresh came) (receives-with-room fresh came (omega arith)) in
-    let lengths : _≡_ {A = ℕ} 0 5 = ap length kept in
+    let lengths : _≡_ {A = ℕ} 0 5 = ap length (kept .handed-out) in
     omega arith
 
 -- A receiver that unpacks its first cell and only nods at later ones: it answers as it should and writes nothing.
@@ -124,16 +125,16 @@ Nods c = NodsWhen (c .state .started) c
 both-sent : List (ℕ × Fate)
 both-sent = (1, unaltered 0) ∷ (2, unaltered 0) ∷ []
 
-pub not-nodding : Demand3 3 14 MeetsSend Nods → ⊥
+pub not-nodding : Demand3 3 14 4294967295 MeetsSend Nods → ⊥
 unfolding opened trips both-sent
 not-nodding meets =
     let first = receiving fresh (sent studio 1) in
     let here = first .answer .state in
     let next = call here (sent (studioAt 1) 2) (answered here (sent (studioAt 1) 2)) [] [] [] in
-    let kept = hands 3 14 Nods meets both-sent refl (tt, (tt, tt)) (omega arith) (first ∷ next ∷ [])
+    let kept = plays 3 14 4294967295 Nods meets both-sent refl (omega arith) (tt, (tt, tt)) (omega arith) (first ∷ next ∷ [])
     (refl, promised _ _, (refl, record { answer-right = refl; samples-stay = refl; ancillary-stays = refl; marks-stay = refl }, tt))
     refl (always-room refl refl (omega arith), (always-room refl refl (omega arith), tt)) in
-    let sixth : _≡_ {A = ℕ} 0 2 = ap (λ (l : List Place). getD l 5 (0, (0, 0)) .0) kept in
+    let sixth : _≡_ {A = ℕ} 0 2 = ap (λ (l : List Place). getD l 5 (0, (0, 0)) .0) (kept .handed-out) in
     omega arith
 
 -- the answer with one cell more told missing
@@ -171,26 +172,26 @@ only-one = (1, unaltered 0) ∷ []
 abbrev one : Arrival
 one = sent studio 1
 
-pub not-invented : Demand3 3 14 MeetsSend Invents → ⊥
+pub not-invented : Demand3 3 14 4294967295 MeetsSend Invents → ⊥
 unfolding opened trips only-one
 not-invented meets =
     let wrong = call fresh one (oneMoreMissing (answered fresh one)) (replicate 5 0 ++ R.samplesNow fresh (one .cell))
     (replicate 5 0 ++ R.ancillaryNow fresh (one .cell)) (replicate 5 2 ++ R.marksNow fresh (one .cell)) in
-    let kept = hands 3 14 Invents meets only-one refl (tt, tt) (omega arith) (wrong ∷ [])
+    let kept = plays 3 14 4294967295 Invents meets only-one refl (omega arith) (tt, tt) (omega arith) (wrong ∷ [])
     (refl, record { answer-invented = refl; samples-invented = refl; ancillary-invented = refl; marks-invented = refl }, tt)
     refl (always-room refl refl (omega arith), tt) in
-    let lengths : _≡_ {A = ℕ} 10 5 = ap length kept in
+    let lengths : _≡_ {A = ℕ} 10 5 = ap length (kept .handed-out) in
     omega arith
 
-pub not-misreported : Demand3 3 14 MeetsSend Misreports → ⊥
+pub not-misreported : Demand3 3 14 4294967295 MeetsSend Misreports → ⊥
 unfolding opened trips only-one
 not-misreported meets =
     let wrong = call fresh one (oneMoreMissing (answered fresh one)) (R.samplesNow fresh (one .cell)) (R.ancillaryNow fresh (one .cell))
     (R.marksNow fresh (one .cell)) in
-    let kept = hands 3 14 Misreports meets only-one refl (tt, tt) (omega arith) (wrong ∷ [])
+    let kept = plays 3 14 4294967295 Misreports meets only-one refl (omega arith) (tt, tt) (omega arith) (wrong ∷ [])
     (refl, record { answer-wrong = refl; samples-right = refl; ancillary-right = refl; marks-right = refl }, tt)
     refl (always-room refl refl (omega arith), tt) in
-    let lengths : _≡_ {A = ℕ} 10 5 = ap length kept in
+    let lengths : _≡_ {A = ℕ} 10 5 = ap length (kept .handed-out) in
     omega arith
 
 -- What demand 3 asks can be had: cells lost before the first unaltered one, between, and after the last, copies of lost and of unaltered
@@ -219,11 +220,13 @@ pub record CanBeHad (sent : List SendCall) (these : List Trip) (calls : List Rec
   pub in-a-row : Sending MeetsSend studio sent
   pub wrote-these : map (λ t. t .sent) these ≡ wrote sent
   pub fair : Each (λ t. Fair 3 (t .sent) (t .fate)) these
+  pub within : length these ≤ 4294967295
   pub few : longest 0 these ≤ 14
   pub meets : Receiving MeetsReceive fresh calls
   pub came : map taken calls ≡ arrivals these
   pub room : Each WithRoom calls
   pub marks : map (λ p. p .1 .1) (handed calls) ≡ replicate 5 0 ++ replicate 10 2 ++ replicate 5 0
+  pub placed : leftBy fresh calls .count ≡ 4
   pub refused : refusals calls ≡ 8 ∷ 8 ∷ 0 ∷ 9 ∷ 9 ∷ 8 ∷ 0 ∷ 9 ∷ replicate 4 8
 
 pub can-be-had : CanBeHad (tooLarge studio ∷ sends studio lossy) (trips studio lossy) (receives fresh (arrivals (trips studio lossy)))
@@ -234,10 +237,12 @@ can-be-had =
       in-a-row = (refl, record { answered = refl; cell-after = refl }, sends-in-a-row studio lossy);
       wrote-these = refl;
       fair = ((omega arith, omega arith), (tt, (tt, ((omega arith, omega arith), (tt, (tt, ((omega arith, omega arith), tt)))))));
+      within = omega arith;
       few = omega arith;
       meets = receives-in-a-row fresh (arrivals (trips studio lossy));
       came = receives-these fresh (arrivals (trips studio lossy));
       room = receives-with-room fresh (arrivals (trips studio lossy)) (omega arith);
       marks = refl;
+      placed = refl;
       refused = refl;
     }

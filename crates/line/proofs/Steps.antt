@@ -7,7 +7,7 @@ use Prim.Native.Nat.{ℕ, zero, suc, _+_, _*_, _%_, _-_, _≤_, _<_}
 use native.Mathlib.Nat.{mod-add-mod, mod-eq-of-lt, add-mod-right, suc-mul, suc-ne-zero}
 use native.Mathlib.Numerals.{add-one}
 use native.Mathlib.Omega.{arith}
-use borrow.Author.Tests.{ne-eqb, eq-eqb, eqb-true, eqb-false}
+use borrow.Author.Tests.{ne-eqb, eq-eqb, le-ltb, eqb-true, eqb-false}
 use lib.Bits.{bitXor, xor-self}
 use lib.Count.{ones, onesIn}
 use lib.Dec.{eqb, ltb}
@@ -83,6 +83,7 @@ pub record Took (s : SendCall) (c : ReceiveCall) (gap : ℕ) : Type 0 where
   pub settings : InSettings (s .answer .state) (c .answer .state)
   pub started : c .answer .state .started ≡ true
   pub last : c .answer .state .last ≡ s .state .number
+  pub counted : c .answer .state .count ≡ c .state .count + suc gap
   pub hands : handedBy c
       ≡ replicate (gap * S.usedNow (s .state)) missing ++ places (s .samples) (s .ancillary) (replicate (S.usedNow (s .state)) 0)
 
@@ -125,13 +126,15 @@ module _ (s : SendCall) (sends : MeetsSend s) (sent : s .answer .refusal ≡ 0) 
 
   -- a call on it by a receiver in the sender's settings
   module _ (c : ReceiveCall) (receives : MeetsReceive c) (same : InSettings (s .state) (c .state)) where
-    -- checks 1 to 4 pass where the last number does
-    state-none : R.lastRefused (c .state) ≡ false → R.stateRefusal (c .state) ≡ 0
+    -- checks 1 to 4 pass where the last number and the count do
+    state-none : R.lastRefused (c .state) || R.countRefused (c .state) ≡ false → R.stateRefusal (c .state) ≡ 0
     unfolding R.stateRefusal
-    state-none last-passes =
-        (λ i. orElse (settingsRefusal (same .format i) (same .channels i) (same .order i)) (cond (R.lastRefused (c .state)) 4 0))
+    state-none fourth-passes =
+        (λ i.
+        orElse (settingsRefusal (same .format i) (same .channels i) (same .order i))
+        (cond (R.lastRefused (c .state) || R.countRefused (c .state)) 4 0))
         ∙ then-later _ (settings-none s sends sent)
-        ∙ rw last-passes
+        ∙ rw fourth-passes
 
     -- a spoiled cell
     module _ {came : List ℕ} (arrived : c .cell ≡ came) (some : 1 ≤ alteredIn s came) (few : alteredIn s came ≤ 3) where
@@ -144,18 +147,20 @@ module _ (s : SendCall) (sends : MeetsSend s) (sent : s .answer .refusal ≡ 0) 
           ∙ (rw (ne-eqb (formatIn s .«overhead_bits») 0 with-overhead))
           ∙ off-table came some few
 
-      -- it is refused 8, or 5 where it came with another number of octets, where the last number passes and the runs have room
-      pub spoiled-gets : R.lastRefused (c .state) ≡ false → WithRoom c → c .answer .refusal ≡ cond (eqb (length came) 48) 8 5
+      -- it is refused 8, or 5 where it came with another number of octets, where check 4 passes and the runs have room
+      pub spoiled-gets : R.lastRefused (c .state) || R.countRefused (c .state) ≡ false → WithRoom c
+          → c .answer .refusal ≡ cond (eqb (length came) 48) 8 5
       unfolding R.receiveRefusal R.lengthsRefused
-      spoiled-gets last-passes room =
+      spoiled-gets fourth-passes room =
           received-refusal c receives
-          ∙ then-later _ (state-none last-passes)
+          ∙ then-later _ (state-none fourth-passes)
           ∙ rw (eq-eqb _ _ (room .ancillary-equal), eq-eqb _ _ (room .marks-equal))
           (by-length (eqb (length (c .cell)) 48) _ no-number ∙ ap (λ (l : List ℕ). cond (eqb (length l) 48) 8 5) arrived)
 
     -- an unaltered one is taken where the state passes and the gap is some
     module _ (arrived : c .cell ≡ s .written) (indicated : c .indication ≡ s .indication) (room : WithRoom c)
-        (last-passes : R.lastRefused (c .state) ≡ false) {gap : ℕ} (gap-is : R.gapOf (c .state) (c .cell) ≡ suc gap)
+        (fourth-passes : R.lastRefused (c .state) || R.countRefused (c .state) ≡ false)
+        {gap : ℕ} (gap-is : R.gapOf (c .state) (c .cell) ≡ suc gap) (within : R.countAfter (c .state) (c .cell) ≤ 4294967295)
       where
         found-here : R.foundNow (c .state) (c .cell) ≡ Number (s .state .number)
         found-here = found-there s sends sent with-overhead c same arrived
@@ -165,9 +170,9 @@ module _ (s : SendCall) (sends : MeetsSend s) (sent : s .answer .refusal ≡ 0) 
         unaltered-taken =
             let some : R.gapOf (c .state) (c .cell) ≡ 0 → ⊥ = λ e. suc-ne-zero gap (sym gap-is ∙ e) in
             let by-room : receiveTable c ≡ cond (ltb (length (c .samples)) (R.gapOf (c .state) (c .cell) * R.usedNow (c .state))) 10 0
-            = late (c .state) (c .cell) (c .indication) _ _ _ (state-none last-passes) (ap length arrived ∙ cell-48 s sends sent)
+            = late (c .state) (c .cell) (c .indication) _ _ _ (state-none fourth-passes) (ap length arrived ∙ cell-48 s sends sent)
             (room .ancillary-equal) (room .marks-equal) (ap refusalOf found-here)
-            ∙ rw (rightly-there s sends sent with-overhead c same arrived indicated, ne-eqb _ 0 some) in
+            ∙ rw (rightly-there s sends sent with-overhead c same arrived indicated, ne-eqb _ 0 some, le-ltb 4294967295 _ within) in
             received-refusal c receives
             ∙ split (ltb (length (c .samples)) (R.gapOf (c .state) (c .cell) * R.usedNow (c .state)))
             (λ e. absurd (room .long-enough (by-room ∙ rw e)))
@@ -221,7 +226,7 @@ module _ (s : SendCall) (sends : MeetsSend s) (sent : s .answer .refusal ≡ 0) 
             ∙ row-zip (gap * used) 0 (0, 2) (s .samples) (zip (s .ancillary) (replicate used 0)))
 
         pub took : Took s c gap
-        unfolding R.after valueOf
+        unfolding R.after R.countAfter valueOf
         took =
             record {
               refused-not = unaltered-taken;
@@ -234,5 +239,6 @@ module _ (s : SendCall) (sends : MeetsSend s) (sent : s .answer .refusal ≡ 0) 
                   });
               started = ap (λ x. x .started) state-is;
               last = ap (λ x. x .last) state-is ∙ ap valueOf found-here;
+              counted = ap (λ x. x .count) state-is ∙ ap (λ (n : ℕ). c .state .count + n) gap-is;
               hands = hands-out;
             }

@@ -73,6 +73,10 @@ MeetsOpenSender octet channels order number wanted second r = r ≡ S.openedOf o
 abbrev pub MeetsOpenReceiver : ℕ → ℕ → ℕ → Ready → Type 0
 MeetsOpenReceiver octet channels order r = r ≡ R.openedOf octet channels order
 
+-- `receiver::placed`
+abbrev pub MeetsPlaced : Receiver → ℕ → Type 0
+MeetsPlaced st r = r ≡ st .count
+
 -- `status::step`, and the two calls that bring a block forward by it: `bring_forward`, where it is lent, and `brought_forward`
 abbrev pub MeetsStep : Block → ℕ → ℕ → Stepped → Type 0
 MeetsStep block ancillary mark r = r ≡ stepOf block ancillary mark

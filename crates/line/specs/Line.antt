@@ -13,8 +13,9 @@ use Rattle.cells.specs.Cells.{eightIn}
 use Rattle.sender.specs.declared.Sender.{Sender}
 use Rattle.sender.specs.Sender as S
 use Rattle.receiver.specs.declared.Receiver.{Receiver}
+use Rattle.receiver.specs.declared.Ready.{Ready}
 use Rattle.receiver.specs.Receiver as R
-use Rattle.line.specs.Contracts.{SendCall, ReceiveCall}
+use Rattle.line.specs.Contracts.{SendCall, ReceiveCall, MeetsOpenReceiver}
 use Rattle.line.specs.Demands.{receiveTable, formatIn}
 
 -- calls in a row: the first starts in this state, each later one in the state that the one before it answered, and each is as the
@@ -133,24 +134,42 @@ unfoldable pub toLast : List Trip → List Trip
 toLast [] = []
 toLast (t ∷ ts) = cond (allLost (t ∷ ts)) [] (t ∷ toLast ts)
 
--- what holds between two boxes of whatever the line carries; it may alter `most` bits of a cell and lose `row` cells in a row
-abbrev pub OverTheLine : ℕ → ℕ → (SendCall → Type 0) → (ReceiveCall → Type 0) → (List Trip → List ReceiveCall → Type 0) → Type 0
-OverTheLine most row SendBox ReceiveBox Holds =
+-- a place among cells is counted from 0: "the last unaltered cell's place .., plus 1, or 0 where no cell came unaltered"
+unfoldable pub pastLast : List Trip → ℕ
+pastLast [] = 0
+pastLast (t ∷ ts) = cond (allLost (t ∷ ts)) 0 (suc (pastLast ts))
+
+-- the state that calls in a row leave
+unfoldable pub leftBy : Receiver → List ReceiveCall → Receiver
+leftBy st [] = st
+leftBy st (c ∷ cs) = leftBy (c .answer .state) cs
+
+-- what holds between two boxes of whatever the line carries, the receiver being fresh; the line may alter `most` bits of a cell and
+-- lose `row` cells in a row, and at most `cells` are sent
+abbrev pub OverTheLine : ℕ → ℕ → ℕ → (SendCall → Type 0) → (ReceiveCall → Type 0)
+    → (Receiver → List Trip → List ReceiveCall → Type 0) → Type 0
+OverTheLine most row cells SendBox ReceiveBox Holds =
     (st : Sender) (sends : List SendCall) (trips : List Trip) (receives : List ReceiveCall)
     → (formatOf (st .format) .«overhead_bits» ≡ 0 → ⊥)
     → Sending SendBox st sends
     → map (λ t. t .sent) trips ≡ wrote sends
+    → length trips ≤ cells
     → Each (λ t. Fair most (t .sent) (t .fate)) trips
     → longest 0 trips ≤ row
     → Receiving ReceiveBox (R.openState (st .format) (st .channels) (st .order)) receives
     → map taken receives ≡ arrivals trips
     → Each WithRoom receives
-    → Holds trips receives
+    → Holds (R.openState (st .format) (st .channels) (st .order)) trips receives
+
+-- what demand 3 says of it. Request 5: "this number is the last unaltered cell's place counted from the first unaltered one, plus
+-- 1, or 0 where no cell came unaltered"
+pub record ComesOut (fresh : Receiver) (trips : List Trip) (receives : List ReceiveCall) : Type 0 where
+  pub handed-out : handed receives ≡ flatMap placesOf (toLast (fromFirst trips))
+  pub counted : leftBy fresh receives .count ≡ pastLast (fromFirst trips)
 
 -- Demand 3 of two boxes
-unfoldable pub Demand3 : ℕ → ℕ → (SendCall → Type 0) → (ReceiveCall → Type 0) → Type 0
-Demand3 most row SendBox ReceiveBox =
-    OverTheLine most row SendBox ReceiveBox (λ trips receives. handed receives ≡ flatMap placesOf (toLast (fromFirst trips)))
+unfoldable pub Demand3 : ℕ → ℕ → ℕ → (SendCall → Type 0) → (ReceiveCall → Type 0) → Type 0
+Demand3 most row cells SendBox ReceiveBox = OverTheLine most row cells SendBox ReceiveBox ComesOut
 
 -- beside it: the refusals that calls answered, 0 where a cell was taken
 abbrev pub refusals : List ReceiveCall → List ℕ
@@ -162,3 +181,22 @@ abbrev pub refusalsOf : Fate → List ℕ
 refusalsOf dropped = []
 refusalsOf (spoiled came indication again) = replicate (suc again) (cond (eqb (length came) 48) 8 5)
 refusalsOf (unaltered again) = 0 ∷ replicate again 9
+
+-- Request 5 of a receiver: "it equals the sound cells plus the missing counts of the calls made since the state was opened". A sum
+-- over calls, 1 for a call that took its cell, and the missing count that a call answered:
+unfoldable pub total : (ReceiveCall → ℕ) → List ReceiveCall → ℕ
+total number [] = 0
+total number (c ∷ cs) = number c + total number cs
+
+abbrev pub soundBy : ReceiveCall → ℕ
+soundBy c = cond (eqb (c .answer .refusal) 0) 1 0
+
+abbrev pub missingBy : ReceiveCall → ℕ
+missingBy c = c .answer .missing
+
+unfoldable pub CountsCells : (ReceiveCall → Type 0) → Type 0
+CountsCells Box =
+    (octet channels order : ℕ) (opening : Ready) (calls : List ReceiveCall)
+    → MeetsOpenReceiver octet channels order opening
+    → Receiving Box (opening .state) calls
+    → leftBy (opening .state) calls .count ≡ total soundBy calls + total missingBy calls

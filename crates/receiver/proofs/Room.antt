@@ -17,7 +17,18 @@ use Rattle.numbers.specs.declared.Found.{Found}
 use Rattle.numbers.specs.declared.Found.the-variants.{Number, Nothing}
 use Rattle.numbers.specs.Numbers.{refusalOf, indicationRefused}
 use Rattle.receiver.specs.declared.Receiver.{Receiver}
-use Rattle.receiver.specs.Receiver.{gapOf, usedNow, foundNow, numberNow, lastRefused, lengthsRefused, stateRefusal, receiveRefusal}
+use Rattle.receiver.specs.Receiver.{
+  gapOf,
+  countAfter,
+  usedNow,
+  foundNow,
+  numberNow,
+  lastRefused,
+  countRefused,
+  lengthsRefused,
+  stateRefusal,
+  receiveRefusal,
+}
 use Rattle.receiver.proofs.Laws.{gap-to}
 
 -- a number that neither way of a test gives
@@ -40,7 +51,7 @@ pub state-to : (st : Receiver) → stateRefusal st ≤ 4
 unfolding stateRefusal orElse
 state-to st =
     at-most (eqb (settingsRefusal (st .format) (st .channels) (st .order)) 0)
-    (at-most (lastRefused st) (omega arith) (omega arith))
+    (at-most (lastRefused st || countRefused st) (omega arith) (omega arith))
     (omega (arith, settings-to (st .format) (st .channels) (st .order)))
 
 pub found-to : (found : Found) → refusalOf found ≤ 8
@@ -59,7 +70,8 @@ always-room st cell indication samples ancillary marks enough =
     (not-so (lengthsRefused (length cell) samples ancillary marks) (λ e. omega arith)
     (not-so (eqb (refusalOf (foundNow st cell)) 0)
     (not-so (indicationRefused (numberNow st cell) indication) (λ e. omega arith)
-    (not-so (eqb (gapOf st cell) 0) (λ e. omega arith) (λ e. omega arith)))
+    (not-so (eqb (gapOf st cell) 0) (λ e. omega arith)
+    (not-so (ltb 4294967295 (countAfter st cell)) (λ e. omega arith) (λ e. omega arith))))
     (λ e. omega (arith, found-to (foundNow st cell)))))
     (λ e. omega (arith, state-to st)))
 

@@ -36,10 +36,12 @@ use Rattle.receiver.specs.declared.Received.{Received}
 use Rattle.receiver.specs.Receiver.{
   openedOf,
   lastRefused,
+  countRefused,
   stateRefusal,
   lengthsRefused,
   foundNow,
   gapOf,
+  countAfter,
   receiveRefusal,
   entriesNow,
   secondNow,
@@ -49,6 +51,8 @@ use Rattle.receiver.specs.Receiver.{
 }
 use Rattle.receiver.proofs.opened.Kinds as opened-kinds
 use Rattle.receiver.proofs.opened.Reads as opened-reads
+use Rattle.receiver.proofs.placed.Kinds as placed-kinds
+use Rattle.receiver.proofs.placed.Reads as placed-reads
 use Rattle.receiver.proofs.receive.Kinds as receive-kinds
 use Rattle.receiver.proofs.receive.Reads as receive-reads
 
@@ -58,11 +62,11 @@ unfolding tab joined octetsOf readOn overheadOf subframeOf slotOctets cellOf sub
 cells-unfolded = tt
 
 unfoldable placed-unfolded : Unit {0}
-unfolding entriesOf slotOf slotOfEntry entryOfSlot carried over orElse refusalOf valueOf openedOf lastRefused stateRefusal lengthsRefused after
+unfolding entriesOf slotOf slotOfEntry entryOfSlot carried over orElse refusalOf valueOf openedOf lastRefused countRefused stateRefusal lengthsRefused after
 placed-unfolded = tt
 
 unfoldable pub unfolded : Unit {0}
-unfolding formats.unfolded numbers.unfolded guards.unfolded cells-unfolded placed-unfolded foundNow gapOf receiveRefusal entriesNow secondNow receivedOf entriesGiven
+unfolding formats.unfolded numbers.unfolded guards.unfolded cells-unfolded placed-unfolded foundNow gapOf countAfter receiveRefusal entriesNow secondNow receivedOf entriesGiven
 unfolded = tt
 
 -- openings: format, C, order
@@ -82,9 +86,31 @@ module _ (κs : Lfts 0) where
   unfolding unfolded
   opening-not-started x v wrong p = true≢false (sym wrong ∙ ap (λ (s : Ready). s .state .started) p)
 
--- a receiver of one channel in 5A hex, eight samples of forty bits in a cell, that last took the cell of this number
+  -- one that has placed a cell already
+  pub opening-not-counted : Never opened-kinds.ps opened-kinds.r opened-reads.Post κs (0x56, (2, (1, tt))) (λ x v. x .state .count ≡ 1)
+  unfolding unfolded
+  opening-not-counted x v wrong p = let right : x .state .count ≡ 0 = ap (λ (s : Ready). s .state .count) p in omega arith
+
+-- a receiver of one channel in 5A hex, eight samples of forty bits in a cell, that last took the cell of this number and has placed
+-- so many
+abbrev counting : ℕ → ℕ → Receiver
+counting last count = record { format = 0x5A; channels = 1; order = 0; started = true; last = last; count = count }
+
 abbrev archive : ℕ → Receiver
-archive last = record { format = 0x5A; channels = 1; order = 0; started = true; last = last }
+archive last = counting last 1
+
+-- the same receiver before its first cell, with this count
+abbrev unstarted : ℕ → Receiver
+unstarted count = record { format = 0x5A; channels = 1; order = 0; started = false; last = 0; count = count }
+
+module _ (κs : Lfts 0) where
+  -- the last number told for the count
+  pub placed-not-last : Never placed-kinds.ps placed-kinds.r placed-reads.Post κs (counting 3 300, tt) (λ x v. x ≡ 3)
+  placed-not-last x v wrong p = let right : x ≡ 300 = p in omega arith
+
+  -- the count told modulo 256
+  pub placed-not-cut : Never placed-kinds.ps placed-kinds.r placed-reads.Post κs (counting 3 300, tt) (λ x v. x ≡ 44)
+  placed-not-cut x v wrong p = let right : x ≡ 300 = p in omega arith
 
 abbrev eight : List ℕ
 eight = 1 ∷ 2 ∷ 3 ∷ 4 ∷ 5 ∷ 6 ∷ 7 ∷ 8 ∷ []
@@ -98,11 +124,11 @@ third = cellNumbered 3
 
 -- a receiver of 32-bit samples without overhead
 abbrev bare : Receiver
-bare = record { format = 0x08; channels = 12; order = 0; started = true; last = 0 }
+bare = record { format = 0x08; channels = 12; order = 0; started = true; last = 0; count = 1 }
 
 -- a receiver of one channel in 17 hex, which has overhead and no ancillary field, and a cell with the ninth bit alone in each sample
 abbrev abroad : Receiver
-abroad = record { format = 0x17; channels = 1; order = 0; started = true; last = 2 }
+abroad = record { format = 0x17; channels = 1; order = 0; started = true; last = 2; count = 3 }
 
 abbrev ninths : List ℕ
 ninths = cellOf (formatOf 0x17) false 1 12 (entryOf 3) 0 (replicate 12 (2 ^ 19)) (replicate 12 0)
@@ -220,7 +246,70 @@ module _ (κs : Lfts 4) (c s a m : Place) where
       let right : x .refusal ≡ 0 = ap (λ (r : Received). r .refusal) (p .answered) in omega arith
 
   -- a first cell refused 15 that starts the receiver all the same
-  pub wrongly-indicated-not-counted : Indicated true (record { format = 0x5A; channels = 1; order = 0; started = false; last = 0 }) (cellNumbered 5) 9
+  pub wrongly-indicated-not-counted : Indicated true (unstarted 0) (cellNumbered 5) 9
       (λ x samples ancillary marks. x .state .started ≡ true)
   unfolding unfolded
   wrongly-indicated-not-counted x v wrong p = true≢false (sym wrong ∙ ap (λ (r : Received). r .state .started) (p .answered))
+
+  -- the count of sound cells alone: one was missing before this one
+  pub missing-not-uncounted : Receiving (archive 1) third 16 (λ x samples ancillary marks. x .state .count ≡ 2)
+  unfolding unfolded
+  missing-not-uncounted x v wrong p =
+      let right : x .state .count ≡ 3 = ap (λ (r : Received). r .state .count) (p .answered) in omega arith
+
+  -- a refused call counted: a repeat as a cell, and what there was no room for
+  pub repeat-not-counted : Receiving (archive 3) third 9 (λ x samples ancillary marks. x .state .count ≡ 2)
+  unfolding unfolded
+  repeat-not-counted x v wrong p =
+      let right : x .state .count ≡ 1 = ap (λ (r : Received). r .state .count) (p .answered) in omega arith
+
+  pub without-room-not-counted : Receiving (archive 1) third 9 (λ x samples ancillary marks. x .state .count ≡ 3)
+  unfolding unfolded
+  without-room-not-counted x v wrong p =
+      let right : x .state .count ≡ 1 = ap (λ (r : Received). r .state .count) (p .answered) in omega arith
+
+  -- cells without overhead not counted
+  pub bare-not-uncounted : Receiving bare (cellNumbered 5) 12 (λ x samples ancillary marks. x .state .count ≡ 1)
+  unfolding unfolded
+  bare-not-uncounted x v wrong p =
+      let right : x .state .count ≡ 2 = ap (λ (r : Received). r .state .count) (p .answered) in omega arith
+
+  -- a state not started taken with a count
+  pub unstarted-not-with-a-count : Receiving (unstarted 1) third 9 (λ x samples ancillary marks. x .refusal ≡ 0)
+  unfolding unfolded
+  unstarted-not-with-a-count x v wrong p =
+      let right : x .refusal ≡ 4 = ap (λ (r : Received). r .refusal) (p .answered) in omega arith
+
+  -- a started one refused without
+  pub started-not-refused-for-0 : Receiving (counting 2 0) third 9 (λ x samples ancillary marks. x .refusal ≡ 4)
+  unfolding unfolded
+  started-not-refused-for-0 x v wrong p =
+      let right : x .refusal ≡ 0 = ap (λ (r : Received). r .refusal) (p .answered) in omega arith
+
+  -- the bound is sharp: 20 one cell too early, and one cell more taken
+  pub most-not-refused : Receiving (counting 2 4294967294) third 9 (λ x samples ancillary marks. x .refusal ≡ 20)
+  unfolding unfolded
+  most-not-refused x v wrong p = let right : x .refusal ≡ 0 = ap (λ (r : Received). r .refusal) (p .answered) in omega arith
+
+  pub most-reached : Receiving (counting 2 4294967294) third 9 (λ x samples ancillary marks. x .state .count ≡ 4294967295 → ⊥)
+  unfolding unfolded
+  most-reached x v wrong p = wrong (ap (λ (r : Received). r .state .count) (p .answered))
+
+  pub most-not-passed : Receiving (counting 2 4294967295) third 9 (λ x samples ancillary marks. x .refusal ≡ 20 → ⊥)
+  unfolding unfolded
+  most-not-passed x v wrong p = wrong (ap (λ (r : Received). r .refusal) (p .answered))
+
+  -- 20 looked for by the sound cell alone: it and the missing one pass the bound
+  pub missing-not-past-the-most : Receiving (counting 1 4294967294) third 16 (λ x samples ancillary marks. x .refusal ≡ 0)
+  unfolding unfolded
+  missing-not-past-the-most x v wrong p =
+      let right : x .refusal ≡ 20 = ap (λ (r : Received). r .refusal) (p .answered) in omega arith
+
+  -- 20 before 9, and 10 before 20
+  pub count-not-before-9 : Receiving (counting 3 4294967295) third 9 (λ x samples ancillary marks. x .refusal ≡ 20)
+  unfolding unfolded
+  count-not-before-9 x v wrong p = let right : x .refusal ≡ 9 = ap (λ (r : Received). r .refusal) (p .answered) in omega arith
+
+  pub count-not-after-10 : Receiving (counting 2 4294967295) third 0 (λ x samples ancillary marks. x .refusal ≡ 10)
+  unfolding unfolded
+  count-not-after-10 x v wrong p = let right : x .refusal ≡ 20 = ap (λ (r : Received). r .refusal) (p .answered) in omega arith

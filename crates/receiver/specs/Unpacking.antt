@@ -4,7 +4,7 @@ use mathlib.Core.Bool.{Bool, true, false, cond}
 use mathlib.Core.List.{List, _++_}
 use mathlib.Core.Path.{_≡_}
 use Prim.Native.Nat.{ℕ, _+_, _*_, _/_, _%_, _-_, _^_, _≤_, _<_}
-use lib.Dec.{eqb}
+use lib.Dec.{eqb, ltb}
 use lib.ListN as L
 use lib.ListN.{length, getD, replicate}
 use Rattle.runs.specs.Refusals.{orElse}
@@ -88,15 +88,21 @@ unfoldable pub earlyRefusal : Receiver → ℕ → ℕ → ℕ → ℕ → ℕ
 earlyRefusal st cell samples ancillary marks =
     orElse (stateRefusal st) (cond (lengthsRefused cell samples ancillary marks) 5 0)
 
+-- checks 9, 20 and 10, by d, the count so far, how long each run is and how long it has to be
+unfoldable pub lateRefusal : ℕ → ℕ → ℕ → ℕ → ℕ
+lateRefusal gap count samples needed =
+    cond (eqb gap 0) 9 (cond (ltb 4294967295 (count + gap)) 20 (cond (ltb samples needed) 10 0))
+
 -- the answers to a call that is refused, and to one that is taken
 abbrev pub refusedBy : ℕ → Receiver → Received
 refusedBy refusal st = record { refusal = refusal; state = st; missing = 0; number = 0; second = 0; indication = false }
 
-abbrev pub takenAs : Receiver → ℕ → ℕ → ℕ → Bool → Received
-takenAs st missing number second indication =
+abbrev pub takenAs : Receiver → ℕ → ℕ → ℕ → Bool → ℕ → Received
+takenAs st missing number second indication count =
     record {
       refusal = 0;
-      state = record { format = st .format; channels = st .channels; order = st .order; started = true; last = number };
+      state =
+          record { format = st .format; channels = st .channels; order = st .order; started = true; last = number; count = count };
       missing = missing;
       number = number;
       second = second;

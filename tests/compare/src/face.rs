@@ -3,7 +3,7 @@
 //! A slice carries its own length and two `&mut` never overlap, which is all that the header asks of a caller.
 
 pub type SenderState = [u8; 7];
-pub type ReceiverState = [u8; 5];
+pub type ReceiverState = [u8; 9];
 pub type Report = [u8; 4];
 pub type StatusBlock = [u8; 25];
 pub type StatusOut = [u8; 25];
@@ -41,6 +41,7 @@ mod raw {
             cell_len: usize,
         ) -> u8;
         pub fn rime_receiver_open(format: u32, channels: u32, order: u32, state: *mut ReceiverState) -> u8;
+        pub fn rime_receiver_placed(state: *const ReceiverState) -> u32;
         pub fn rime_receive(
             state: *mut ReceiverState,
             cell: *const u8,
@@ -128,6 +129,10 @@ pub fn send(state: &mut SenderState, indication: bool, samples: &[u64], ancillar
 
 pub fn receiver_open([format, channels, order]: [u32; 3], state: &mut ReceiverState) -> u8 {
     unsafe { raw::rime_receiver_open(format, channels, order, state) }
+}
+
+pub fn receiver_placed(state: &ReceiverState) -> u32 {
+    unsafe { raw::rime_receiver_placed(state) }
 }
 
 /// The three runs that the receiver writes to.

@@ -202,6 +202,10 @@ fn play(mut ends: Ends, trips: &[Trip]) -> Result<usize, String> {
     match must_be.iter().zip(&handed).position(|(wanted, given)| wanted != given) {
         Some(at) => Err(format!("entry {at}: {:?} handed out where {:?} must stand", handed[at], must_be[at])),
         None if handed.len() != must_be.len() => Err(format!("{} entries for {}", handed.len(), must_be.len())),
+        // from the first whole cell to the last: so many cells were placed
+        None if ends.receiver[5] * call.entries() as u64 != must_be.len() as u64 => {
+            Err(format!("{} cells placed for {}", ends.receiver[5], must_be.len() / call.entries()))
+        }
         None => Ok(handed.len()),
     }
 }

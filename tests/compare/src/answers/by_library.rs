@@ -4,7 +4,7 @@
 use super::line::line;
 use super::management;
 use crate::case::{values, Answer, Case, Kind, Value};
-use crate::face::{self, Runs};
+use crate::face::{self, ReceiverState, Runs};
 
 pub fn by_library(case: &Case) -> Option<Answer> {
     match case.kind {
@@ -85,9 +85,23 @@ fn sender_open(case: &Case) -> Option<Answer> {
 
 fn receiver_open(case: &Case) -> Option<Answer> {
     let numbers: Vec<u64> = case.inputs.iter().map(Value::number).collect();
-    let mut state = [LEFT_OVER; 5];
+    let mut state = [LEFT_OVER; 9];
     let refusal = face::receiver_open(narrow_array(&numbers)?, &mut state);
-    Some(values![u64::from(refusal), &wide(&state)[..]])
+    Some(values![u64::from(refusal), &receiver_fields(&state)[..]])
+}
+
+/// A receiver's state as octets: its count is the sixth field, and four octets, least significant first.
+fn receiver_octets(fields: &[u64]) -> Option<ReceiverState> {
+    let (count, others) = fields.split_last()?;
+    let count = u32::try_from(*count).ok()?;
+    [&narrow(others)?[..], &count.to_le_bytes()].concat().try_into().ok()
+}
+
+/// Its fields, the count as the library tells it.
+fn receiver_fields(state: &ReceiverState) -> Vec<u64> {
+    let mut fields = wide(&state[..5]);
+    fields.push(face::receiver_placed(state).into());
+    fields
 }
 
 fn send(case: &Case) -> Option<Answer> {
@@ -99,7 +113,7 @@ fn send(case: &Case) -> Option<Answer> {
 }
 
 fn receive(case: &Case) -> Option<Answer> {
-    let mut state = narrow_array(case.run(0))?;
+    let mut state = receiver_octets(case.run(0))?;
     let mut samples = Fenced::around(case.run(3), u64::MAX);
     let mut ancillary = Fenced::around(&narrow(case.run(4))?, LEFT_OVER);
     let mut marks = Fenced::around(&narrow(case.run(5))?, LEFT_OVER);
@@ -107,7 +121,8 @@ fn receive(case: &Case) -> Option<Answer> {
     let mut report = [LEFT_OVER; 4];
     let refusal = face::receive(&mut state, case.octets(1), case.yes(2), runs, &mut report);
     let (ancillary, marks) = (wide(&ancillary.back()), wide(&marks.back()));
-    let mut answer = values![u64::from(refusal), &wide(&state)[..], &samples.back()[..], &ancillary[..], &marks[..]];
+    let after = receiver_fields(&state);
+    let mut answer = values![u64::from(refusal), &after[..], &samples.back()[..], &ancillary[..], &marks[..]];
     answer.extend(report.map(|number| Value::Number(number.into())));
     Some(answer)
 }

@@ -42,13 +42,13 @@ fn sender_state(sender: &Sender) -> [u64; 7] {
 }
 
 fn receiver_of(state: &[u64]) -> Receiver {
-    let [format, channels, order, started, last] = *state else { panic!("a receiver's state has 5 fields") };
-    Receiver { format, channels, order, started: started != 0, last }
+    let [format, channels, order, started, last, count] = *state else { panic!("a receiver's state has 6 fields") };
+    Receiver { format, channels, order, started: started != 0, last, count }
 }
 
-fn receiver_state(receiver: &Receiver) -> [u64; 5] {
-    let Receiver { format, channels, order, started, last } = *receiver;
-    [format, channels, order, u64::from(started), last]
+fn receiver_state(receiver: &Receiver) -> [u64; 6] {
+    let Receiver { format, channels, order, started, last, count } = *receiver;
+    [format, channels, order, u64::from(started), last, count]
 }
 
 /// The refusal of an opening, and its state: zeros where it was refused.
@@ -66,7 +66,7 @@ fn sender_open(case: &Case) -> Answer {
 }
 
 fn receiver_open(case: &Case) -> Answer {
-    let fields: Vec<u64> = case.inputs.iter().map(Value::number).chain([0, 0]).collect();
+    let fields: Vec<u64> = case.inputs.iter().map(Value::number).chain([0, 0, 0]).collect();
     let receiver = receiver_of(&fields);
     opened(receiver.shape(), &receiver_state(&receiver))
 }
