@@ -1,0 +1,4 @@
+pub mod Heard
+pub mod Reading
+pub mod Records
+pub mod Totals
