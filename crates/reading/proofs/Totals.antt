@@ -17,6 +17,12 @@ module _ {A : Type 0} where
   total-joined f [] ys = omega arith
   total-joined f (x ∷ xs) ys = omega (arith, total-joined f xs ys)
 
+  -- one more
+  pub total-more : (f : A → ℕ) (xs : List A) (x : A) → totalOf f (xs ++ (x ∷ [])) ≡ totalOf f xs + f x
+  unfolding totalOf
+  total-more f [] x = omega arith
+  total-more f (y ∷ ys) x = omega (arith, total-more f ys x)
+
   -- each passes a test or not
   pub count-both : (test : A → Bool) (xs : List A) → countOf test xs + countOf (λ x. not (test x)) xs ≡ length xs
   unfolding totalOf
