@@ -48,11 +48,6 @@ module _ {A : Type 0} where
       (λ e. rw e (omega (arith, length-those test xs)))
       (λ e. rw e (omega (arith, length-those test xs)))
 
-  pub each-joined : {Holds : A → Type 0} (xs ys : List A) → Each Holds xs → Each Holds ys → Each Holds (xs ++ ys)
-  unfolding Each
-  each-joined [] ys h k = k
-  each-joined (x ∷ xs) ys h k = (h .0, each-joined xs ys (h .1) k)
-
   -- a sum of numbers up to a bound
   pub total-to : (f : A → ℕ) (most : ℕ) (xs : List A) → Each (λ x. f x ≤ most) xs → totalOf f xs ≤ most * length xs
   unfolding totalOf Each
