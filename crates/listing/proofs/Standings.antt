@@ -19,7 +19,7 @@ use Rattle.receiver.specs.declared.Received.{Received}
 use Rattle.receiver.specs.Receiver.{judgedOf}
 use Rattle.reading.specs.Heard.{Heard, heardBy, hear, onward, heardFrom, isSound, soundIn, missingIn, refusedIn}
 use Rattle.reading.specs.Reading.{freshOf, readingOf}
-use Rattle.reading.specs.Records.{Whole, recordsIn, faultIn}
+use Rattle.reading.specs.Records.{Whole, Walk, recordsIn, faultIn}
 use Rattle.reading.specs.Totals.{totalOf}
 use Rattle.reading.proofs.Heard.{missing-few}
 use Rattle.reading.proofs.Places.{walk-at, stop-at, fault-at}
@@ -44,7 +44,9 @@ line-refused index got some = rw (ne-eqb (got .refusal) 0 some)
 pub lines-more : (index : ℕ) (done : List Heard) (h : Heard)
     → linesOf index (done ++ (h ∷ [])) ≡ linesOf index done ++ lineOf (index + length done) (h .answer)
 unfolding linesOf
-lines-more index [] h = append-nil (lineOf index (h .answer))
+lines-more index [] h =
+    let here : index ≡ index + 0 = omega arith in
+    append-nil (lineOf index (h .answer)) ∙ ap (λ (k : ℕ). lineOf k (h .answer)) here
 lines-more index (x ∷ xs) h =
     let n : index + 1 + length xs ≡ index + suc (length xs) = omega arith in
     ap (λ (l : List ℕ). lineOf index (x .answer) ++ l)
@@ -52,18 +54,18 @@ lines-more index (x ∷ xs) h =
     ∙ sym (append-assoc (lineOf index (x .answer)) (linesOf (index + 1) xs) (lineOf (index + suc (length xs)) (h .answer)))
 
 -- the end line from the counts
-module _ {here : Standing} {done : List Heard} (c : Counts here done) {fault : ℕ} where
+module _ {here : Standing} {done : List Heard} (c : Counts here done) where
   same-end : endLine (here .sound) (here .missing) (here .refused) ≡ endLine (soundIn done) (missingIn done) (refusedIn done)
   same-end i = endLine (c .sound-is i) (c .missing-is i) (c .refused-is i)
 
-  pub end-plain : fault ≡ 0 → endLine (here .sound) (here .missing) (here .refused) ≡ endLines done fault
+  pub end-plain : {fault : ℕ} → fault ≡ 0 → endLine (here .sound) (here .missing) (here .refused) ≡ endLines done fault
   unfolding endLines
-  end-plain e = same-end ∙ rw (eq-eqb fault 0 e)
+  end-plain {fault} e = same-end ∙ rw (eq-eqb fault 0 e)
 
-  pub end-broken : (fault ≡ 0 → ⊥)
+  pub end-broken : {fault : ℕ} → (fault ≡ 0 → ⊥)
       → brokenLine (here .index) fault ++ endLine (here .sound) (here .missing) (here .refused) ≡ endLines done fault
   unfolding endLines
-  end-broken some =
+  end-broken {fault} some =
       ap₂ (λ (k : ℕ) (l : List ℕ). brokenLine k fault ++ l) (c .index-is) same-end ∙ rw (ne-eqb fault 0 some)
 
 -- no sum wraps
@@ -109,7 +111,7 @@ module _ {here : Standing} (next : ℕ) (got : Received) (done : List Heard) (h 
         index-is = index-more;
         sound-is = more isSound (c .sound-is) (rw sound);
         missing-is = missing-more;
-        refused-is = omega (arith, more (λ x. not (isSound x)) (c .refused-is) {k = 0} (rw sound));
+        refused-is = omega (arith, more (λ x. not (isSound x)) {k = 0} (c .refused-is) (rw sound));
       }
 
   pub counts-refused : (got .refusal ≡ 0 → ⊥)
@@ -125,7 +127,7 @@ module _ {here : Standing} (next : ℕ) (got : Received) (done : List Heard) (h 
       let refused = ne-eqb (h .answer .refusal) 0 (λ e. some (told ∙ e)) in
       record {
         index-is = index-more;
-        sound-is = omega (arith, more isSound (c .sound-is) {k = 0} (rw refused));
+        sound-is = omega (arith, more isSound {k = 0} (c .sound-is) (rw refused));
         missing-is = missing-more;
         refused-is = more (λ x. not (isSound x)) (c .refused-is) (rw refused);
       }
@@ -170,7 +172,7 @@ module _ {log : List ℕ} {begun here : Standing} {lent run : List ℕ} {at past
   along-end none p =
       let stop : recordAt log (here .place) .what ≡ 1 → ⊥ = λ one. none (ap (λ (r : Record). r .what) (a .read) ∙ one) in
       let all : ahead log begun ≡ a .done =
-      a .heard ∙ rw (stop-at log (here .place) stop) (append-nil (a .done)) in
+      a .heard ∙ ap (λ (w : Walk). a .done ++ heardFrom (here .state) (w .records)) (stop-at log (here .place) stop) ∙ append-nil (a .done) in
       let fault : faultIn (drop (begun .place) log) ≡ found .refusal =
       a .fault ∙ fault-at log (here .place) stop ∙ ap (λ (r : Record). r .refusal) (sym (a .read)) in
       puts-same (ap₂ (λ (hs : List Heard) (n : ℕ). linesOf 0 hs ++ endLines hs n) (sym all) (sym fault))
@@ -186,8 +188,8 @@ module _ {log : List ℕ} {begun here : Standing} {lent run : List ℕ} {at past
         let facts = cell-facts log (here .place) is-one in
         (facts .0, ap (λ (r : Record). r .next) (a .read) ∙ facts .1)
 
-    pub step-less : {here′ : Standing} → here′ .place ≡ found .next → length log - here′ .place < length log - here .place
-    step-less place = omega (arith, within .0, within .1)
+    pub step-less : {next : ℕ} → next ≡ found .next → length log - next < length log - here .place
+    step-less e = omega (arith, within .0, within .1)
 
     pub step-small : Small here
     step-small = small (a .counts) (omega (arith, a .far, within .0, a .counts .index-is)) (a .missing-to)
@@ -218,8 +220,8 @@ module _ {log : List ℕ} {begun here : Standing} {lent run : List ℕ} {at past
           let line : lineOf (here .index) got ≡ lineOf (0 + length (a .done)) (h .answer) =
           ap₂ (λ (k : ℕ) (x : Received). lineOf k x) (omega (arith, a .counts .index-is)) is-got in
           let turn : ahead log here ≡ h ∷ ahead log here′ =
-          rw (walk-at log (here .place) is-one)
-          (ap₂ (λ (st : Receiver) (n : ℕ). h ∷ heardFrom st (recordsIn (drop n log))) onto next) in
+          ap (λ (w : Walk). heardFrom (here .state) (w .records)) (walk-at log (here .place) is-one)
+          ∙ ap₂ (λ (st : Receiver) (n : ℕ). h ∷ heardFrom st (recordsIn (drop n log))) onto next in
           record {
             read = r;
             same = l ∙ a .same;
@@ -237,15 +239,18 @@ module _ {log : List ℕ} {begun here : Standing} {lent run : List ℕ} {at past
             puts = puts-same (sym (lines-more 0 (a .done) h)) (puts-then (a .puts) (puts-same line p));
             heard =
                 a .heard ∙ ap (λ (hs : List Heard). a .done ++ hs) turn ∙ sym (append-snoc (a .done) h (ahead log here′));
-            fault = a .fault ∙ rw (walk-at log (here .place) is-one) (ap (λ (n : ℕ). faultIn (drop n log)) next);
+            fault =
+                a .fault
+                ∙ ap (λ (w : Walk). recordAt (w .rest) 0 .refusal) (walk-at log (here .place) is-one)
+                ∙ ap (λ (n : ℕ). faultIn (drop n log)) next;
           }
 
 -- a list that stands where a header ends
-pub begins : (log : List ℕ) {begun : Standing} {header : Header} → begun .place ≡ header .place → begun .state ≡ freshOf header
+pub begins : (log : List ℕ) (begun : Standing) (header : Header) → begun .place ≡ header .place → begun .state ≡ freshOf header
     → linesOf 0 (ahead log begun) ++ endLines (ahead log begun) (faultIn (drop (begun .place) log)) ≡ recordLines log header
-begins log place state =
+begins log begun header place state =
     ap₂ (λ (st : Receiver) (n : ℕ).
-      linesOf 0 (heardFrom st (recordsIn (drop n log))) ++ endLines (heardFrom st (recordsIn (drop n log))) (faultIn (drop n log)))
+    linesOf 0 (heardFrom st (recordsIn (drop n log))) ++ endLines (heardFrom st (recordsIn (drop n log))) (faultIn (drop n log)))
     state place
 
 -- octets that are put from the start of a lent run

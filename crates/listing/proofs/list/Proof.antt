@@ -22,12 +22,12 @@ returns-2 c =
 
 records-requires : tie.Need-records-requires
 records-requires c κs =
-    let at-if2 = c .before .before .before .before .before .before .before in
+    let at-if2 = c .before .before .before .before .before .before .before .before in
     at-if2 .before .before .before .if1 .left
 
 returns-3 : tie.Need-returns-3
 returns-3 c =
-    let at-format-line = c .before .before .before .before .before in
+    let at-format-line = c .before .before .before .before .before .before in
     let at-if2 = at-format-line .before .before .before .before .before in
     let at-if1 = at-if2 .before .before .before in
     let at-call = at-if1 .before .before .before in
@@ -39,4 +39,4 @@ pub list-spec : {M : Type 1} → statement M
 list-spec =
     tie.close
     (tie.spec (search needs) (search needs) returns (search needs) (search needs) (search needs) (search needs) returns-2
-    (search needs) (search needs) (search needs) (search needs) (search needs) records-requires (search needs) returns-3)
+    (search needs) (search needs) (search needs) (search needs) records-requires (search needs) returns-3)

@@ -17,8 +17,8 @@ abbrev μ-loop : tie.MeasureT-loop
 
 loop-holds : tie.Need-loop-holds Inv-loop μ-loop
 loop-holds c =
-    let at-start = c .before .before in
-    (at-start .before .before .pre, along-start _ _ _ (at-start .start .ensures .2) (c .read .ensures))
+    let at-start = c .before in
+    (at-start .before .before .before .pre, along-start _ _ _ (at-start .start .ensures .2) (c .read .ensures))
 
 after-requires : tie.Need-after-requires Inv-loop μ-loop
 after-requires c κs =
@@ -52,12 +52,14 @@ same-length c =
 returns : tie.Need-returns Inv-loop μ-loop
 returns c =
     let at-if1 = c .before .before .before .before in
-    let started = at-if1 .before .before .before .before .before .start .ensures in
-    puts-same (begins _ (started .0) (started .1))
+    let at-start = at-if1 .before .before .before .before in
+    let at-call = at-start .before .before .before in
+    let started = at-start .start .ensures in
+    puts-same (begins (at-call .args .log .now) (at-start .start .result) (at-call .args .header) (started .0) (started .1))
     (along-end (at-if1 .before .before .loop .inv .1) (at-if1 .if1 .left) (c .before .before .end-lines .ensures))
 
 pub records-spec : {M : Type 1} → statement M
 records-spec =
     tie.close
-    (tie.spec Inv-loop μ-loop (search needs) loop-holds (search needs) (search needs) (search needs) after-requires (search needs)
-    loop-less loop-again (search needs) same-length returns)
+    (tie.spec Inv-loop μ-loop (search needs) (search needs) loop-holds (search needs) (search needs) (search needs) after-requires
+    (search needs) loop-less loop-again (search needs) same-length returns)

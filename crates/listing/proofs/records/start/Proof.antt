@@ -9,12 +9,11 @@ use Rattle.listing.proofs.records.start.Tie as tie
 
 returns : tie.Need-returns
 unfolding totalOf
-returns c =
-    (
-      refl,
-      ap (λ (opened : Ready). opened .state) (c .before .opened .ensures),
-      record { index-is = refl; sound-is = refl; missing-is = refl; refused-is = refl },
-    )
+returns c = (
+  refl,
+  ap (λ (opened : Ready). opened .state) (c .before .opened .ensures),
+  record { index-is = refl; sound-is = refl; missing-is = refl; refused-is = refl },
+)
 
 pub start-spec : {M : Type 1} → statement M
 start-spec = tie.close (tie.spec (search needs) returns)
