@@ -1,6 +1,6 @@
 -- Laws of the lines of records, over plain values.
 -- Assumes nothing.
-use mathlib.Core.Bool.{Bool, true, cond, not}
+use mathlib.Core.Bool.{true}
 use mathlib.Core.List.{List, [], _∷_, _++_, append-assoc, append-nil}
 use mathlib.Core.Path.{_≡_, refl, sym, _∙_, ap, ap₂}
 use Prim.Native.Nat.{ℕ, suc, _+_, _*_, _-_, _≤_, _<_}
@@ -17,17 +17,19 @@ use Rattle.log.proofs.Places.{cell-facts}
 use Rattle.receiver.specs.declared.Receiver.{Receiver}
 use Rattle.receiver.specs.declared.Received.{Received}
 use Rattle.receiver.specs.Receiver.{judgedOf}
-use Rattle.reading.specs.Heard.{Heard, heardBy, hear, onward, heardFrom, isSound, soundIn, missingIn, refusedIn}
+use Rattle.reading.specs.Code.{Counts}
+use Rattle.reading.specs.Heard.{Heard, heardBy, hear, onward, heardFrom, soundIn, missingIn, refusedIn}
 use Rattle.reading.specs.Reading.{freshOf, readingOf}
 use Rattle.reading.specs.Records.{Whole, Walk, recordsIn, faultIn}
 use Rattle.reading.specs.Totals.{totalOf}
 use Rattle.reading.proofs.Heard.{missing-few}
 use Rattle.reading.proofs.Places.{walk-at, stop-at, fault-at}
-use Rattle.reading.proofs.Totals.{total-more, count-both}
+use Rattle.reading.proofs.Counts.{counts-all}
+use Rattle.reading.proofs.Totals.{total-more}
 use Rattle.listing.specs.declared.records.Standing.{Standing}
 use Rattle.listing.specs.declared.Listed.{Listed}
 use Rattle.listing.specs.Lines.{formatLine, soundLine, refusedLine, brokenLine, endLine, logRefusedLine}
-use Rattle.listing.specs.Code.{recordLines, Counts, Small, Holds, Puts}
+use Rattle.listing.specs.Code.{recordLines, Counted, Small, Holds, Puts}
 use Rattle.listing.specs.List.{lineOf, linesOf, endLines, listRefusal, listOf, Lists}
 use Rattle.listing.specs.Text.{listed}
 use Rattle.listing.proofs.Laws.{puts-none, puts-then, puts-same}
@@ -54,83 +56,19 @@ lines-more index (x ∷ xs) h =
     ∙ sym (append-assoc (lineOf index (x .answer)) (linesOf (index + 1) xs) (lineOf (index + suc (length xs)) (h .answer)))
 
 -- the end line from the counts
-module _ {here : Standing} {done : List Heard} (c : Counts here done) where
-  same-end : endLine (here .sound) (here .missing) (here .refused) ≡ endLine (soundIn done) (missingIn done) (refusedIn done)
+module _ {sound missing refused : ℕ} {done : List Heard} (c : Counts sound missing refused done) where
+  same-end : endLine sound missing refused ≡ endLine (soundIn done) (missingIn done) (refusedIn done)
   same-end i = endLine (c .sound-is i) (c .missing-is i) (c .refused-is i)
 
-  pub end-plain : {fault : ℕ} → fault ≡ 0 → endLine (here .sound) (here .missing) (here .refused) ≡ endLines done fault
+  pub end-plain : {fault : ℕ} → fault ≡ 0 → endLine sound missing refused ≡ endLines done fault
   unfolding endLines
   end-plain {fault} e = same-end ∙ rw (eq-eqb fault 0 e)
 
-  pub end-broken : {fault : ℕ} → (fault ≡ 0 → ⊥)
-      → brokenLine (here .index) fault ++ endLine (here .sound) (here .missing) (here .refused) ≡ endLines done fault
+  pub end-broken : {index fault : ℕ} → index ≡ length done → (fault ≡ 0 → ⊥)
+      → brokenLine index fault ++ endLine sound missing refused ≡ endLines done fault
   unfolding endLines
-  end-broken {fault} some =
-      ap₂ (λ (k : ℕ) (l : List ℕ). brokenLine k fault ++ l) (c .index-is) same-end ∙ rw (ne-eqb fault 0 some)
-
--- no sum wraps
-pub small : {here : Standing} {done : List Heard} → Counts here done → length done ≤ 2000 → missingIn done ≤ 14 * length done → Small here
-small {done = done} c few missing =
-    record {
-      index-to = omega (arith, c .index-is);
-      sound-to = omega (arith, c .sound-is, count-both isSound done);
-      missing-to = omega (arith, c .missing-is);
-      refused-to = omega (arith, c .refused-is, count-both isSound done);
-    }
-
--- the counts past a record
-module _ {here : Standing} (next : ℕ) (got : Received) (done : List Heard) (h : Heard) (is : got ≡ h .answer) (c : Counts here done) where
-  index-more : here .index + 1 ≡ length (done ++ (h ∷ []))
-  index-more = omega (arith, c .index-is, length-append done (h ∷ []))
-
-  missing-more : here .missing + got .missing ≡ missingIn (done ++ (h ∷ []))
-  missing-more =
-      let told : got .missing ≡ h .answer .missing = ap (λ (r : Received). r .missing) is in
-      omega (arith, c .missing-is, total-more (λ (x : Heard). x .answer .missing) done h)
-
-  -- one more by a test, or not
-  more : (test : Heard → Bool) {n k : ℕ} → n ≡ totalOf (λ x. cond (test x) 1 0) done → cond (test h) 1 0 ≡ k
-      → n + k ≡ totalOf (λ x. cond (test x) 1 0) (done ++ (h ∷ []))
-  more test e one = omega (arith, e, one, total-more (λ (x : Heard). cond (test x) 1 0) done h)
-
-  told : got .refusal ≡ h .answer .refusal
-  told = ap (λ (r : Received). r .refusal) is
-
-  pub counts-sound : got .refusal ≡ 0
-      → Counts (record {
-        place = next;
-        index = here .index + 1;
-        sound = here .sound + 1;
-        missing = here .missing + got .missing;
-        refused = here .refused;
-        state = got .state;
-      }) (done ++ (h ∷ []))
-  counts-sound ok =
-      let sound = eq-eqb (h .answer .refusal) 0 (sym told ∙ ok) in
-      record {
-        index-is = index-more;
-        sound-is = more isSound (c .sound-is) (rw sound);
-        missing-is = missing-more;
-        refused-is = omega (arith, more (λ x. not (isSound x)) {k = 0} (c .refused-is) (rw sound));
-      }
-
-  pub counts-refused : (got .refusal ≡ 0 → ⊥)
-      → Counts (record {
-        place = next;
-        index = here .index + 1;
-        sound = here .sound;
-        missing = here .missing + got .missing;
-        refused = here .refused + 1;
-        state = got .state;
-      }) (done ++ (h ∷ []))
-  counts-refused some =
-      let refused = ne-eqb (h .answer .refusal) 0 (λ e. some (told ∙ e)) in
-      record {
-        index-is = index-more;
-        sound-is = omega (arith, more isSound {k = 0} (c .sound-is) (rw refused));
-        missing-is = missing-more;
-        refused-is = more (λ x. not (isSound x)) (c .refused-is) (rw refused);
-      }
+  end-broken {fault = fault} e some =
+      ap₂ (λ (k : ℕ) (l : List ℕ). brokenLine k fault ++ l) e same-end ∙ rw (ne-eqb fault 0 some)
 
 -- what is heard from where a list stands
 abbrev pub ahead : List ℕ → Standing → List Heard
@@ -142,22 +80,24 @@ pub record Along (log : List ℕ) (begun here : Standing) (lent : List ℕ) (at 
   pub same : length run ≡ length lent
   pub far : here .index * 49 ≤ here .place
   pub done : List Heard
-  pub counts : Counts here done
+  pub counts : Counted here done
+  pub index-is : here .index ≡ length done
   pub missing-to : missingIn done ≤ 14 * length done
   pub puts : Puts lent at run past (linesOf 0 done)
   pub heard : ahead log begun ≡ done ++ ahead log here
   pub fault : faultIn (drop (begun .place) log) ≡ faultIn (drop (here .place) log)
 
-pub along-start : (log : List ℕ) {begun : Standing} (lent : List ℕ) (at : Listed) {found : Record} → Counts begun []
+pub along-start : (log : List ℕ) {begun : Standing} (lent : List ℕ) (at : Listed) {found : Record} → begun .index ≡ 0 → Counted begun []
     → found ≡ recordAt log (begun .place) → Along log begun begun lent at lent at found
 unfolding linesOf totalOf
-along-start log lent at c e =
+along-start log lent at n c e =
     record {
       read = e;
       same = refl;
-      far = omega (arith, c .index-is);
+      far = omega (arith, n);
       done = [];
       counts = c;
+      index-is = n;
       missing-to = omega arith;
       puts = puts-none lent at;
       heard = refl;
@@ -166,7 +106,7 @@ along-start log lent at c e =
 
 module _ {log : List ℕ} {begun here : Standing} {lent run : List ℕ} {at past : Listed} {found : Record} (a : Along log begun here lent at run past found) where
   pub along-end : (found .what ≡ 1 → ⊥) → {run′ : List ℕ} {past′ : Listed}
-      → ((done : List Heard) → Counts here done → Puts run past run′ past′ (endLines done (found .refusal)))
+      → ((done : List Heard) → Counted here done → here .index ≡ length done → Puts run past run′ past′ (endLines done (found .refusal)))
       → Puts lent at run′ past′ (linesOf 0 (ahead log begun) ++ endLines (ahead log begun) (faultIn (drop (begun .place) log)))
   unfolding heardBy
   along-end none p =
@@ -176,7 +116,7 @@ module _ {log : List ℕ} {begun here : Standing} {lent run : List ℕ} {at past
       let fault : faultIn (drop (begun .place) log) ≡ found .refusal =
       a .fault ∙ fault-at log (here .place) stop ∙ ap (λ (r : Record). r .refusal) (sym (a .read)) in
       puts-same (ap₂ (λ (hs : List Heard) (n : ℕ). linesOf 0 hs ++ endLines hs n) (sym all) (sym fault))
-      (puts-then (a .puts) (p (a .done) (a .counts)))
+      (puts-then (a .puts) (p (a .done) (a .counts) (a .index-is)))
 
   -- a turn of the loop
   module _ (few : length log ≤ 65536) (one : found .what ≡ 1) where
@@ -192,7 +132,10 @@ module _ {log : List ℕ} {begun here : Standing} {lent run : List ℕ} {at past
     step-less e = omega (arith, within .0, within .1)
 
     pub step-small : Small here
-    step-small = small (a .counts) (omega (arith, a .far, within .0, a .counts .index-is)) (a .missing-to)
+    step-small =
+        let few : here .index ≤ 1337 = omega (arith, a .far, within .0) in
+        let all = counts-all (a .counts) in
+        (omega arith, omega (arith, all, a .index-is), omega (arith, a .counts .missing-is, a .missing-to, a .index-is))
 
     -- the record, and what is made of it
     abbrev arrived : Whole
@@ -208,31 +151,32 @@ module _ {log : List ℕ} {begun here : Standing} {lent run : List ℕ} {at past
 
       pub along-turn : {here′ : Standing} {run′ : List ℕ} {past′ : Listed} {found′ : Record}
           → Puts run past run′ past′ (lineOf (here .index) got) → length run′ ≡ length run
-          → here′ .place ≡ found .next → here′ .state ≡ got .state
-          → ((done : List Heard) (h : Heard) → got ≡ h .answer → Counts here done → Counts here′ (done ++ (h ∷ [])))
+          → here′ .place ≡ found .next → here′ .state ≡ got .state → here′ .index ≡ here .index + 1
+          → ((done : List Heard) (h : Heard) → got ≡ h .answer → Counted here done → Counted here′ (done ++ (h ∷ [])))
           → found′ ≡ recordAt log (here′ .place)
           → Along log begun here′ lent at run′ past′ found′
       unfolding heardBy
-      along-turn {here′} {run′} {past′} p l place state counts r =
+      along-turn {here′} {run′} {past′} p l place state index counts r =
           let next : here .place + 49 ≡ here′ .place = omega (arith, within .1) in
           let onto : onward h ≡ here′ .state = ap (λ (x : Received). x .state) (sym is-got) ∙ sym state in
-          let counted : Counts here′ (a .done ++ (h ∷ [])) = counts (a .done) h is-got (a .counts) in
+          let longer : length (a .done ++ (h ∷ [])) ≡ length (a .done) + 1 = length-append (a .done) (h ∷ []) in
           let line : lineOf (here .index) got ≡ lineOf (0 + length (a .done)) (h .answer) =
-          ap₂ (λ (k : ℕ) (x : Received). lineOf k x) (omega (arith, a .counts .index-is)) is-got in
+          ap₂ (λ (k : ℕ) (x : Received). lineOf k x) (omega (arith, a .index-is)) is-got in
           let turn : ahead log here ≡ h ∷ ahead log here′ =
           ap (λ (w : Walk). heardFrom (here .state) (w .records)) (walk-at log (here .place) is-one)
           ∙ ap₂ (λ (st : Receiver) (n : ℕ). h ∷ heardFrom st (recordsIn (drop n log))) onto next in
           record {
             read = r;
             same = l ∙ a .same;
-            far = omega (arith, a .far, next, counted .index-is, a .counts .index-is, length-append (a .done) (h ∷ []));
+            far = omega (arith, a .far, next, index);
             done = a .done ++ (h ∷ []);
-            counts = counted;
+            counts = counts (a .done) h is-got (a .counts);
+            index-is = omega (arith, index, longer, a .index-is);
             missing-to =
                 omega (
                   arith,
                   a .missing-to,
-                  length-append (a .done) (h ∷ []),
+                  longer,
                   total-more (λ (x : Heard). x .answer .missing) (a .done) h,
                   missing-few (here .state) arrived,
                 );

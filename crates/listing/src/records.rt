@@ -6,11 +6,11 @@ use receiver::Received;
 use receiver::Receiver;
 ghost use mathlib.Core.List.{List, [], _∷_, _++_};
 ghost use mathlib.Core.Path.{_≡_};
-ghost use Prim.Native.Nat.{_≤_};
+ghost use Prim.Native.Nat.{_+_, _≤_};
 ghost use lib.ListN.{length};
 ghost use Rattle.reading.specs.Heard.{Heard};
 ghost use Rattle.reading.specs.Reading.{freshOf};
-ghost use Rattle.listing.specs.Code.{Puts, recordLines, Counts, Small};
+ghost use Rattle.listing.specs.Code.{Puts, recordLines, Counted, Small};
 ghost use Rattle.listing.specs.List.{lineOf, endLines};
 
 // Where the list stands in its log: the place, the record's number, the counts of the end line, and the receiver's state.
@@ -24,7 +24,7 @@ pub(crate) struct Standing {
 }
 
 fn start(header: Header) -> Standing
-    ensures { λ r. ⌜ (r .place ≡ header .place) × (r .state ≡ freshOf header) × Counts r [] ⌝ }
+    ensures { λ r. ⌜ (r .place ≡ header .place) × (r .state ≡ freshOf header) × (r .index ≡ 0) × Counted r [] ⌝ }
 {
     let opened = receiver::opened(header.format, header.channels, header.order);
     let state = opened.state;
@@ -41,8 +41,8 @@ fn start(header: Header) -> Standing
 // The list past a record that the receiver judged. A refused one tells that none is missing.
 fn after(here: Standing, next: usize, got: Received) -> Standing
     requires { ⌜ Small here ⌝ }
-    ensures { λ r. ⌜ (r .place ≡ next) × (r .state ≡ got .state)
-        × ((done : List Heard) (h : Heard) → got ≡ h .answer → Counts here done → Counts r (done ++ (h ∷ []))) ⌝ }
+    ensures { λ r. ⌜ (r .place ≡ next) × (r .state ≡ got .state) × (r .index ≡ here .index + 1)
+        × ((done : List Heard) (h : Heard) → got ≡ h .answer → Counted here done → Counted r (done ++ (h ∷ []))) ⌝ }
 {
     let state = got.state;
     let index = here.index + 1;
@@ -79,7 +79,7 @@ fn record_line(run: &mut [u8], at: Listed, index: usize, got: Received) -> Liste
 }
 
 fn end_lines(run: &mut [u8], at: Listed, here: Standing, fault: u8) -> Listed
-    ensures { λ r. ⌜ ((done : List Heard) → Counts here done
+    ensures { λ r. ⌜ ((done : List Heard) → Counted here done → here .index ≡ length done
         → Puts (now (run .entry)) at (now (run .exit)) r (endLines done fault)) ⌝ }
 {
     if fault == 0 {

@@ -7,14 +7,14 @@ use Rattle.listing.proofs.records.end_lines.Statement.{statement}
 use Rattle.listing.proofs.records.end_lines.Tie as tie
 
 returns : tie.Need-returns
-returns c done counts =
+returns c done counts index =
     let at-if1 = c .before .before .before .before in
     puts-same (end-plain counts (at-if1 .if1 .taken)) (c .before .before .end-line .ensures)
 
 returns-2 : tie.Need-returns-2
-returns-2 c done counts =
+returns-2 c done counts index =
     let at-broken-line = c .before .before .before .before .before .before in
-    puts-same (end-broken counts (at-broken-line .before .before .if1 .left))
+    puts-same (end-broken counts index (at-broken-line .before .before .if1 .left))
     (puts-then (at-broken-line .broken-line .ensures) (c .before .before .end-line2 .ensures))
 
 pub end-lines-spec : {M : Type 1} → statement M

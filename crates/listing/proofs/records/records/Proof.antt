@@ -18,7 +18,7 @@ abbrev μ-loop : tie.MeasureT-loop
 loop-holds : tie.Need-loop-holds Inv-loop μ-loop
 loop-holds c =
     let at-start = c .before in
-    (at-start .before .before .before .pre, along-start _ _ _ (at-start .start .ensures .2) (c .read .ensures))
+    (at-start .before .before .before .pre, along-start _ _ _ (at-start .start .ensures .2) (at-start .start .ensures .3) (c .read .ensures))
 
 after-requires : tie.Need-after-requires Inv-loop μ-loop
 after-requires c κs =
@@ -41,7 +41,7 @@ loop-again c =
       at-loop .loop .inv .0,
       along-turn (at-loop .loop .inv .1) (at-loop .loop .inv .0) (at-read-cell .before .if1 .taken) (at-record-line .before .before .judged .ensures)
           (at-read-cell .read-cell .ensures .0) (at-record-line .record-line .ensures) (at-record-line .record-line .kept .0) (passed .0)
-          (passed .1) (passed .2) (c .read2 .ensures),
+          (passed .1) (passed .2) (passed .3) (c .read2 .ensures),
     )
 
 same-length : tie.Need-same-length Inv-loop μ-loop
