@@ -10,8 +10,9 @@ use Rattle.runs.specs.Runs.{over}
 use Rattle.formats.specs.Formats.{settingsRefusal}
 use Rattle.sender.specs.declared.Ready as SR
 use Rattle.sender.specs.Sender as S
-use Rattle.receiver.specs.declared.Receiver.{Receiver}
 use Rattle.receiver.specs.declared.Ready.{Ready}
+use Rattle.receiver.specs.declared.Receiver.{Receiver}
+use Rattle.receiver.specs.declared.Received.{Received}
 use Rattle.receiver.specs.Receiver as R
 use Rattle.status.specs.declared.step.Block.{Block}
 use Rattle.status.specs.declared.step.Stepped.{Stepped}
@@ -41,6 +42,7 @@ use Rattle.line.specs.Contracts.{
   MeetsOpenSender,
   MeetsOpenReceiver,
   MeetsPlaced,
+  MeetsJudged,
   MeetsStep,
   MeetsReadNumber,
   MeetsReadHeader,
@@ -64,6 +66,7 @@ use Rattle.line.specs.Demands.{
   SentNothing,
   receiveTable,
   ReceivedNothing,
+  JudgedNothing,
   SteppedNothing,
   recordTable,
   ReadNothing,
@@ -81,6 +84,7 @@ use Rattle.line.proofs.Places.{longest-inside, demand-3-inside}
 use Rattle.line.proofs.Refused.{
   opens-sender,
   opens-receiver,
+  judges,
   steps,
   reads-number,
   reads-header,
@@ -117,6 +121,10 @@ demand-1-open-receiver = opens-receiver
 -- it refuses nothing
 pub demand-1-placed : (st : Receiver) (r : ℕ) → MeetsPlaced st r → r ≡ st .count
 demand-1-placed st r meets = meets
+
+pub demand-1-judged : (state : Receiver) (cell : List ℕ) (indication : Bool) (r : Received) → MeetsJudged state cell indication r
+    → Refuses (r .refusal) (R.receiveRefusal state cell indication 720 720 720) (JudgedNothing state r)
+demand-1-judged = judges
 
 pub demand-1-status : (block : Block) (ancillary mark : ℕ) (r : Stepped) → MeetsStep block ancillary mark r
     → Refuses (r .handed .refusal) (cond (isRefused (block .bits) ancillary mark) 14 0) (SteppedNothing block r)

@@ -175,6 +175,11 @@ module _ (st : Receiver) (cell : List ℕ) (indication : Bool) (samples ancillar
   unfolding receivedOf
   answer-refused some e = rw (← e, ne-eqb _ _ some)
 
+  -- by checks 1 to 5
+  pub answer-early : {n : ℕ} → (n ≡ 0 → ⊥) → n ≡ earlyRefusal st (length cell) samples ancillary marks
+      → refusedBy n st ≡ receivedOf st cell indication samples ancillary marks
+  answer-early some e = answer-refused some (early-first st cell indication samples ancillary marks some e)
+
   pub answer-taken : {missing number second count : ℕ} → 0 ≡ receiveRefusal st cell indication samples ancillary marks
       → missing ≡ gapOf st cell - 1 → number ≡ numberNow st cell → second ≡ secondNow st cell
       → count ≡ countAfter st cell

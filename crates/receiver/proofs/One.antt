@@ -3,6 +3,8 @@
 -- Assumes nothing.
 use mathlib.Core.Path.{refl, sym, _∙_}
 use Rattle.runs.proofs.One.{One}
+use Rattle.receiver.proofs.judged.Kinds as judged-kinds
+use Rattle.receiver.proofs.judged.Reads as judged-reads
 use Rattle.receiver.proofs.opened.Kinds as opened-kinds
 use Rattle.receiver.proofs.opened.Reads as opened-reads
 use Rattle.receiver.proofs.placed.Kinds as placed-kinds
@@ -15,6 +17,9 @@ opened-one κs a x y v w pre p q = (p ∙ sym q, refl)
 
 pub placed-one : One placed-kinds.ps placed-kinds.r placed-reads.Pre placed-reads.Post
 placed-one κs a x y v w pre p q = (p ∙ sym q, refl)
+
+pub judged-one : One judged-kinds.ps judged-kinds.r judged-reads.Pre judged-reads.Post
+judged-one κs a x y v w pre p q = (p ∙ sym q, refl)
 
 pub receive-one : One receive-kinds.ps receive-kinds.r receive-reads.Pre receive-reads.Post
 receive-one κs a x y v w pre p q = (

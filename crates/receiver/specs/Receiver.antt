@@ -143,6 +143,10 @@ receivedOf st cell indication samples ancillary marks =
       indication = false;
     })
 
+-- the answer with room for fifteen cells of 48 entries, the most that one call writes
+unfoldable pub judgedOf : Receiver → List ℕ → Bool → Received
+judgedOf st cell indication = receivedOf st cell indication 720 720 720
+
 -- what the call gives each run: nothing where it is refused
 unfoldable pub entriesGiven : Receiver → List ℕ → Bool → ℕ → ℕ → ℕ → List ℕ → List ℕ
 entriesGiven st cell indication samples ancillary marks entries =

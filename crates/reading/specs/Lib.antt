@@ -1,0 +1,5 @@
+pub mod Code
+pub mod Heard
+pub mod Reading
+pub mod Records
+pub mod Totals
