@@ -1,4 +1,4 @@
--- Counts over a list: each is a sum over what the list holds.
+-- Counts over a list, each a sum over what the list holds; those in it that pass a test; what holds of each.
 -- Assumes nothing.
 use mathlib.Core.Bool.{Bool, cond}
 use mathlib.Core.List.{List, [], _∷_}
@@ -16,3 +16,7 @@ countOf test xs = totalOf (λ x. cond (test x) 1 0) xs
 unfoldable pub those : {A : Type 0} → (A → Bool) → List A → List A
 those test [] = []
 those test (x ∷ xs) = cond (test x) (x ∷ those test xs) (those test xs)
+
+unfoldable pub Each : {A : Type 0} → (A → Type 0) → List A → Type 0
+Each Holds [] = Unit {0}
+Each Holds (x ∷ xs) = Holds x × Each Holds xs

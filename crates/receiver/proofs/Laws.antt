@@ -194,6 +194,11 @@ module _ (st : Receiver) (cell : List ℕ) (indication : Bool) (samples ancillar
   unfolding receivedOf
   answer-refused some e = rw (← e, ne-eqb _ _ some)
 
+  -- by checks 1 to 5
+  pub answer-early : {n : ℕ} → (n ≡ 0 → ⊥) → n ≡ earlyRefusal st (length cell) samples ancillary marks
+      → refusedBy n st ≡ receivedOf st cell indication samples ancillary marks
+  answer-early some e = answer-refused some (early-first st cell indication samples ancillary marks some e)
+
   pub answer-taken : {missing number second : ℕ} → 0 ≡ receiveRefusal st cell indication samples ancillary marks
       → missing ≡ gapOf st cell - 1 → number ≡ numberNow st cell → second ≡ secondNow st cell
       → takenAs st missing number second indication ≡ receivedOf st cell indication samples ancillary marks

@@ -3,6 +3,8 @@
 -- Assumes nothing.
 use mathlib.Core.Path.{refl, sym, _∙_}
 use Rattle.runs.proofs.One.{One}
+use Rattle.receiver.proofs.judged.Kinds as judged-kinds
+use Rattle.receiver.proofs.judged.Reads as judged-reads
 use Rattle.receiver.proofs.opened.Kinds as opened-kinds
 use Rattle.receiver.proofs.opened.Reads as opened-reads
 use Rattle.receiver.proofs.receive.Kinds as receive-kinds
@@ -10,6 +12,9 @@ use Rattle.receiver.proofs.receive.Reads as receive-reads
 
 pub opened-one : One opened-kinds.ps opened-kinds.r opened-reads.Pre opened-reads.Post
 opened-one κs a x y v w pre p q = (p ∙ sym q, refl)
+
+pub judged-one : One judged-kinds.ps judged-kinds.r judged-reads.Pre judged-reads.Post
+judged-one κs a x y v w pre p q = (p ∙ sym q, refl)
 
 pub receive-one : One receive-kinds.ps receive-kinds.r receive-reads.Pre receive-reads.Post
 receive-one κs a x y v w pre p q = (

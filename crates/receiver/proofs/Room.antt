@@ -2,7 +2,7 @@
 -- Assumes nothing.
 use mathlib.Core.Bool.{Bool, true, false, cond, not, _||_}
 use mathlib.Core.List.{List}
-use mathlib.Core.Path.{_≡_}
+use mathlib.Core.Path.{_≡_, sym, _∙_}
 use Prim.Native.Nat.{ℕ, _*_, _≤_}
 use native.Mathlib.Nat.{le-trans, mul-div-le, mul-le-mul-right}
 use native.Mathlib.Omega.{arith}
@@ -17,8 +17,18 @@ use Rattle.numbers.specs.declared.Found.{Found}
 use Rattle.numbers.specs.declared.Found.the-variants.{Number, Nothing}
 use Rattle.numbers.specs.Numbers.{refusalOf, indicationRefused}
 use Rattle.receiver.specs.declared.Receiver.{Receiver}
-use Rattle.receiver.specs.Receiver.{gapOf, usedNow, foundNow, numberNow, lastRefused, lengthsRefused, stateRefusal, receiveRefusal}
-use Rattle.receiver.proofs.Laws.{gap-to}
+use Rattle.receiver.specs.Receiver.{
+  gapOf,
+  usedNow,
+  foundNow,
+  numberNow,
+  lastRefused,
+  lengthsRefused,
+  stateRefusal,
+  receiveRefusal,
+  judgedOf,
+}
+use Rattle.receiver.proofs.Laws.{gap-to, answer-refusal}
 
 -- a number that neither way of a test gives
 pub not-so : (test : Bool) {k n rest : ℕ} → (n ≡ k → ⊥) → (rest ≡ k → ⊥) → cond test n rest ≡ k → ⊥
@@ -74,3 +84,9 @@ pub room-in-720 : (st : Receiver) (cell : List ℕ) (indication : Bool) (samples
     → receiveRefusal st cell indication samples ancillary marks ≡ 10 → ⊥
 room-in-720 st cell indication samples ancillary marks enough =
     always-room st cell indication samples ancillary marks (omega (arith, used-few st))
+
+-- so 10 is never said of a cell that is judged with that room
+pub never-10 : (st : Receiver) (cell : List ℕ) (indication : Bool) → judgedOf st cell indication .refusal ≡ 10 → ⊥
+unfolding judgedOf
+never-10 st cell indication ten =
+    room-in-720 st cell indication 720 720 720 (omega arith) (sym (answer-refusal st cell indication 720 720 720) ∙ ten)

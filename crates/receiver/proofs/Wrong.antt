@@ -45,8 +45,11 @@ use Rattle.receiver.specs.Receiver.{
   secondNow,
   after,
   receivedOf,
+  judgedOf,
   entriesGiven,
 }
+use Rattle.receiver.proofs.judged.Kinds as judged-kinds
+use Rattle.receiver.proofs.judged.Reads as judged-reads
 use Rattle.receiver.proofs.opened.Kinds as opened-kinds
 use Rattle.receiver.proofs.opened.Reads as opened-reads
 use Rattle.receiver.proofs.receive.Kinds as receive-kinds
@@ -62,7 +65,7 @@ unfolding entriesOf slotOf slotOfEntry entryOfSlot carried over orElse refusalOf
 placed-unfolded = tt
 
 unfoldable pub unfolded : Unit {0}
-unfolding formats.unfolded numbers.unfolded guards.unfolded cells-unfolded placed-unfolded foundNow gapOf receiveRefusal entriesNow secondNow receivedOf entriesGiven
+unfolding formats.unfolded numbers.unfolded guards.unfolded cells-unfolded placed-unfolded foundNow gapOf receiveRefusal entriesNow secondNow receivedOf judgedOf entriesGiven
 unfolded = tt
 
 -- openings: format, C, order
@@ -205,3 +208,24 @@ module _ (κs : Lfts 4) (c s a m : Place) where
       (λ x samples ancillary marks. x .state .started ≡ true)
   unfolding unfolded
   wrongly-indicated-not-counted x v wrong p = true≢false (sym wrong ∙ ap (λ (r : Received). r .state .started) (p .answered))
+
+-- judged without runs
+module _ (κs : Lfts 1) (c : Place) where
+  abbrev Judging : Receiver → List ℕ → (Received → Type 0) → Type 0
+  Judging st cell Wrong =
+      Never judged-kinds.ps judged-kinds.r judged-reads.Post κs (st, (lent c cell, (false, tt))) (λ x v. Wrong x)
+
+  -- the receiver that only nods: a repeat taken
+  pub judged-not-nodding : Judging (archive 3) third (λ x. x .refusal ≡ 0)
+  unfolding unfolded
+  judged-not-nodding x v wrong p = let right : x .refusal ≡ 9 = ap (λ (r : Received). r .refusal) p in omega arith
+
+  -- refused for room, of which there is enough: fourteen cells missing
+  pub judged-not-for-room : Judging (archive 4) third (λ x. x .refusal ≡ 10)
+  unfolding unfolded
+  judged-not-for-room x v wrong p = let right : x .refusal ≡ 0 = ap (λ (r : Received). r .refusal) p in omega arith
+
+  -- a state that stays although the cell is taken
+  pub judged-not-left : Judging (archive 4) third (λ x. x .state .last ≡ 4)
+  unfolding unfolded
+  judged-not-left x v wrong p = let right : x .state .last ≡ 3 = ap (λ (r : Received). r .state .last) p in omega arith

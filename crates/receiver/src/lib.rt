@@ -1,6 +1,6 @@
 // The receiver's box, document 01: opening and receiving, refusals 1 to 5, 8 to 10 and 15.
 ghost use mathlib.Core.Path.{_≡_};
-ghost use Rattle.receiver.specs.Receiver.{openedOf, Receives};
+ghost use Rattle.receiver.specs.Receiver.{openedOf, judgedOf, Receives};
 
 mod bits;
 mod entries;
@@ -117,4 +117,22 @@ pub fn receive(
         return usual::receive(state, cell, indication, samples, ancillary, marks);
     }
     receive_any(state, cell, indication, samples, ancillary, marks)
+}
+
+// What `receive` answers to a cell with room for all that one call can write, fifteen cells of up to 48 entries: so refusal 10 is
+// never given. Nothing is unpacked and nothing is lent to be written.
+pub fn judged(state: Receiver, cell: &[u8], indication: bool) -> Received
+    ensures { λ r. ⌜ r ≡ judgedOf state (now (cell .entry)) indication ⌝ }
+{
+    let set = formats::settings(
+        state.format as u32,
+        state.channels as u32,
+        state.order as u32,
+    );
+    let early = judge::early_refusal(set, state, cell.len(), 720, 720, 720);
+    if early != 0 {
+        return judge::refused(early, state);
+    }
+    let found = bits::found_now(set.format, cell);
+    judge::judged(set, state, found, cell, indication, 720)
 }

@@ -1,0 +1,5 @@
+pub mod Heard
+pub mod Places
+pub mod Reading
+pub mod Records
+pub mod Totals

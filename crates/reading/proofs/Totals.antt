@@ -1,0 +1,54 @@
+-- Laws of counts over lists.
+-- Assumes nothing.
+use mathlib.Core.Bool.{Bool, true, false, not, cond}
+use mathlib.Core.List.{List, [], _∷_, _++_}
+use mathlib.Core.Path.{_≡_, refl, _∙_, ap}
+use Prim.Native.Nat.{ℕ, _+_, _*_, _≤_}
+use native.Mathlib.Nat.{mul-suc}
+use native.Mathlib.Omega.{arith}
+use lib.ListN.{length}
+use Rattle.runs.proofs.Laws.{split}
+use Rattle.reading.specs.Totals.{totalOf, countOf, those, Each}
+
+module _ {A : Type 0} where
+  -- counts over two lists joined add up
+  pub total-joined : (f : A → ℕ) (xs ys : List A) → totalOf f (xs ++ ys) ≡ totalOf f xs + totalOf f ys
+  unfolding totalOf
+  total-joined f [] ys = omega arith
+  total-joined f (x ∷ xs) ys = omega (arith, total-joined f xs ys)
+
+  -- each passes a test or not
+  pub count-both : (test : A → Bool) (xs : List A) → countOf test xs + countOf (λ x. not (test x)) xs ≡ length xs
+  unfolding totalOf
+  count-both test [] = refl
+  count-both test (x ∷ xs) =
+      split (test x)
+      (λ e. rw e (omega (arith, count-both test xs)))
+      (λ e. rw e (omega (arith, count-both test xs)))
+
+  pub those-twice : (test : A → Bool) (xs : List A) → those test (those test xs) ≡ those test xs
+  unfolding those
+  those-twice test [] = refl
+  those-twice test (x ∷ xs) =
+      split (test x)
+      (λ e. rw e (rw e (ap (λ (ys : List A). x ∷ ys) (those-twice test xs))))
+      (λ e. rw e (those-twice test xs))
+
+  pub length-those : (test : A → Bool) (xs : List A) → length (those test xs) ≡ countOf test xs
+  unfolding those totalOf
+  length-those test [] = refl
+  length-those test (x ∷ xs) =
+      split (test x)
+      (λ e. rw e (omega (arith, length-those test xs)))
+      (λ e. rw e (omega (arith, length-those test xs)))
+
+  pub each-joined : {Holds : A → Type 0} (xs ys : List A) → Each Holds xs → Each Holds ys → Each Holds (xs ++ ys)
+  unfolding Each
+  each-joined [] ys h k = k
+  each-joined (x ∷ xs) ys h k = (h .0, each-joined xs ys (h .1) k)
+
+  -- a sum of numbers up to a bound
+  pub total-to : (f : A → ℕ) (most : ℕ) (xs : List A) → Each (λ x. f x ≤ most) xs → totalOf f xs ≤ most * length xs
+  unfolding totalOf Each
+  total-to f most [] h = omega arith
+  total-to f most (x ∷ xs) h = omega (arith, h .0, total-to f most xs (h .1), mul-suc most (length xs))
