@@ -83,13 +83,13 @@ pub whole-in-piece : (s : Standing) (next : ℕ) {records : ℕ} → records ≡
     ≡ wholeFound s next
 whole-in-piece s next e = rw e
 
-pub begins : {count octet : ℕ} → count ≡ 0 → ltb 1 octet ≡ beginsAbove count octet
+pub begins : {count : ℕ} (octet : ℕ) → count ≡ 0 → ltb 1 octet ≡ beginsAbove count octet
 unfolding beginsAbove
-begins {count} z = rw (eq-eqb count 0 z)
+begins {count} octet z = rw (eq-eqb count 0 z)
 
-pub begun : {count octet : ℕ} → (count ≡ 0 → ⊥) → false ≡ beginsAbove count octet
+pub begun : {count : ℕ} (octet : ℕ) → (count ≡ 0 → ⊥) → false ≡ beginsAbove count octet
 unfolding beginsAbove
-begun {count} some = rw (ne-eqb count 0 some)
+begun {count} octet some = rw (ne-eqb count 0 some)
 
 pub lies-not : {count : ℕ} (ahead left : ℕ) → (count ≡ 0 → ⊥) → false ≡ liesWhole count ahead left
 unfolding liesWhole
@@ -117,11 +117,11 @@ module _ (s : Standing) (held piece : List ℕ) (place : ℕ) where
   unfolding nextOf heldNow
   past-end h = let e = le-leb (length piece) place h in record { answered = rw e; left = rw e }
 
-  module _ {answer : Found} (here : place < length piece) where
+  module _ (here : place < length piece) where
     inside : leb (length piece) place ≡ false
     inside = lt-leb (length piece) place here
 
-    pub in-header : s .stage ≡ 0 → answer ≡ headerFound s (set held (s .count % 9) (getD piece place 0)) (place + 1) (length piece)
+    pub in-header : {answer : Found} → s .stage ≡ 0 → answer ≡ headerFound s (set held (s .count % 9) (getD piece place 0)) (place + 1) (length piece)
         → Steps s held piece place answer (set held (s .count % 9) (getD piece place 0))
     unfolding nextOf heldNow
     in-header z e =
@@ -132,7 +132,7 @@ module _ (s : Standing) (held piece : List ℕ) (place : ℕ) where
       f : eqb (s .stage) 0 ≡ false
       f = ne-eqb (s .stage) 0 not-header
 
-      pub behind-fault : (s .stage ≡ 1 → ⊥) → answer ≡ record { what = 0; next = length piece; standing = s } → Steps s held piece place answer held
+      pub behind-fault : {answer : Found} → (s .stage ≡ 1 → ⊥) → answer ≡ record { what = 0; next = length piece; standing = s } → Steps s held piece place answer held
       unfolding nextOf heldNow
       behind-fault other e =
           let g : eqb (s .stage) 1 ≡ false = ne-eqb (s .stage) 1 other in
@@ -142,7 +142,7 @@ module _ (s : Standing) (held piece : List ℕ) (place : ℕ) where
         t : eqb (s .stage) 1 ≡ true
         t = eq-eqb (s .stage) 1 among
 
-        pub at-limit : s .left ≡ 0 → answer ≡ faultFound s 3 13 (length piece) → Steps s held piece place answer held
+        pub at-limit : {answer : Found} → s .left ≡ 0 → answer ≡ faultFound s 3 13 (length piece) → Steps s held piece place answer held
         unfolding nextOf heldNow
         at-limit z e =
             let none : eqb (s .left) 0 ≡ true = eq-eqb (s .left) 0 z in
@@ -152,18 +152,18 @@ module _ (s : Standing) (held piece : List ℕ) (place : ℕ) where
           l : eqb (s .left) 0 ≡ false
           l = ne-eqb (s .left) 0 some
 
-          pub first-above : beginsAbove (s .count % 49) (getD piece place 0) ≡ true → answer ≡ faultFound s 3 11 (length piece)
+          pub first-above : {answer : Found} → beginsAbove (s .count % 49) (getD piece place 0) ≡ true → answer ≡ faultFound s 3 11 (length piece)
               → Steps s held piece place answer held
           unfolding nextOf heldNow
           first-above b e = record { answered = e ∙ rw (inside, f, t, l, b); left = rw (inside, f, t, l, b) }
 
           module _ (b : beginsAbove (s .count % 49) (getD piece place 0) ≡ false) where
-            pub lies-in-piece : liesWhole (s .count % 49) (length piece - place) (s .left) ≡ true → answer ≡ wholeFound s (place + 49)
+            pub lies-in-piece : {answer : Found} → liesWhole (s .count % 49) (length piece - place) (s .left) ≡ true → answer ≡ wholeFound s (place + 49)
                 → Steps s held piece place answer held
             unfolding nextOf heldNow
             lies-in-piece w e = record { answered = e ∙ rw (inside, f, t, l, b, w); left = rw (inside, f, t, l, b, w) }
 
-            pub held-more : liesWhole (s .count % 49) (length piece - place) (s .left) ≡ false → answer ≡ recordFound s (place + 1)
+            pub held-more : {answer : Found} → liesWhole (s .count % 49) (length piece - place) (s .left) ≡ false → answer ≡ recordFound s (place + 1)
                 → Steps s held piece place answer (set held (s .count % 49) (getD piece place 0))
             unfolding nextOf heldNow
             held-more w e = record { answered = e ∙ rw (inside, f, t, l, b, w); left = rw (inside, f, t, l, b, w) }

@@ -10,11 +10,14 @@ use Rattle.log.specs.Records.{headerOf}
 use Rattle.reading.specs.Reading.{behindHeader}
 use Rattle.reading.specs.Records.{Whole, recordsIn, faultIn}
 
--- what a log hands out: its header, where that is taken; a whole record; the refusal of the header, or of the record that is broken
+-- what a log hands out: its header, where that is taken; a whole record; and last the refusal of the header, or that of the record
+-- that is broken, or that the log ends without a fault
 pub data Part : Type 0 where
   head : Header → Part
   whole : Whole → Part
-  fault : ℕ → Part
+  refused : ℕ → Part
+  broken : ℕ → Part
+  done : Part
 
 -- the whole records of octets of which so many are within the limit
 unfoldable pub recordsTo : ℕ → List ℕ → List Whole
@@ -28,17 +31,17 @@ faultTo limit octets =
     (faultIn octets)
     (cond (eqb (faultIn (take limit octets)) 11) 11 13)
 
--- a refusal, where there is one
-unfoldable pub faultParts : ℕ → List Part
-faultParts refusal = cond (eqb refusal 0) [] (fault refusal ∷ [])
+-- what stops the records of a log: a fault (0: none), or the end
+unfoldable pub endPart : ℕ → List Part
+endPart refusal = cond (eqb refusal 0) (done ∷ []) (broken refusal ∷ [])
 
--- the records of octets, and the fault that stops them
+-- the records of octets, and what stops them
 abbrev pub recordParts : ℕ → List ℕ → List Part
-recordParts limit octets = map whole (recordsTo limit octets) ++ faultParts (faultTo limit octets)
+recordParts limit octets = map whole (recordsTo limit octets) ++ endPart (faultTo limit octets)
 
 -- the parts of a log: an accepted header has three octets, which the limit counts too
 unfoldable pub partsOf : ℕ → List ℕ → List Part
 partsOf limit log =
     cond (eqb (headerOf log .refusal) 0)
     (head (headerOf log) ∷ recordParts (limit - 3) (behindHeader log))
-    (fault (headerOf log .refusal) ∷ [])
+    (refused (headerOf log .refusal) ∷ [])

@@ -1,17 +1,17 @@
 -- What a step along a piece answers, and what the lent array holds afterwards.
 -- Assumes nothing.
 use mathlib.Core.Bool.{Bool, cond, not, _&&_}
-use mathlib.Core.List.{List, [], _∷_}
+use mathlib.Core.List.{List, [], _∷_, _++_}
 use mathlib.Core.Path.{_≡_}
-use Prim.Native.Nat.{ℕ, _+_, _-_, _%_, _^_}
+use Prim.Native.Nat.{ℕ, zero, suc, _+_, _-_, _%_, _^_}
 use lib.Dec.{eqb, leb, ltb}
 use lib.ListN.{length, getD, take, drop, set}
 use Rattle.log.specs.Records.{headerOf}
 use Rattle.reading.specs.Records.{frontOf}
 use Rattle.pieces.specs.declared.Found.{Found}
 use Rattle.pieces.specs.declared.Standing.{Standing}
-use Rattle.pieces.specs.Limit.{Part, head, whole, fault}
-use Rattle.pieces.specs.Taken.{Taking, endFault}
+use Rattle.pieces.specs.Limit.{Part, head, whole}
+use Rattle.pieces.specs.Taken.{Taking, faultPart, handed, endParts}
 
 -- before the first octet of a log that may have so many
 abbrev pub startOf : ℕ → Standing
@@ -95,4 +95,32 @@ foundParts found held piece place =
     cond (eqb (found .what) 1) (head (headerOf (take 3 held)) ∷ [])
     (cond (eqb (found .what) 2) (whole (frontOf (take 49 (drop place piece))) ∷ [])
     (cond (eqb (found .what) 3) (whole (frontOf held) ∷ [])
-    (cond (eqb (found .what) 4) (fault (found .standing .fault) ∷ []) [])))
+    (cond (eqb (found .what) 4) (faultPart (found .standing .stage) (found .standing .fault) ∷ []) [])))
+
+-- where a log stands behind a piece: the standing, and what the lent array holds
+pub record Stood : Type 0 where
+  pub standing : Standing
+  pub held : List ℕ
+
+-- at most so many steps along a piece, from a place on
+unfoldable pub stepsFrom : ℕ → Standing → List ℕ → List ℕ → ℕ → Stood
+stepsFrom zero s held piece place = record { standing = s; held = held }
+stepsFrom (suc most) s held piece place =
+    cond (ltb place (length piece))
+    (stepsFrom most (nextOf s held piece place .standing) (heldNow s held piece place) piece (nextOf s held piece place .next))
+    (record { standing = s; held = held })
+
+-- steps along a whole piece: each takes an octet at least
+unfoldable pub stoodOf : Standing → List ℕ → List ℕ → Stood
+stoodOf s held piece = stepsFrom (length piece) s held piece 0
+
+-- a log in pieces, each taken where the one before it left off: what is handed out up to the end
+unfoldable pub handedOver : Standing → List ℕ → List (List ℕ) → List Part
+handedOver s held [] = endParts (takingOf s held)
+handedOver s held (piece ∷ pieces) =
+    handed (takingOf s held) piece ++ handedOver (stoodOf s held piece .standing) (stoodOf s held piece .held) pieces
+
+-- and where it stands then
+unfoldable pub stoodOver : Standing → List ℕ → List (List ℕ) → Stood
+stoodOver s held [] = record { standing = s; held = held }
+stoodOver s held (piece ∷ pieces) = stoodOver (stoodOf s held piece .standing) (stoodOf s held piece .held) pieces

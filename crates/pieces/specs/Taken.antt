@@ -7,7 +7,7 @@ use lib.Dec.{eqb, ltb}
 use lib.ListN.{length}
 use Rattle.log.specs.Records.{headerOf}
 use Rattle.reading.specs.Records.{frontOf}
-use Rattle.pieces.specs.Limit.{Part, head, whole, fault}
+use Rattle.pieces.specs.Limit.{Part, head, whole, refused, broken, endPart}
 
 -- where a log stands. The stage: 0 in the header, 1 among the records, 2 the header is refused, 3 a record is broken; the refusal; how
 -- many octets the limit leaves, in the header those of the whole log; how many records were handed out; the octets held.
@@ -30,12 +30,16 @@ pub record Took : Type 0 where
 abbrev pub quietly : Taking → Took
 quietly t = record { taking = t; parts = [] }
 
+-- the fault of a stage
+abbrev pub faultPart : ℕ → ℕ → Part
+faultPart stage refusal = cond (eqb stage 2) (refused refusal) (broken refusal)
+
 -- a fault ends the log: nothing is held any more
 abbrev pub faulty : Taking → ℕ → ℕ → Took
 faulty t stage refusal =
     record {
       taking = record { stage = stage; fault = refusal; left = t .left; records = t .records; part = [] };
-      parts = fault refusal ∷ [];
+      parts = faultPart stage refusal ∷ [];
     }
 
 -- the header, with the octets held of it now. A header that is taken has three octets; nine say by what another is refused.
@@ -82,4 +86,23 @@ handed t (octet ∷ octets) = one t octet .parts ++ handed (one t octet .taking)
 unfoldable pub endFault : Taking → ℕ
 endFault t =
     cond (eqb (t .stage) 0) (headerOf (t .part) .refusal)
-    (cond (eqb (t .stage) 1 && ltb 0 (length (t .part))) 12 0)
+    (cond (eqb (t .stage) 1) (cond (ltb 0 (length (t .part))) 12 0) 0)
+
+-- what is handed out then, where no fault was before
+unfoldable pub endParts : Taking → List Part
+endParts t =
+    cond (eqb (t .stage) 0) (refused (headerOf (t .part) .refusal) ∷ [])
+    (cond (eqb (t .stage) 1) (endPart (cond (ltb 0 (length (t .part))) 12 0)) [])
+
+-- a log in pieces: the octets of all of them, where it stands behind them, and what is handed out up to the end
+unfoldable pub joinedOf : List (List ℕ) → List ℕ
+joinedOf [] = []
+joinedOf (piece ∷ pieces) = piece ++ joinedOf pieces
+
+unfoldable pub afterAll : Taking → List (List ℕ) → Taking
+afterAll t [] = t
+afterAll t (piece ∷ pieces) = afterAll (after t piece) pieces
+
+unfoldable pub handedAll : Taking → List (List ℕ) → List Part
+handedAll t [] = endParts t
+handedAll t (piece ∷ pieces) = handed t piece ++ handedAll (after t piece) pieces

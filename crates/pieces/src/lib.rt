@@ -2,6 +2,7 @@
 // part that isn't whole yet are held in an array that the caller lends.
 ghost use mathlib.Core.Path.{_≡_};
 ghost use Prim.Native.Nat.{_-_, _≤_, _<_};
+ghost use lib.ListN.{length};
 ghost use Rattle.pieces.specs.Steps.{startOf, takingOf, faultFound, headerFound, recordFound, wholeFound, beginsAbove, liesWhole, Steps};
 ghost use Rattle.pieces.specs.Taken.{endFault};
 
@@ -61,13 +62,12 @@ fn behind_header(left: u64) -> u64
 }
 
 // What the header's newest octet makes of it. It is held already.
-fn header_found(standing: Standing, held: &[u8; 49], next: usize, end: usize) -> Found
-    ensures { λ r. ⌜ r ≡ headerFound standing (now (held .entry)) next end ⌝ }
+fn header_found(standing: Standing, held: [u8; 49], next: usize, end: usize) -> Found
+    ensures { λ r. ⌜ r ≡ headerFound standing held next end ⌝ }
 {
     let count = standing.count % 9;
-    let octets = *held;
     if count == 2 {
-        let header = log::read_header(&octets[..3]);
+        let header = log::read_header(&held[..3]);
         if header.refusal == 0 {
             let left = behind_header(standing.left);
             return Found {
@@ -84,7 +84,7 @@ fn header_found(standing: Standing, held: &[u8; 49], next: usize, end: usize) ->
         }
     }
     if count == 8 {
-        let header = log::read_header(&octets[..9]);
+        let header = log::read_header(&held[..9]);
         return fault_found(standing, 2, header.refusal, end);
     }
     let more = count + 1;
@@ -198,7 +198,8 @@ pub fn next(standing: Standing, held: &mut [u8; 49], piece: &[u8], place: usize)
     if standing.stage == 0 {
         let header_count = standing.count % 9;
         held[header_count] = octet;
-        return header_found(standing, held, past, end);
+        let octets = *held;
+        return header_found(standing, octets, past, end);
     }
     if standing.stage != 1 {
         return Found {
@@ -223,13 +224,12 @@ pub fn next(standing: Standing, held: &mut [u8; 49], piece: &[u8], place: usize)
 
 // The refusal at the log's end (0: none): a header that isn't taken by then, or 12 for a record that is cut. A fault that was found
 // before isn't told again.
-pub fn end(standing: Standing, held: &[u8; 49]) -> u8
-    ensures { λ r. ⌜ r ≡ endFault (takingOf standing (now (held .entry))) ⌝ }
+pub fn end(standing: Standing, held: [u8; 49]) -> u8
+    ensures { λ r. ⌜ r ≡ endFault (takingOf standing held) ⌝ }
 {
     if standing.stage == 0 {
         let count = standing.count % 9;
-        let octets = *held;
-        let header = log::read_header(&octets[..count]);
+        let header = log::read_header(&held[..count]);
         return header.refusal;
     }
     if standing.stage != 1 {
@@ -239,4 +239,11 @@ pub fn end(standing: Standing, held: &[u8; 49]) -> u8
         return 0;
     }
     12
+}
+
+// The array that holds octets, as it is: it tells a caller that lends it on how long it is.
+pub fn sized(held: [u8; 49]) -> [u8; 49]
+    ensures { λ r. ⌜ (r ≡ held) × (length r ≡ 49) ⌝ }
+{
+    held
 }
