@@ -11,6 +11,8 @@ use Rattle.formats.specs.Formats.{settingsRefusal}
 use Rattle.sender.specs.declared.Ready as SR
 use Rattle.sender.specs.Sender as S
 use Rattle.receiver.specs.declared.Ready.{Ready}
+use Rattle.receiver.specs.declared.Receiver.{Receiver}
+use Rattle.receiver.specs.declared.Received.{Received}
 use Rattle.receiver.specs.Receiver as R
 use Rattle.status.specs.declared.step.Block.{Block}
 use Rattle.status.specs.declared.step.Stepped.{Stepped}
@@ -36,6 +38,7 @@ use Rattle.line.specs.Contracts.{
   MeetsReceive,
   MeetsOpenSender,
   MeetsOpenReceiver,
+  MeetsJudged,
   MeetsStep,
   MeetsReadNumber,
   MeetsReadHeader,
@@ -55,6 +58,7 @@ use Rattle.line.specs.Demands.{
   SentNothing,
   receiveTable,
   ReceivedNothing,
+  JudgedNothing,
   SteppedNothing,
   recordTable,
   ReadNothing,
@@ -71,6 +75,7 @@ use Rattle.line.proofs.Places.{longest-inside, demand-3-inside}
 use Rattle.line.proofs.Refused.{
   opens-sender,
   opens-receiver,
+  judges,
   steps,
   reads-number,
   reads-header,
@@ -99,6 +104,10 @@ demand-1-open-sender = opens-sender
 pub demand-1-open-receiver : (octet channels order : ℕ) (r : Ready) → MeetsOpenReceiver octet channels order r
     → Refuses (r .refusal) (settingsRefusal octet channels order) (r .state ≡ R.zeroState)
 demand-1-open-receiver = opens-receiver
+
+pub demand-1-judged : (state : Receiver) (cell : List ℕ) (indication : Bool) (r : Received) → MeetsJudged state cell indication r
+    → Refuses (r .refusal) (R.receiveRefusal state cell indication 720 720 720) (JudgedNothing state r)
+demand-1-judged = judges
 
 pub demand-1-status : (block : Block) (ancillary mark : ℕ) (r : Stepped) → MeetsStep block ancillary mark r
     → Refuses (r .handed .refusal) (cond (isRefused (block .bits) ancillary mark) 14 0) (SteppedNothing block r)

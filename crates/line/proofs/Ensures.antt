@@ -21,6 +21,8 @@ use Rattle.sender.proofs.opened.Kinds as open-sender-kinds
 use Rattle.sender.proofs.opened.Reads as open-sender-reads
 use Rattle.sender.proofs.send.Kinds as send-kinds
 use Rattle.sender.proofs.send.Reads as send-reads
+use Rattle.receiver.proofs.judged.Kinds as judged-kinds
+use Rattle.receiver.proofs.judged.Reads as judged-reads
 use Rattle.receiver.proofs.opened.Kinds as open-receiver-kinds
 use Rattle.receiver.proofs.opened.Reads as open-receiver-reads
 use Rattle.receiver.proofs.receive.Kinds as receive-kinds
@@ -66,6 +68,7 @@ use Rattle.line.specs.Contracts.{
   MeetsReceive,
   MeetsOpenSender,
   MeetsOpenReceiver,
+  MeetsJudged,
   MeetsStep,
   MeetsReadNumber,
   MeetsReadHeader,
@@ -123,6 +126,10 @@ pub receive-ensures : Ensured receive-kinds.ps receive-kinds.r receive-reads.Pos
       marks-after = v .1 .1 .1 .1 .1 .0;
     }))
 receive-ensures κs a x v p = p
+
+pub judged-ensures : Ensured judged-kinds.ps judged-kinds.r judged-reads.Post
+    (λ κs a x v. MeetsJudged (a .0) (now (a .1 .0)) (a .1 .1 .0) x)
+judged-ensures κs a x v p = p
 
 pub step-ensures : Ensured step-kinds.ps step-kinds.r step-reads.Post (λ κs a x v. MeetsStep (a .0) (a .1 .0) (a .1 .1 .0) x)
 step-ensures κs a x v p = p

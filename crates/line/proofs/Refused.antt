@@ -13,6 +13,8 @@ use Rattle.formats.specs.Formats.{settingsRefusal}
 use Rattle.sender.specs.declared.Ready as SR
 use Rattle.sender.specs.Sender as S
 use Rattle.receiver.specs.declared.Ready.{Ready}
+use Rattle.receiver.specs.declared.Receiver.{Receiver}
+use Rattle.receiver.specs.declared.Received.{Received}
 use Rattle.receiver.specs.Receiver as R
 use Rattle.status.specs.declared.step.Block.{Block}
 use Rattle.status.specs.declared.step.Stepped.{Stepped}
@@ -38,6 +40,7 @@ use Rattle.cable.proofs.Demand1 as cable
 use Rattle.line.specs.Contracts.{
   MeetsOpenSender,
   MeetsOpenReceiver,
+  MeetsJudged,
   MeetsStep,
   MeetsReadNumber,
   MeetsReadHeader,
@@ -48,7 +51,7 @@ use Rattle.line.specs.Contracts.{
   MeetsImport,
   MeetsExport,
 }
-use Rattle.line.specs.Demands.{Refuses, SteppedNothing, recordTable, ReadNothing}
+use Rattle.line.specs.Demands.{Refuses, JudgedNothing, SteppedNothing, recordTable, ReadNothing}
 
 -- an answer that is one of two, by whether the table refuses
 opening : {A : Type 0} (table : ℕ) (number : A → ℕ) (Nothing : A → Type 0) (taken refused : A) → number taken ≡ 0 → number refused ≡ table
@@ -73,6 +76,15 @@ unfolding R.openedOf
 opens-receiver octet channels order r meets =
     rw meets
     (opening (settingsRefusal octet channels order) (λ (x : Ready). x .refusal) (λ (x : Ready). x .state ≡ R.zeroState) _ _ refl refl refl)
+
+pub judges : (state : Receiver) (cell : List ℕ) (indication : Bool) (r : Received) → MeetsJudged state cell indication r
+    → Refuses (r .refusal) (R.receiveRefusal state cell indication 720 720 720) (JudgedNothing state r)
+unfolding R.judgedOf R.receivedOf
+judges state cell indication r meets =
+    rw meets
+    (opening (R.receiveRefusal state cell indication 720 720 720) (λ (x : Received). x .refusal) (λ (x : Received). JudgedNothing state x)
+    _ _ refl refl
+    (record { state-as-given = refl; none-missing = refl; no-number = refl; no-second = refl; no-indication = refl }))
 
 pub steps : (block : Block) (ancillary mark : ℕ) (r : Stepped) → MeetsStep block ancillary mark r
     → Refuses (r .handed .refusal) (cond (isRefused (block .bits) ancillary mark) 14 0) (SteppedNothing block r)

@@ -62,6 +62,10 @@ MeetsReceive c =
     R.Receives (c .state) (c .cell) (c .indication) (c .samples) (c .ancillary) (c .marks)
     (c .answer) (c .samples-after) (c .ancillary-after) (c .marks-after)
 
+-- `judged`, which is `receive` with 720 entries of room and no runs
+abbrev pub MeetsJudged : Receiver → List ℕ → Bool → Received → Type 0
+MeetsJudged state cell indication r = r ≡ R.judgedOf state cell indication
+
 -- `sender::opened` and `receiver::opened`
 abbrev pub MeetsOpenSender : ℕ → ℕ → ℕ → ℕ → Bool → ℕ → SR.Ready → Type 0
 MeetsOpenSender octet channels order number wanted second r = r ≡ S.openedOf octet channels order number wanted second

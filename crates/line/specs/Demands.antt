@@ -13,6 +13,7 @@ use Rattle.cells.specs.Sent.{SentCell}
 use Rattle.sender.specs.declared.Sender.{Sender}
 use Rattle.sender.specs.Sender as S
 use Rattle.receiver.specs.declared.Receiver.{Receiver}
+use Rattle.receiver.specs.declared.Received.{Received}
 use Rattle.receiver.specs.Receiver as R
 use Rattle.status.specs.declared.step.Block.{Block}
 use Rattle.status.specs.declared.step.Stepped.{Stepped}
@@ -47,6 +48,13 @@ pub record ReceivedNothing (c : ReceiveCall) : Type 0 where
   pub no-number : c .answer .number ≡ 0
   pub no-second : c .answer .second ≡ 0
   pub no-indication : c .answer .indication ≡ false
+
+pub record JudgedNothing (state : Receiver) (r : Received) : Type 0 where
+  pub state-as-given : r .state ≡ state
+  pub none-missing : r .missing ≡ 0
+  pub no-number : r .number ≡ 0
+  pub no-second : r .second ≡ 0
+  pub no-indication : r .indication ≡ false
 
 -- "A mark above 2, .. is refused": the block is as it was lent, and 24 zeros go out with neither yes nor no
 pub record SteppedNothing (block : Block) (r : Stepped) : Type 0 where

@@ -3,22 +3,23 @@
 use mathlib.Core.Bool.{true}
 use mathlib.Core.List.{List, [], _∷_, _++_}
 use mathlib.Core.Path.{_≡_, _∙_, ap}
-use Prim.Native.Nat.{ℕ, zero, suc, _+_, _*_, _/_, _%_, _-_, _≤_}
+use Prim.Native.Nat.{ℕ, zero, suc, _+_, _*_, _/_, _%_, _≤_}
+use native.Mathlib.Nat.{mul-suc}
 use native.Mathlib.Omega.{arith}
 use borrow.Author.Tests.{eqb-true, ltb-false, le-leb}
 use lib.Dec.{eqb, ltb}
 use Rattle.runs.proofs.Laws.{split, past}
 use lib.ListN.{length, length-append}
-use Rattle.log.specs.Records.{headerOf, recordAt}
-use Rattle.log.proofs.Places.{cell-facts}
+use Rattle.log.specs.Records.{headerOf}
 use Rattle.receiver.specs.declared.Received.{Received}
+use Rattle.reading.specs.Heard.{Heard, soundIn, missingIn, refusedIn}
+use Rattle.reading.specs.Reading.{readingOf}
+use Rattle.reading.proofs.Reading.{log-counted}
 use Rattle.listing.specs.declared.Listed.{Listed}
-use Rattle.listing.specs.declared.records.Standing.{Standing}
 use Rattle.listing.specs.Lines.{formatLine, brokenLine, endLine, logRefusedLine}
-use Rattle.listing.specs.List.{startOf, gotAt, lineOf, afterOf, endLines, recordLines, listRefusal, listOf, Lists}
+use Rattle.listing.specs.List.{lineOf, linesOf, endLines, listRefusal, listOf, Lists}
 use Rattle.listing.specs.Text.{digitsOf, item}
 use Rattle.listing.specs.Words.{words}
-use Rattle.listing.proofs.Standings.{after-place}
 
 length-digits : (k n : ℕ) → length (digitsOf k n) ≤ k
 unfolding digitsOf
@@ -66,35 +67,25 @@ line-short index got =
           (omega arith) (omega arith),
     )))
 
-end-short : (here : Standing) (refusal : ℕ) → length (endLines here refusal) ≤ 140
+end-short : (heard : List Heard) (fault : ℕ) → length (endLines heard fault) ≤ 140
 unfolding endLines
-end-short here refusal =
-    let end = three-short (words "end ") (words " sound ") (words " missing ") (words " refused\n") (here .sound) (here .missing)
-    (here .refused) {i = 4} {j = 7} {k = 9} {l = 9} (omega arith) (omega arith) (omega arith) (omega arith) in
-    let broken = two-short (words "") (words " broken ") (words "\n") (here .index) refusal {i = 0} {j = 8} {l = 1} (omega arith) (omega arith) (omega arith) in
-    split (eqb refusal 0)
+end-short heard fault =
+    let end = three-short (words "end ") (words " sound ") (words " missing ") (words " refused\n") (soundIn heard) (missingIn heard)
+    (refusedIn heard) {i = 4} {j = 7} {k = 9} {l = 9} (omega arith) (omega arith) (omega arith) (omega arith) in
+    let broken = two-short (words "") (words " broken ") (words "\n") (length heard) fault {i = 0} {j = 8} {l = 1} (omega arith) (omega arith) (omega arith) in
+    split (eqb fault 0)
     (λ e. rw e (omega (arith, end)))
-    (λ e. rw e (omega (arith, with-words (brokenLine (here .index) refusal) (endLine (here .sound) (here .missing) (here .refused)) broken end)))
+    (λ e. rw e (omega (arith, with-words (brokenLine (length heard) fault) (endLine (soundIn heard) (missingIn heard) (refusedIn heard)) broken end)))
 
--- so many records as the log holds from here on
-lines-short : (most : ℕ) (log : List ℕ) (here : Standing) (k : ℕ) → length log ≤ here .place + 49 * k + 48
-    → length (recordLines most log here) ≤ 140 + 76 * k
-unfolding recordLines
-lines-short zero log here k h = omega arith
-lines-short (suc most) log here k h =
-    split (eqb (recordAt log (here .place) .what) 1)
-    (λ e.
-    let facts = cell-facts log (here .place) (eqb-true (recordAt log (here .place) .what) 1 e) in
-    let past : Standing = afterOf here (recordAt log (here .place) .next) (gotAt log here) in
-    let place = after-place here (recordAt log (here .place) .next) (gotAt log here) in
-    let rest = lines-short most log past (k - 1) (omega (arith, facts .0, facts .1, place)) in
-    rw e (omega (
+lines-short : (index : ℕ) (heard : List Heard) → length (linesOf index heard) ≤ 76 * length heard
+unfolding linesOf
+lines-short index [] = omega arith
+lines-short index (h ∷ hs) =
+    omega (
       arith,
-      facts .0,
-      with-words (lineOf (here .index) (gotAt log here)) (recordLines most log past)
-          (line-short (here .index) (gotAt log here)) rest,
-    )))
-    (λ e. rw e (omega (arith, end-short here (recordAt log (here .place) .refusal))))
+      with-words (lineOf index (h .answer)) (linesOf (index + 1) hs) (line-short index (h .answer)) (lines-short (index + 1) hs),
+      mul-suc 76 (length hs),
+    )
 
 refused-short : (refusal : ℕ) → length (logRefusedLine refusal) ≤ 131072
 refused-short refusal =
@@ -115,13 +106,16 @@ unfolding listOf listRefusal
 list-fits log =
     split (eqb (listRefusal log) 0)
     (λ ok.
-    let few = ltb-false 65536 (length log) (past (ltb 65536 (length log)) 12 _ (eqb-true (listRefusal log) 0 ok) .0) in
+    let both = past (ltb 65536 (length log)) 12 _ (eqb-true (listRefusal log) 0 ok) in
+    let few = ltb-false 65536 (length log) (both .0) in
+    let heard : List Heard = readingOf log .heard in
     let head = format-short (headerOf log .format) (headerOf log .channels) (headerOf log .order) in
-    let rest = lines-short (suc (length log)) log (startOf (headerOf log)) 1338 (omega arith) in
+    let rest = with-words (linesOf 0 heard) (endLines heard (readingOf log .fault)) (lines-short 0 heard) (end-short heard (readingOf log .fault)) in
     rw ok (omega (
       arith,
+      log-counted log (both .1),
       with-words (formatLine (headerOf log .format) (headerOf log .channels) (headerOf log .order))
-          (recordLines (suc (length log)) log (startOf (headerOf log))) head rest,
+          (linesOf 0 heard ++ endLines heard (readingOf log .fault)) head rest,
     )))
     (λ refused. rw refused (refused-short (listRefusal log)))
 

@@ -11,16 +11,17 @@ use Rattle.runs.specs.Runs.{over}
 use Rattle.runs.proofs.Wrong.{Never, Place, lent}
 use Rattle.log.proofs.Wrong as log
 use Rattle.receiver.proofs.Wrong as receiver
+use Rattle.reading.proofs.Computed as reading
 use Rattle.listing.specs.declared.Listed.{Listed}
 use Rattle.listing.specs.Text.{digitsOf}
 use Rattle.listing.specs.Words.{words}
-use Rattle.listing.specs.List.{judgedOf, lineOf, afterOf, endLines, recordLines, listRefusal, listOf}
+use Rattle.listing.specs.List.{lineOf, linesOf, endLines, listRefusal, listOf}
 use Rattle.listing.proofs.list.Kinds as list-kinds
 use Rattle.listing.proofs.list.Reads as list-reads
 
 -- every definition on the way down to the numbers
 unfolded : Unit {0}
-unfolding over log.unfolded receiver.unfolded digitsOf judgedOf lineOf afterOf endLines recordLines listRefusal listOf
+unfolding over log.unfolded receiver.unfolded reading.unfolded digitsOf lineOf linesOf endLines listRefusal listOf
 unfolded = tt
 
 -- the paper's zero cell, and its log: 56 02 00, then twice 00 and that cell

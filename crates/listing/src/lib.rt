@@ -34,5 +34,5 @@ pub fn list(log: &[u8], run: &mut [u8]) -> Listed
         header.channels as usize,
         header.order as usize,
     );
-    records::records(log, records::start(header), run, past)
+    records::records(log, header, run, past)
 }

@@ -4,11 +4,14 @@ use crate::lines;
 use log::Header;
 use receiver::Received;
 use receiver::Receiver;
+ghost use mathlib.Core.List.{List, [], _∷_, _++_};
 ghost use mathlib.Core.Path.{_≡_};
 ghost use Prim.Native.Nat.{_≤_};
 ghost use lib.ListN.{length};
-ghost use Rattle.listing.specs.Code.{Puts, linesFrom, Counted, Begun};
-ghost use Rattle.listing.specs.List.{startOf, judgedOf, lineOf, afterOf, endLines};
+ghost use Rattle.reading.specs.Heard.{Heard};
+ghost use Rattle.reading.specs.Reading.{freshOf};
+ghost use Rattle.listing.specs.Code.{Puts, recordLines, Counts, Small};
+ghost use Rattle.listing.specs.List.{lineOf, endLines};
 
 // Where the list stands in its log: the place, the record's number, the counts of the end line, and the receiver's state.
 pub(crate) struct Standing {
@@ -20,8 +23,8 @@ pub(crate) struct Standing {
     pub state: Receiver,
 }
 
-pub(crate) fn start(header: Header) -> Standing
-    ensures { λ r. ⌜ r ≡ startOf header ⌝ }
+fn start(header: Header) -> Standing
+    ensures { λ r. ⌜ (r .place ≡ header .place) × (r .state ≡ freshOf header) × Counts r [] ⌝ }
 {
     let opened = receiver::opened(header.format, header.channels, header.order);
     let state = opened.state;
@@ -35,34 +38,17 @@ pub(crate) fn start(header: Header) -> Standing
     }
 }
 
-// What the receiver says of a cell, with room for all that one call can write: fifteen cells of up to 48 entries. Refusal 10 is
-// never met.
-fn judged(state: Receiver, indication: bool, cell: &[u8]) -> Received
-    ensures { λ r. ⌜ r ≡ judgedOf state indication (now (cell .entry)) ⌝ }
-{
-    let mut samples = [0u64; 720];
-    let mut ancillary = [0u8; 720];
-    let mut marks = [0u8; 720];
-    receiver::receive(
-        state,
-        cell,
-        indication,
-        &mut samples,
-        &mut ancillary,
-        &mut marks,
-    )
-}
-
-// The list past a record that the receiver judged.
+// The list past a record that the receiver judged. A refused one tells that none is missing.
 fn after(here: Standing, next: usize, got: Received) -> Standing
-    requires { ⌜ Counted here ⌝ }
-    ensures { λ r. ⌜ (r ≡ afterOf here next got) × (got .missing ≤ 255) ⌝ }
+    requires { ⌜ Small here ⌝ }
+    ensures { λ r. ⌜ (r .place ≡ next) × (r .state ≡ got .state)
+        × ((done : List Heard) (h : Heard) → got ≡ h .answer → Counts here done → Counts r (done ++ (h ∷ []))) ⌝ }
 {
     let state = got.state;
     let index = here.index + 1;
+    let missing = here.missing + got.missing as usize;
     if got.refusal == 0 {
         let sound = here.sound + 1;
-        let missing = here.missing + got.missing as usize;
         return Standing {
             place: next,
             index,
@@ -77,7 +63,7 @@ fn after(here: Standing, next: usize, got: Received) -> Standing
         place: next,
         index,
         sound: here.sound,
-        missing: here.missing,
+        missing,
         refused,
         state,
     }
@@ -92,28 +78,29 @@ fn record_line(run: &mut [u8], at: Listed, index: usize, got: Received) -> Liste
     lines::refused_line(run, at, index, got.refusal as usize)
 }
 
-fn end_lines(run: &mut [u8], at: Listed, here: Standing, refusal: u8) -> Listed
-    ensures { λ r. ⌜ Puts (now (run .entry)) at (now (run .exit)) r (endLines here refusal) ⌝ }
+fn end_lines(run: &mut [u8], at: Listed, here: Standing, fault: u8) -> Listed
+    ensures { λ r. ⌜ ((done : List Heard) → Counts here done
+        → Puts (now (run .entry)) at (now (run .exit)) r (endLines done fault)) ⌝ }
 {
-    if refusal == 0 {
+    if fault == 0 {
         return lines::end_line(run, at, here.sound, here.missing, here.refused);
     }
-    let past = lines::broken_line(run, at, here.index, refusal as usize);
+    let past = lines::broken_line(run, at, here.index, fault as usize);
     lines::end_line(run, past, here.sound, here.missing, here.refused)
 }
 
-pub(crate) fn records(log: &[u8], begun: Standing, run: &mut [u8], at: Listed) -> Listed
-    requires { ⌜ (length (now log) ≤ 65536) × Begun begun ⌝ }
-    ensures { λ r. ⌜ Puts (now (run .entry)) at (now (run .exit)) r (linesFrom (now (log .entry)) begun) ⌝ }
+pub(crate) fn records(log: &[u8], header: Header, run: &mut [u8], at: Listed) -> Listed
+    requires { ⌜ length (now log) ≤ 65536 ⌝ }
+    ensures { λ r. ⌜ Puts (now (run .entry)) at (now (run .exit)) r (recordLines (now (log .entry)) header) ⌝ }
 {
-    let mut here = begun;
+    let mut here = start(header);
     let mut past = at;
     let mut found = log::reader::read(log, here.place);
     while found.what == 1 {
-        let got = judged(
+        let got = receiver::judged(
             here.state,
-            found.indication,
             log::read_cell(log, here.place),
+            found.indication,
         );
         past = record_line(run, past, here.index, got);
         here = after(here, found.next, got);

@@ -2,7 +2,7 @@
 -- Assumes nothing.
 use mathlib.Core.Bool.{Bool, true, false}
 use mathlib.Core.List.{List, [], _∷_, _++_, map, flatMap}
-use mathlib.Core.Path.{_≡_, refl, sym, _∙_, ap}
+use mathlib.Core.Path.{_≡_, refl, sym, _∙_, ap, subst}
 use Prim.Native.Nat.{ℕ, suc, _*_, _≤_}
 use native.Mathlib.Omega.{arith}
 use lib.Dec.{eqb}
@@ -12,7 +12,7 @@ use Rattle.receiver.specs.declared.Receiver.{Receiver}
 use Rattle.receiver.specs.Receiver.{receiveRefusal, receivedOf, judgedOf, entriesGiven}
 use Rattle.receiver.proofs.Laws.{answer-refusal, gap-to}
 use Rattle.reading.specs.Heard.{Heard, heardBy, endBy, given, hear, onward, heardFrom, endOf, isSound, missingIn, keptOf}
-use Rattle.reading.specs.Records.{Whole}
+use Rattle.reading.specs.Records.{Whole, Framed}
 use Rattle.reading.specs.Totals.{those, Each}
 use Rattle.reading.proofs.Totals.{those-twice, total-to}
 
@@ -69,24 +69,35 @@ module _ {State Record Made : Type 0} (hear : State → Record → Made) (next :
       end-again st (r ∷ rs) =
           split (taken (hear st r))
           (λ e. rw e (end-again (next (hear st r)) rs))
-          (λ e. rw (e, leaves st r e) (end-again st rs))
+          (λ e. rw e
+          (subst (λ (s : State). endBy next st (those taken (heard s rs)) ≡ endBy next s (heard s rs)) (sym (leaves st r e))
+          (end-again st rs)))
+
+      -- what holds of each record holds of each that is kept
+      pub kept-each : (Holds : Record → Type 0) (st : State) (records : List Record) → Each Holds records → Each Holds (kept st records)
+      unfolding heardBy those Each
+      kept-each Holds st [] each = tt
+      kept-each Holds st (r ∷ rs) each =
+          split (taken (hear st r))
+          (λ e. rw e (rw (arrived-is st r) (each .0), kept-each Holds (next (hear st r)) rs (each .1)))
+          (λ e. rw e (kept-each Holds (next (hear st r)) rs (each .1)))
 
       -- what is nothing for each record that it refuses is the same over those that it takes
       pub handed-again : {B : Type 0} (out : Made → List B) → ((st : State) (r : Record) → taken (hear st r) ≡ false → out (hear st r) ≡ [])
           → (st : State) (records : List Record) → flatMap out (those taken (heard st records)) ≡ flatMap out (heard st records)
       unfolding heardBy those flatMap
       handed-again out nothing st [] = refl
-      handed-again out nothing st (r ∷ rs) =
+      handed-again {B = B} out nothing st (r ∷ rs) =
           split (taken (hear st r))
           (λ e. rw e (ap (λ (more : List B). out (hear st r) ++ more) (handed-again out nothing (next (hear st r)) rs)))
           (λ e. rw (e, nothing st r e) (handed-again out nothing (next (hear st r)) rs))
 
   -- what holds of all that it makes
-  pub heard-each : {Holds : Made → Type 0} → ((st : State) (r : Record) → Holds (hear st r))
+  pub heard-each : (Holds : Made → Type 0) → ((st : State) (r : Record) → Holds (hear st r))
       → (st : State) (records : List Record) → Each Holds (heard st records)
   unfolding heardBy Each
-  heard-each holds st [] = tt
-  heard-each holds st (r ∷ rs) = (holds st r, heard-each holds (next (hear st r)) rs)
+  heard-each Holds holds st [] = tt
+  heard-each Holds holds st (r ∷ rs) = (holds st r, heard-each Holds holds (next (hear st r)) rs)
 
 -- our receiver: a refusal leaves the state, counts nothing as missing and hands out nothing
 module _ (st : Receiver) (r : Whole) where
@@ -129,6 +140,9 @@ module _ (st : Receiver) (records : List Whole) where
   pub state-again : endOf st (heardFrom st (keptOf made)) ≡ endOf st made
   state-again = rw sound-again (end-again hear onward (λ h. h .arrived) arrived-is isSound refused-leaves st records)
 
+  pub kept-framed : Each Framed records → Each Framed (keptOf made)
+  kept-framed = kept-each hear onward (λ h. h .arrived) arrived-is isSound refused-leaves Framed st records
+
   -- a run that is handed out, column by column
   again : (column : Heard → List ℕ) → ((st : Receiver) (r : Whole) → isSound (hear st r) ≡ false → column (hear st r) ≡ [])
       → flatMap column (heardFrom st (keptOf made)) ≡ flatMap column made
@@ -150,4 +164,5 @@ module _ (st : Receiver) (records : List Whole) where
   pub missing-to : missingIn made ≤ 14 * length records
   missing-to =
       rw (← length-heard hear onward st records)
-      (total-to (λ h. h .answer .missing) 14 made (heard-each hear onward missing-few st records))
+      (total-to (λ h. h .answer .missing) 14 made
+      (heard-each hear onward (λ h. h .answer .missing ≤ 14) missing-few st records))

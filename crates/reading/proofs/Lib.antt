@@ -1,3 +1,4 @@
+pub mod Computed
 pub mod Heard
 pub mod Places
 pub mod Reading

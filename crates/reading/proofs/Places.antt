@@ -12,7 +12,7 @@ use lib.Seq.{getD-drop, drop-drop}
 use Rattle.log.specs.declared.Record.{Record}
 use Rattle.log.specs.Records.{recordAt, cellAt}
 use Rattle.log.proofs.Places.{record-end, record-11, record-12, record-cell, record-cases}
-use Rattle.reading.specs.Records.{isWhole, frontOf, stopped, behind, walkIn, faultIn}
+use Rattle.reading.specs.Records.{Walk, isWhole, frontOf, stopped, behind, walkIn, faultIn}
 use Rattle.reading.proofs.Records.{walk-front, walk-stop}
 
 module _ (log : List ℕ) (place : ℕ) where
@@ -23,7 +23,7 @@ module _ (log : List ℕ) (place : ℕ) where
   left = length-drop place log
 
   first : getD suffix 0 0 ≡ getD log place 0
-  first = getD-drop place log 0 0
+  first = let none : place + 0 ≡ place = omega arith in getD-drop place log 0 0 ∙ ap (λ (n : ℕ). getD log n 0) none
 
   -- both tell the same
   abbrev Same : Record → Type 0
@@ -57,7 +57,7 @@ module _ (log : List ℕ) (place : ℕ) where
     cell-same =
         record-cases log place
         (λ r. r .what ≡ 1 → take (recordAt suffix 0 .what * 48) (drop (recordAt suffix 0 .start) suffix) ≡ take (r .what * 48) (drop (r .start) log))
-        (λ h z. omega arith) (λ h l z. omega arith) (λ h l k z. omega arith)
+        (λ h z. absurd (omega (arith, z))) (λ h l z. absurd (omega (arith, z))) (λ h l k z. absurd (omega (arith, z)))
         (λ l k z.
         let here : drop 1 suffix ≡ drop (place + 1) log = drop-drop 1 place log in
         rw (record-cell suffix 0 (rw first l) (omega (arith, left)), here))
@@ -78,4 +78,4 @@ module _ (log : List ℕ) (place : ℕ) where
     stop-at = walk-stop suffix (ne-eqb (recordAt suffix 0 .what) 1 (λ e. none (sym (same .0) ∙ e)))
 
     pub fault-at : faultIn suffix ≡ recordAt log place .refusal
-    fault-at = rw stop-at (same .1)
+    fault-at = ap (λ (w : Walk). recordAt (w .rest) 0 .refusal) stop-at ∙ same .1

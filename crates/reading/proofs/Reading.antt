@@ -174,4 +174,10 @@ module _ (log : List ℕ) (ok : headerOf log .refusal ≡ 0) (records : List Who
       ≡ record { header = headerOf log; heard = heardFrom (freshOf (headerOf log)) records; fault = 0; rest = [] }
   unfolding recordAt
   wrote-reading =
-      reading-is wrote (ap (λ (h : Header). h .refusal) wrote-header ∙ ok) ∙ rw (wrote-header, wrote-walk)
+      reading-is wrote (ap (λ (h : Header). h .refusal) wrote-header ∙ ok)
+      ∙ (λ i. record {
+        header = wrote-header i;
+        heard = heardFrom (freshOf (wrote-header i)) (wrote-walk i .records);
+        fault = recordAt (wrote-walk i .rest) 0 .refusal;
+        rest = wrote-walk i .rest;
+      })

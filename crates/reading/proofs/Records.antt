@@ -3,7 +3,7 @@
 -- Assumes nothing.
 use mathlib.Core.Bool.{Bool, true, false, true≢false}
 use mathlib.Core.List.{List, [], _∷_, _++_, append-assoc}
-use mathlib.Core.Path.{_≡_, refl, sym, _∙_, ap}
+use mathlib.Core.Path.{_≡_, refl, sym, _∙_, ap, ap₂, subst}
 use Prim.Native.Nat.{ℕ, zero, suc, _+_, _*_, _-_, _≤_, _<_}
 use native.Mathlib.Nat.{mul-suc}
 use native.Mathlib.Omega.{arith}
@@ -84,12 +84,20 @@ module _ (P : List ℕ → Type 0)
     pub along : (octets : List ℕ) → P octets
     along octets = along-within (length octets) octets (omega arith)
 
+-- the same of a walk: what holds where it stops, and with a record before it
+module _ (Q : List ℕ → Walk → Type 0)
+    (stops : (octets : List ℕ) → isWhole octets ≡ false → Q octets (stopped octets))
+    (goes : (octets : List ℕ) → isWhole octets ≡ true → (w : Walk) → Q (drop 49 octets) w → Q octets (behind (frontOf octets ∷ []) w))
+  where
+    pub walking : (octets : List ℕ) → Q octets (walkIn octets)
+    walking =
+        along (λ octets. Q octets (walkIn octets))
+        (λ octets e. subst (Q octets) (sym (walk-stop octets e)) (stops octets e))
+        (λ octets e more. subst (Q octets) (sym (walk-front octets e)) (goes octets e (walkIn (drop 49 octets)) more))
+
 -- where the walk stops there is no whole record
 pub rest-stops : (octets : List ℕ) → isWhole (restIn octets) ≡ false
-rest-stops =
-    along (λ octets. isWhole (restIn octets) ≡ false)
-    (λ octets e. rw (walk-stop octets e) e)
-    (λ octets e more. rw (walk-front octets e) more)
+rest-stops = walking (λ octets w. isWhole (w .rest) ≡ false) (λ octets e. e) (λ octets e w more. more)
 
 -- a walk that ends without a fault leaves nothing
 pub no-fault : (octets : List ℕ) → faultIn octets ≡ 0 → length (restIn octets) ≡ 0
@@ -126,11 +134,11 @@ module _ (a b : List ℕ) (e : isWhole a ≡ true) where
 -- octets in two parts: the records of the first, and then those of what it left and the second
 pub walk-joined : (a b : List ℕ) → walkIn (a ++ b) ≡ behind (recordsIn a) (walkIn (restIn a ++ b))
 walk-joined a b =
-    along (λ a. walkIn (a ++ b) ≡ behind (recordsIn a) (walkIn (restIn a ++ b)))
-    (λ a e. rw (walk-stop a e))
-    (λ a e more.
+    walking (λ a w. walkIn (a ++ b) ≡ behind (w .records) (walkIn (w .rest ++ b)))
+    (λ a e. refl)
+    (λ a e w more.
     walk-front (a ++ b) (still a b e)
-    ∙ rw (same-front a b e, same-rest a b e, more, walk-front a e))
+    ∙ ap₂ (λ (r : Whole) (v : Walk). behind (r ∷ []) v) (same-front a b e) (ap walkIn (same-rest a b e) ∙ more))
     a
 
 -- a whole record is the octets it stands in
@@ -150,26 +158,25 @@ front-octets (x ∷ xs) e =
 pub octets-back : (octets : List ℕ) → octetsIn (recordsIn octets) ++ restIn octets ≡ octets
 unfolding octetsIn
 octets-back =
-    along (λ octets. octetsIn (recordsIn octets) ++ restIn octets ≡ octets)
-    (λ octets e. rw (walk-stop octets e))
-    (λ octets e more.
-    rw (
-      walk-front octets e,
-      append-assoc (recordOctets (frontOf octets .indication) (frontOf octets .cell)) (octetsIn (recordsIn (drop 49 octets))) (restIn (drop 49 octets)),
-      more,
-    )
-    (front-octets octets e))
+    walking (λ octets w. octetsIn (w .records) ++ w .rest ≡ octets)
+    (λ octets e. refl)
+    (λ octets e w more.
+    append-assoc (recordOctets (frontOf octets .indication) (frontOf octets .cell)) (octetsIn (w .records)) (w .rest)
+    ∙ ap (λ (l : List ℕ). recordOctets (frontOf octets .indication) (frontOf octets .cell) ++ l) more
+    ∙ front-octets octets e)
 
 -- each record of a walk has its 48 octets
 pub records-framed : (octets : List ℕ) → Each Framed (recordsIn octets)
 unfolding Each
 records-framed =
-    along (λ octets. Each Framed (recordsIn octets))
-    (λ octets e. rw (walk-stop octets e) tt)
-    (λ octets e more.
+    walking (λ octets w. Each Framed (w .records))
+    (λ octets e. tt)
+    (λ octets e w more.
     let facts = whole-facts octets e in
-    rw (walk-front octets e)
-    (rw (front-is octets (facts .0) (facts .1)) (length-take-le 48 (drop 1 octets) (omega (arith, facts .0, length-drop 1 octets))), more))
+    (
+      rw (front-is octets (facts .0) (facts .1)) (length-take-le 48 (drop 1 octets) (omega (arith, facts .0, length-drop 1 octets))),
+      more,
+    ))
 
 pub length-records : (records : List Whole) → Each Framed records → length (octetsIn records) ≡ 49 * length records
 unfolding Each octetsIn
@@ -216,6 +223,6 @@ pub walk-written : (records : List Whole) (more : List ℕ) → Each Framed reco
 unfolding Each octetsIn
 walk-written [] more each = refl
 walk-written (r ∷ rs) more each =
-    rw (append-assoc (recordOctets (r .indication) (r .cell)) (octetsIn rs) more)
-    (walk-wrote r (octetsIn rs ++ more) (each .0))
-    ∙ rw (walk-written rs more (each .1))
+    ap walkIn (append-assoc (recordOctets (r .indication) (r .cell)) (octetsIn rs) more)
+    ∙ walk-wrote r (octetsIn rs ++ more) (each .0)
+    ∙ ap (behind (r ∷ [])) (walk-written rs more (each .1))

@@ -17,6 +17,12 @@ module _ {A : Type 0} where
   total-joined f [] ys = omega arith
   total-joined f (x ∷ xs) ys = omega (arith, total-joined f xs ys)
 
+  -- one more
+  pub total-more : (f : A → ℕ) (xs : List A) (x : A) → totalOf f (xs ++ (x ∷ [])) ≡ totalOf f xs + f x
+  unfolding totalOf
+  total-more f [] x = omega arith
+  total-more f (y ∷ ys) x = omega (arith, total-more f ys x)
+
   -- each passes a test or not
   pub count-both : (test : A → Bool) (xs : List A) → countOf test xs + countOf (λ x. not (test x)) xs ≡ length xs
   unfolding totalOf
@@ -41,11 +47,6 @@ module _ {A : Type 0} where
       split (test x)
       (λ e. rw e (omega (arith, length-those test xs)))
       (λ e. rw e (omega (arith, length-those test xs)))
-
-  pub each-joined : {Holds : A → Type 0} (xs ys : List A) → Each Holds xs → Each Holds ys → Each Holds (xs ++ ys)
-  unfolding Each
-  each-joined [] ys h k = k
-  each-joined (x ∷ xs) ys h k = (h .0, each-joined xs ys (h .1) k)
 
   -- a sum of numbers up to a bound
   pub total-to : (f : A → ℕ) (most : ℕ) (xs : List A) → Each (λ x. f x ≤ most) xs → totalOf f xs ≤ most * length xs

@@ -1,7 +1,7 @@
 -- `listing::list` meets its contract: a law for each return.
 -- Assumes nothing.
 use Rattle.listing.proofs.Laws.{puts-then}
-use Rattle.listing.proofs.Standings.{lists, list-large, list-refused, list-lines, begins}
+use Rattle.listing.proofs.Standings.{lists, list-large, list-refused, list-lines}
 use borrow.Author.Needs.{needs}
 use Rattle.listing.proofs.list.Statement.{statement}
 use Rattle.listing.proofs.list.Tie as tie
@@ -22,19 +22,17 @@ returns-2 c =
 
 records-requires : tie.Need-records-requires
 records-requires c κs =
-    let at-struct-known4 = c .before .before .before .before .before .before in
-    let at-read-header = at-struct-known4 .before .before .before .before .before in
-    (at-read-header .before .if1 .left, begins (at-read-header .read-header .result) (c .before .start .ensures))
+    let at-if2 = c .before .before .before .before .before .before .before in
+    at-if2 .before .before .before .if1 .left
 
 returns-3 : tie.Need-returns-3
 returns-3 c =
-    let at-start = c .before .before .before .before in
-    let at-format-line = at-start .before .before .before in
+    let at-format-line = c .before .before .before .before .before in
     let at-if2 = at-format-line .before .before .before .before .before in
     let at-if1 = at-if2 .before .before .before in
     let at-call = at-if1 .before .before .before in
     lists
-    (list-lines (at-call .args .log .now) (at-if1 .if1 .left) (at-if2 .before .before .read-header .ensures) (at-if2 .if2 .left) (at-start .start .ensures))
+    (list-lines (at-call .args .log .now) (at-if1 .if1 .left) (at-if2 .before .before .read-header .ensures) (at-if2 .if2 .left))
     (puts-then (at-format-line .format-line .ensures) (c .before .before .records .ensures))
 
 pub list-spec : {M : Type 1} → statement M

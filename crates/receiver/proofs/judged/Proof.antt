@@ -49,7 +49,7 @@ judged-requires c κs =
 
 returns-2 : tie.Need-returns-2
 unfolding judgedOf
-returns-2 c = c .before .judged .ensures
+returns-2 c = c .judged .ensures
 
 pub judged-spec : {M : Type 1} → statement M
 judged-spec =

@@ -1,15 +1,16 @@
 -- `listing::records::after` meets its contract.
 -- Assumes nothing.
-use Rattle.listing.proofs.Standings.{after-sound, after-refused}
+use mathlib.Core.Path.{refl}
+use Rattle.listing.proofs.Standings.{counts-sound, counts-refused}
 use borrow.Author.Needs.{needs}
 use Rattle.listing.proofs.records.after.Statement.{statement}
 use Rattle.listing.proofs.records.after.Tie as tie
 
 returns : tie.Need-returns
-returns c = (after-sound _ _ _ (c .before .before .before .if1 .taken), search needs)
+returns c = (refl, refl, λ done h is counts. counts-sound _ _ done h is counts (c .before .if1 .taken))
 
 returns-2 : tie.Need-returns-2
-returns-2 c = (after-refused _ _ _ (c .before .if1 .left), search needs)
+returns-2 c = (refl, refl, λ done h is counts. counts-refused _ _ done h is counts (c .before .if1 .left))
 
 pub after-spec : {M : Type 1} → statement M
 after-spec =

@@ -7,16 +7,14 @@ use Rattle.listing.proofs.records.end_lines.Statement.{statement}
 use Rattle.listing.proofs.records.end_lines.Tie as tie
 
 returns : tie.Need-returns
-returns c =
+returns c done counts =
     let at-if1 = c .before .before .before .before in
-    puts-same (end-plain (at-if1 .before .before .args .here) (at-if1 .before .before .args .refusal) (at-if1 .if1 .taken))
-    (c .before .before .end-line .ensures)
+    puts-same (end-plain counts (at-if1 .if1 .taken)) (c .before .before .end-line .ensures)
 
 returns-2 : tie.Need-returns-2
-returns-2 c =
+returns-2 c done counts =
     let at-broken-line = c .before .before .before .before .before .before in
-    let at-call = at-broken-line .before .before .before .before in
-    puts-same (end-broken (at-call .args .here) (at-call .args .refusal) (at-broken-line .before .before .if1 .left))
+    puts-same (end-broken counts (at-broken-line .before .before .if1 .left))
     (puts-then (at-broken-line .broken-line .ensures) (c .before .before .end-line2 .ensures))
 
 pub end-lines-spec : {M : Type 1} → statement M

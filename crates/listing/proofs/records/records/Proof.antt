@@ -4,7 +4,8 @@ use mathlib.Core.Path.{_∙_}
 use Prim.Native.Nat.{_≤_, _-_}
 use borrow.Author.Needs.{needs}
 use lib.ListN.{length}
-use Rattle.listing.proofs.Standings.{Along, along-start, along-turn, along-end, step-less}
+use Rattle.listing.proofs.Laws.{puts-same}
+use Rattle.listing.proofs.Standings.{Along, along-start, along-turn, along-end, step-less, step-small, begins}
 use Rattle.listing.proofs.records.records.Statement.{statement}
 use Rattle.listing.proofs.records.records.Tie as tie
 
@@ -15,29 +16,32 @@ abbrev μ-loop : tie.MeasureT-loop
 μ-loop log run₀ here₀ past₀ found₀ run here past found = length log - here .place
 
 loop-holds : tie.Need-loop-holds Inv-loop μ-loop
-loop-holds c = (c .before .before .before .pre .0, along-start _ _ _ (c .before .before .before .pre .1) (c .read .ensures))
+loop-holds c =
+    let at-start = c .before .before in
+    (at-start .before .before .pre, along-start _ _ _ (at-start .start .ensures .2) (c .read .ensures))
 
 after-requires : tie.Need-after-requires Inv-loop μ-loop
 after-requires c κs =
-    let at-loop = c .before .before .before .before .before .before .before .before in
-    at-loop .loop .inv .1 .counted
+    let at-judged = c .before .before .before .before in
+    let at-loop = at-judged .before .before .before .before in
+    step-small (at-loop .loop .inv .1) (at-loop .loop .inv .0) (at-judged .before .before .if1 .taken)
 
 loop-less : tie.Need-loop-less Inv-loop μ-loop
 loop-less c =
     let at-judged = c .before .before .before .before .before .before in
     let at-loop = at-judged .before .before .before .before in
-    step-less (at-loop .loop .inv .1) (at-loop .loop .inv .0) (at-judged .before .before .if1 .taken) (at-judged .judged .result) (c .before .after .ensures .0)
+    step-less (at-loop .loop .inv .1) (at-loop .loop .inv .0) (at-judged .before .before .if1 .taken) (c .before .after .ensures .0)
 
 loop-again : tie.Need-loop-again Inv-loop μ-loop
 loop-again c =
     let at-record-line = c .before .before .before .before in
     let at-read-cell = at-record-line .before .before .before in
-    let at-loop = at-read-cell .before .before .before in (
+    let at-loop = at-read-cell .before .before .before in
+    let passed = c .before .after .ensures in (
       at-loop .loop .inv .0,
       along-turn (at-loop .loop .inv .1) (at-loop .loop .inv .0) (at-read-cell .before .if1 .taken) (at-record-line .before .before .judged .ensures)
-          (at-read-cell .read-cell .ensures .0)
-          (c .before .after .ensures .1) (at-record-line .record-line .ensures) (at-record-line .record-line .kept .0) (c .before .after .ensures .0)
-          (c .read2 .ensures),
+          (at-read-cell .read-cell .ensures .0) (at-record-line .record-line .ensures) (at-record-line .record-line .kept .0) (passed .0)
+          (passed .1) (passed .2) (c .read2 .ensures),
     )
 
 same-length : tie.Need-same-length Inv-loop μ-loop
@@ -48,7 +52,9 @@ same-length c =
 returns : tie.Need-returns Inv-loop μ-loop
 returns c =
     let at-if1 = c .before .before .before .before in
-    along-end (at-if1 .before .before .loop .inv .1) (at-if1 .if1 .left) (c .before .before .end-lines .ensures)
+    let started = at-if1 .before .before .before .before .before .start .ensures in
+    puts-same (begins _ (started .0) (started .1))
+    (along-end (at-if1 .before .before .loop .inv .1) (at-if1 .if1 .left) (c .before .before .end-lines .ensures))
 
 pub records-spec : {M : Type 1} → statement M
 records-spec =

@@ -1,23 +1,20 @@
 -- `listing::records::start` meets its contract.
 -- Assumes nothing.
+use mathlib.Core.Path.{refl, ap}
 use Rattle.receiver.specs.declared.Ready.{Ready}
-use mathlib.Core.Path.{ap}
+use Rattle.reading.specs.Totals.{totalOf}
 use borrow.Author.Needs.{needs}
 use Rattle.listing.proofs.records.start.Statement.{statement}
 use Rattle.listing.proofs.records.start.Tie as tie
 
 returns : tie.Need-returns
+unfolding totalOf
 returns c =
-    ap
-    (λ (opened : Ready). record {
-      place = c .before .before .args .header .place;
-      index = 0;
-      sound = 0;
-      missing = 0;
-      refused = 0;
-      state = opened .state;
-    })
-    (c .before .opened .ensures)
+    (
+      refl,
+      ap (λ (opened : Ready). opened .state) (c .before .opened .ensures),
+      record { index-is = refl; sound-is = refl; missing-is = refl; refused-is = refl },
+    )
 
 pub start-spec : {M : Type 1} → statement M
 start-spec = tie.close (tie.spec (search needs) returns)
