@@ -22,6 +22,7 @@ use Rattle.pieces.specs.Taken.{
   Took,
   freshTaking,
   quietly,
+  faulty,
   inHeader,
   inRecord,
   one,
@@ -168,6 +169,15 @@ ended stage f left records a b =
       among = λ z. absurd (eqb-false stage 1 b z);
     }
 
+-- so much of a record, or of a header, is held
+holding : (f left records : ℕ) (part : List ℕ) → length part < 49 → (0 < length part → getD part 0 0 ≤ 1)
+    → Sound (record { stage = 1; fault = f; left = left; records = records; part = part })
+holding f left records part short small = record { header = λ z. absurd (omega arith); among = λ z. (short, small) }
+
+heading : (f left records : ℕ) (part : List ℕ) → length part < 9 → (3 ≤ length part → headerOf (take 3 part) .refusal ≡ 0 → ⊥)
+    → Sound (record { stage = 0; fault = f; left = left; records = records; part = part })
+heading f left records part short refused′ = record { header = λ z. (short, refused′); among = λ z. absurd (omega arith) }
+
 -- before a record's first octet
 nothing-held : (f left records : ℕ) → Sound (record { stage = 1; fault = f; left = left; records = records; part = [] })
 nothing-held f left records = record { header = λ z. absurd (omega arith); among = λ z. (omega arith, none) }
@@ -230,26 +240,30 @@ module _ (f left records : ℕ) (part : List ℕ) (x : ℕ) (short : length part
   unfolding one inRecord ahead
   record-goes =
       split (eqb left 0)
-      (λ l. goes-as (rw l) (ended 3 13 left records refl refl) (to-13 (eqb-true left 0 l)))
+      (λ l. goes-as {w = faulty t 3 13} (rw l) (ended 3 13 left records refl refl) (to-13 (eqb-true left 0 l)))
       (λ l.
       let some : left ≡ 0 → ⊥ = eqb-false left 0 l in
       split (eqb (length part) 0 && ltb 1 x)
       (λ b.
       let both = both-true (eqb (length part) 0) (ltb 1 x) b in
-      goes-as (rw (l, b)) (ended 3 11 left records refl refl) (to-11 some (eqb-true (length part) 0 (both .0)) (ltb-true 1 x (both .1))))
+      goes-as {w = faulty t 3 11} (rw (l, b)) (ended 3 11 left records refl refl) (to-11 some (eqb-true (length part) 0 (both .0)) (ltb-true 1 x (both .1))))
       (λ b.
       let first : getD longer-part 0 0 ≤ 1 = starts-with part x (not-above b) small in
       split (eqb (length part) 48)
       (λ e.
-      goes-as (rw (l, b, e))
+      goes-as
+      {w = record {
+        taking = record { stage = 1; fault = f; left = left - 1; records = (records + 1) % 2 ^ 64; part = [] };
+        parts = whole (frontOf longer-part) ∷ [];
+      }}
+      (rw (l, b, e))
       (nothing-held f (left - 1) ((records + 1) % 2 ^ 64))
       (to-whole some (eqb-true (length part) 48 e) first))
       (λ e.
-      goes-as (rw (l, b, e))
-      (record {
-        header = λ z. absurd (omega arith);
-        among = λ z. (omega (arith, more-length part x, eqb-false (length part) 48 e), λ h. first);
-      })
+      goes-as
+      {w = quietly (record { stage = 1; fault = f; left = left - 1; records = records; part = longer-part })}
+      (rw (l, b, e))
+      (holding f (left - 1) records longer-part (omega (arith, more-length part x, eqb-false (length part) 48 e)) (λ h. first))
       (to-held some))))
 
 -- in the header
@@ -291,18 +305,22 @@ module _ (f left records : ℕ) (part : List ℕ) (x : ℕ) (short : length part
         split (eqb (length longer) 3 && eqb (headerOf longer .refusal) 0)
         (λ b.
         let both = both-true (eqb (length longer) 3) (eqb (headerOf longer .refusal) 0) b in
-        goes-as (rw b)
+        goes-as
+        {w = record {
+          taking = record { stage = 1; fault = f; left = left - 3; records = records; part = [] };
+          parts = head (headerOf longer) ∷ [];
+        }}
+        (rw b)
         (nothing-held f (left - 3) records)
         (to-header (eqb-true (length longer) 3 (both .0)) (eqb-true (headerOf longer .refusal) 0 (both .1))))
         (λ b.
         split (eqb (length longer) 9)
-        (λ e. goes-as (rw (b, e)) (ended 2 (headerOf longer .refusal) left records refl refl) (to-refused (eqb-true (length longer) 9 e)))
+        (λ e. goes-as {w = faulty h 2 (headerOf longer .refusal)} (rw (b, e)) (ended 2 (headerOf longer .refusal) left records refl refl) (to-refused (eqb-true (length longer) 9 e)))
         (λ e.
-        goes-as (rw (b, e))
-        (record {
-          header = λ z. (omega (arith, more-length part x, eqb-false (length longer) 9 e), still b);
-          among = λ z. absurd (omega arith);
-        })
+        goes-as
+        {w = quietly (record { stage = 0; fault = f; left = left; records = records; part = longer })}
+        (rw (b, e))
+        (heading f left records longer (omega (arith, more-length part x, eqb-false (length longer) 9 e)) (still b))
         comes))
       where
         still : eqb (length longer) 3 && eqb (headerOf longer .refusal) 0 ≡ false

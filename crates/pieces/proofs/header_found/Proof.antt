@@ -17,7 +17,7 @@ array-share-prefix-held : tie.Need-array-share-prefix-held
 array-share-prefix-held c = omega (arith, size (c .before .before))
 
 slice-aggregate-read-header : tie.Need-slice-aggregate-read-header
-slice-aggregate-read-header c = sym (length-take-le 3 _ (omega (arith, size (c .before .before .before))))
+slice-aggregate-read-header c = sym (length-take-le 3 (c .before .before .before .args .t2) (omega (arith, size (c .before .before .before))))
 
 returns : tie.Need-returns
 returns c =
@@ -28,7 +28,7 @@ array-share-prefix-held-2 : tie.Need-array-share-prefix-held-2
 array-share-prefix-held-2 c = omega (arith, size (c .before .before .before))
 
 slice-aggregate-read-header-2 : tie.Need-slice-aggregate-read-header-2
-slice-aggregate-read-header-2 c = sym (length-take-le 9 _ (omega (arith, size (c .before .before .before .before))))
+slice-aggregate-read-header-2 c = sym (length-take-le 9 (c .before .before .before .before .args .t2) (omega (arith, size (c .before .before .before .before))))
 
 returns-2 : tie.Need-returns-2
 returns-2 c = header-refused _ _ _ _ (c .before .before .before .if3 .taken) (c .before .read-header2 .ensures) (c .fault-found .ensures)
