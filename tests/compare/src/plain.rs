@@ -13,7 +13,7 @@ mod status;
 pub use boxes::{Receiver, Sender};
 pub use cable::{export_frame, import_frame};
 pub use cells::Shape;
-pub use log::{header, listing, record, Record};
+pub use log::{header, listing, listing_to, record, Record};
 pub use status::{check_character, step, Block, Character};
 
 /// The paper's number for a no.

@@ -15,6 +15,7 @@ pub fn by_plain(case: &Case) -> Answer {
         Kind::ReadHeader => read_header(case),
         Kind::ReadRecord => read_record(case),
         Kind::Linelist => values![plain::listing(case.octets(0)).as_bytes()],
+        Kind::LinelistLimit => values![plain::listing_to(case.octets(0), case.number(1)).as_bytes()],
         Kind::Aes3Import => aes3_import(case),
         Kind::Aes3Export => aes3_export(case),
     }

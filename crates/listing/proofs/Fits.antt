@@ -1,0 +1,214 @@
+-- What a piece of at most 65,536 octets makes fits a run of 131,072: so many records as it can make whole at 76 octets each, and 216.
+-- Assumes nothing.
+use mathlib.Core.Bool.{true, false, cond, _&&_}
+use mathlib.Core.List.{List, [], _∷_, _++_}
+use mathlib.Core.Path.{_≡_, refl, sym, _∙_, ap}
+use Prim.Native.Nat.{ℕ, zero, suc, _+_, _*_, _/_, _%_, _-_, _^_, _≤_, _<_}
+use native.Mathlib.Omega.{arith}
+use borrow.Author.Tests.{eqb-true, le-leb}
+use lib.Dec.{eqb, ltb}
+use lib.ListN.{length, take, length-append}
+use Rattle.runs.proofs.Laws.{split}
+use Rattle.log.specs.Records.{headerOf}
+use Rattle.receiver.specs.declared.Received.{Received}
+use Rattle.reading.specs.Records.{frontOf}
+use Rattle.pieces.specs.Limit.{Part, head, whole, refused, broken, done, endPart}
+use Rattle.pieces.specs.Steps.{heldCount, takingOf}
+use Rattle.pieces.specs.Taken.{Taking, Took, inHeader, inRecord, one, after, handed, endParts}
+use Rattle.listing.specs.declared.Listed.{Listed}
+use Rattle.listing.specs.declared.Listing.{Listing}
+use Rattle.listing.specs.declared.Printed.{Printed}
+use Rattle.listing.specs.declared.Tally.{Tally}
+use Rattle.listing.specs.Lines.{formatLine, brokenLine, endLine, logRefusedLine}
+use Rattle.listing.specs.List.{lineOf}
+use Rattle.listing.specs.Taking.{
+  judgedWhole,
+  endText,
+  partText,
+  partTally,
+  textOf,
+  tallyOf,
+  pieceText,
+  endOfText,
+  Takes,
+  Ends,
+}
+use Rattle.listing.specs.Text.{digitsOf, item, listed}
+use Rattle.listing.specs.Words.{words}
+use Rattle.listing.proofs.Texts.{text-joined}
+use Rattle.listing.proofs.Whole.{take-to}
+
+length-digits : (k n : ℕ) → length (digitsOf k n) ≤ k
+unfolding digitsOf
+length-digits zero n = omega arith
+length-digits (suc k) n =
+    split (ltb n 10)
+    (λ e. rw e (omega arith))
+    (λ e. rw (e, length-append (digitsOf k (n / 10)) ((48 + n % 10) ∷ [])) (omega (arith, length-digits k (n / 10))))
+
+-- words and a number behind octets
+with-item : (octets more : List ℕ) (n : ℕ) {a b : ℕ} → length octets ≤ a → length more ≤ b → length (octets ++ item more n) ≤ a + b + 20
+with-item octets more n h l =
+    rw (length-append octets (item more n), length-append more (digitsOf 20 n)) (omega (arith, length-digits 20 n))
+
+with-words : (octets more : List ℕ) {a b : ℕ} → length octets ≤ a → length more ≤ b → length (octets ++ more) ≤ a + b
+with-words octets more h l = rw (length-append octets more) (omega arith)
+
+one-item : (more : List ℕ) (n : ℕ) {b : ℕ} → length more ≤ b → length (item more n) ≤ b + 20
+one-item more n l = rw (length-append more (digitsOf 20 n)) (omega (arith, length-digits 20 n))
+
+three-short : (first second third last : List ℕ) (a b c : ℕ) {i j k l : ℕ} → length first ≤ i → length second ≤ j → length third ≤ k
+    → length last ≤ l → length (item first a ++ item second b ++ item third c ++ last) ≤ i + j + k + l + 60
+three-short first second third last a b c hi hj hk hl =
+    let one = one-item first a hi in
+    let two = with-item (item first a) second b one hj in
+    let three = with-item (item first a ++ item second b) third c two hk in
+    omega (arith, with-words (item first a ++ item second b ++ item third c) last three hl)
+
+two-short : (first second last : List ℕ) (a b : ℕ) {i j l : ℕ} → length first ≤ i → length second ≤ j → length last ≤ l
+    → length (item first a ++ item second b ++ last) ≤ i + j + l + 40
+two-short first second last a b hi hj hl =
+    let one = one-item first a hi in
+    let two = with-item (item first a) second b one hj in
+    omega (arith, with-words (item first a ++ item second b) last two hl)
+
+line-short : (index : ℕ) (got : Received) → length (lineOf index got) ≤ 76
+unfolding lineOf
+line-short index got =
+    split (eqb (got .refusal) 0)
+    (λ e. rw e (three-short (words "") (words " sound ") (words " number ") (words "\n") index (got .missing)
+    (got .number) {i = 0} {j = 7} {k = 8} {l = 1} (omega arith) (omega arith) (omega arith) (omega arith)))
+    (λ e. rw e (omega (
+      arith,
+      two-short (words "") (words " refused ") (words "\n") index (got .refusal) {i = 0} {j = 9} {l = 1} (omega arith)
+          (omega arith) (omega arith),
+    )))
+
+end-short : (t : Tally) (fault : ℕ) → length (endText t fault) ≤ 140
+unfolding endText
+end-short t fault =
+    let end = three-short (words "end ") (words " sound ") (words " missing ") (words " refused\n") (t .sound) (t .missing)
+    (t .refused) {i = 4} {j = 7} {k = 9} {l = 9} (omega arith) (omega arith) (omega arith) (omega arith) in
+    let broken′ = two-short (words "") (words " broken ") (words "\n") (t .records) fault {i = 0} {j = 8} {l = 1} (omega arith) (omega arith) (omega arith) in
+    split (eqb fault 0)
+    (λ e. rw e (omega (arith, end)))
+    (λ e. rw e (omega (arith, with-words (brokenLine (t .records) fault) (endLine (t .sound) (t .missing) (t .refused)) broken′ end)))
+
+refused-short : (refusal : ℕ) → length (logRefusedLine refusal) ≤ 33
+refused-short refusal =
+    with-words (item (words "log refused ") refusal) (words "\n") {a = 32} {b = 1}
+    (one-item (words "log refused ") refusal {b = 12} (omega arith)) (omega arith)
+
+format-short : (octet channels order : ℕ) → length (formatLine octet channels order) ≤ 70
+format-short octet channels order =
+    three-short (words "format ") (words " ") (words " ") (words "\n") octet channels order {i = 7} {j = 1} {k = 1} {l = 1}
+    (omega arith) (omega arith) (omega arith) (omega arith)
+
+-- one part
+one-short : (t : Tally) (p : Part) {most : ℕ} → length (partText t p) ≤ most → length (textOf t (p ∷ [])) ≤ most
+unfolding textOf
+one-short t p h = rw (length-append (partText t p) []) (omega arith)
+
+head-short : (t : Tally) (octets : List ℕ) → length (textOf t (head (headerOf octets) ∷ [])) ≤ 70
+unfolding partText
+head-short t octets = one-short t (head (headerOf octets)) (format-short (headerOf octets .format) (headerOf octets .channels) (headerOf octets .order))
+
+whole-short : (t : Tally) (octets : List ℕ) → length (textOf t (whole (frontOf octets) ∷ [])) ≤ 76
+unfolding partText
+whole-short t octets = one-short t (whole (frontOf octets)) (line-short (t .records) (judgedWhole (t .state) (frontOf octets)))
+
+refused-part : (t : Tally) (refusal : ℕ) → length (textOf t (refused refusal ∷ [])) ≤ 33
+unfolding partText
+refused-part t refusal = one-short t (refused refusal) (refused-short refusal)
+
+broken-part : (t : Tally) (refusal : ℕ) → length (textOf t (broken refusal ∷ [])) ≤ 140
+unfolding partText
+broken-part t refusal = one-short t (broken refusal) (end-short t refusal)
+
+done-part : (t : Tally) → length (textOf t (done ∷ [])) ≤ 140
+unfolding partText
+done-part t = one-short t done (end-short t 0)
+
+-- how long the text of so many octets can be where a log stands
+most-text : Taking → ℕ → ℕ
+most-text t n =
+    cond (eqb (t .stage) 0) (76 * (n / 49) + 216)
+    (cond (eqb (t .stage) 1) (76 * ((length (t .part) + n) / 49) + 140) 0)
+
+-- an octet's text, and what can come behind it
+octet-text : (t : Tally) (k : Taking) (x n : ℕ) → length (textOf t (one k x .parts)) + most-text (one k x .taking) n ≤ most-text k (suc n)
+unfolding one inHeader inRecord most-text textOf
+octet-text t k x n =
+    let longer : List ℕ = k .part ++ (x ∷ []) in
+    let more : length longer ≡ suc (length (k .part)) = length-append (k .part) (x ∷ []) ∙ omega arith in
+    split (eqb (k .stage) 0)
+    (λ a.
+    split (eqb (length longer) 3 && eqb (headerOf longer .refusal) 0)
+    (λ b. rw (a, b) (omega (arith, head-short t longer)))
+    (λ b. split (eqb (length longer) 9)
+    (λ e. rw (a, b, e) (omega (arith, refused-part t (headerOf longer .refusal))))
+    (λ e. rw (a, b, e) (omega arith))))
+    (λ a.
+    split (eqb (k .stage) 1)
+    (λ o.
+    split (eqb (k .left) 0)
+    (λ l. rw (a, o, l) (omega (arith, broken-part t 13)))
+    (λ l. split (eqb (length (k .part)) 0 && ltb 1 x)
+    (λ b. rw (a, o, l, b) (omega (arith, broken-part t 11)))
+    (λ b. split (eqb (length (k .part)) 48)
+    (λ e. rw (a, o, l, b, e) (omega (arith, whole-short t longer, eqb-true (length (k .part)) 48 e)))
+    (λ e. rw (a, o, l, b, e, more) (omega arith)))))
+    (λ o. rw (a, o) (omega arith)))
+
+text-short : (t : Tally) (k : Taking) (octets : List ℕ) → length (textOf t (handed k octets)) ≤ most-text k (length octets)
+unfolding handed textOf
+text-short t k [] = omega arith
+text-short t k (x ∷ octets) =
+    rw (
+      text-joined t (one k x .parts) (handed (one k x .taking) octets),
+      length-append (textOf t (one k x .parts)) (textOf (tallyOf t (one k x .parts)) (handed (one k x .taking) octets)),
+    )
+    (omega (arith, octet-text t k x (length octets), text-short (tallyOf t (one k x .parts)) (one k x .taking) octets))
+
+module _ (l : Listing) (held : List ℕ) where
+  pub piece-fits : (piece : List ℕ) → length piece ≤ 65536 → length (pieceText l held piece) ≤ 131072
+  unfolding most-text takingOf heldCount
+  piece-fits piece few =
+      let part : length (take (cond (eqb (l .standing .stage) 0) (l .standing .count % 9) (l .standing .count % 49)) held)
+      ≤ cond (eqb (l .standing .stage) 0) (l .standing .count % 9) (l .standing .count % 49) =
+      take-to (cond (eqb (l .standing .stage) 0) (l .standing .count % 9) (l .standing .count % 49)) held in
+      let short = text-short (l .tally) (takingOf (l .standing) held) piece in
+      split (eqb (l .standing .stage) 0)
+      (λ a. omega (arith, rw a at short))
+      (λ a.
+      split (eqb (l .standing .stage) 1)
+      (λ b. omega (arith, rw (a, b) at short, rw a at part))
+      (λ b. omega (arith, rw (a, b) at short)))
+
+  pub end-fits : length (endOfText l held) ≤ 131072
+  unfolding endParts endPart takingOf textOf
+  end-fits =
+      split (eqb (l .standing .stage) 0)
+      (λ a. rw a (omega (arith, refused-part (l .tally) (headerOf (takingOf (l .standing) held .part) .refusal))))
+      (λ a.
+      split (eqb (l .standing .stage) 1)
+      (λ b.
+      split (ltb 0 (length (takingOf (l .standing) held .part)))
+      (λ e. rw (a, b, e) (omega (arith, broken-part (l .tally) 12)))
+      (λ e. rw (a, b, e) (omega (arith, done-part (l .tally)))))
+      (λ b. rw (a, b) (omega arith)))
+
+-- so a run of that many octets holds all of it
+listed-whole : {text run : List ℕ} {answer : Listed} → length text ≤ 131072 → 131072 ≤ length run → answer ≡ listed (length run) text
+    → (answer .whole ≡ true) × (answer .octets ≤ length run)
+listed-whole {text} {run} fits room is =
+    (ap (λ (x : Listed). x .whole) is ∙ le-leb (length text) (length run) (omega arith),
+    omega (arith, ap (λ (x : Listed). x .octets) is, take-to (length run) text))
+
+pub takes-whole : {l : Listing} {held piece run held-after run-after : List ℕ} {answer : Printed} → Takes l held piece run answer held-after run-after
+    → length piece ≤ 65536 → 131072 ≤ length run → (answer .listed .whole ≡ true) × (answer .listed .octets ≤ length run)
+takes-whole {l} {held} {piece} takes few room = listed-whole (piece-fits l held piece few) room (takes .printed)
+
+pub ends-whole : {l : Listing} {held run run-after : List ℕ} {answer : Listed} → Ends l held run answer run-after → 131072 ≤ length run
+    → (answer .whole ≡ true) × (answer .octets ≤ length run)
+ends-whole {l} {held} ends room = listed-whole (end-fits l held) room (ends .printed)
