@@ -12,6 +12,7 @@ use Rattle.runs.proofs.Laws.{split}
 use Rattle.log.specs.Records.{headerOf}
 use Rattle.receiver.specs.declared.Received.{Received}
 use Rattle.reading.specs.Records.{frontOf}
+use Rattle.pieces.specs.declared.Standing.{Standing}
 use Rattle.pieces.specs.Limit.{Part, head, whole, refused, broken, done, endPart}
 use Rattle.pieces.specs.Steps.{heldCount, takingOf}
 use Rattle.pieces.specs.Taken.{Taking, Took, inHeader, inRecord, one, after, handed, endParts}
@@ -158,7 +159,7 @@ octet-text t k x n =
     (λ b. split (eqb (length (k .part)) 48)
     (λ e. rw (a, o, l, b, e) (omega (arith, whole-short t longer, eqb-true (length (k .part)) 48 e)))
     (λ e. rw (a, o, l, b, e, more) (omega arith)))))
-    (λ o. rw (a, o) (omega arith)))
+    (λ o. rw (a, o, a, o) (omega arith)))
 
 text-short : (t : Tally) (k : Taking) (octets : List ℕ) → length (textOf t (handed k octets)) ≤ most-text k (length octets)
 unfolding handed textOf
@@ -170,20 +171,37 @@ text-short t k (x ∷ octets) =
     )
     (omega (arith, octet-text t k x (length octets), text-short (tallyOf t (one k x .parts)) (one k x .taking) octets))
 
+-- by the stage
+module _ (s : Standing) (held : List ℕ) (n : ℕ) where
+  most-in-header : eqb (s .stage) 0 ≡ true → most-text (takingOf s held) n ≡ 76 * (n / 49) + 216
+  unfolding most-text takingOf
+  most-in-header a = rw a
+
+  module _ (a : eqb (s .stage) 0 ≡ false) where
+    most-in-record : eqb (s .stage) 1 ≡ true → most-text (takingOf s held) n ≡ 76 * ((length (take (s .count % 49) held) + n) / 49) + 140
+    unfolding most-text takingOf heldCount
+    most-in-record b = rw (a, b)
+
+    most-behind-fault : eqb (s .stage) 1 ≡ false → most-text (takingOf s held) n ≡ 0
+    unfolding most-text takingOf
+    most-behind-fault b = rw (a, b)
+
 module _ (l : Listing) (held : List ℕ) where
   pub piece-fits : (piece : List ℕ) → length piece ≤ 65536 → length (pieceText l held piece) ≤ 131072
-  unfolding most-text takingOf heldCount
   piece-fits piece few =
-      let part : length (take (cond (eqb (l .standing .stage) 0) (l .standing .count % 9) (l .standing .count % 49)) held)
-      ≤ cond (eqb (l .standing .stage) 0) (l .standing .count % 9) (l .standing .count % 49) =
-      take-to (cond (eqb (l .standing .stage) 0) (l .standing .count % 9) (l .standing .count % 49)) held in
       let short = text-short (l .tally) (takingOf (l .standing) held) piece in
       split (eqb (l .standing .stage) 0)
-      (λ a. omega (arith, rw a at short))
+      (λ a. omega (arith, short, most-in-header (l .standing) held (length piece) a))
       (λ a.
       split (eqb (l .standing .stage) 1)
-      (λ b. omega (arith, rw (a, b) at short, rw a at part))
-      (λ b. omega (arith, rw (a, b) at short)))
+      (λ b.
+      omega (
+        arith,
+        short,
+        most-in-record (l .standing) held (length piece) a b,
+        take-to (l .standing .count % 49) held,
+      ))
+      (λ b. omega (arith, short, most-behind-fault (l .standing) held (length piece) a b)))
 
   pub end-fits : length (endOfText l held) ≤ 131072
   unfolding endParts endPart takingOf textOf
@@ -199,16 +217,17 @@ module _ (l : Listing) (held : List ℕ) where
       (λ b. rw (a, b) (omega arith)))
 
 -- so a run of that many octets holds all of it
-listed-whole : {text run : List ℕ} {answer : Listed} → length text ≤ 131072 → 131072 ≤ length run → answer ≡ listed (length run) text
+listed-whole : (text run : List ℕ) {answer : Listed} → length text ≤ 131072 → 131072 ≤ length run → answer ≡ listed (length run) text
     → (answer .whole ≡ true) × (answer .octets ≤ length run)
-listed-whole {text} {run} fits room is =
-    (ap (λ (x : Listed). x .whole) is ∙ le-leb (length text) (length run) (omega arith),
-    omega (arith, ap (λ (x : Listed). x .octets) is, take-to (length run) text))
+listed-whole text run fits room is = (
+  ap (λ (x : Listed). x .whole) is ∙ le-leb (length text) (length run) (omega arith),
+  omega (arith, ap (λ (x : Listed). x .octets) is, take-to (length run) text),
+)
 
 pub takes-whole : {l : Listing} {held piece run held-after run-after : List ℕ} {answer : Printed} → Takes l held piece run answer held-after run-after
     → length piece ≤ 65536 → 131072 ≤ length run → (answer .listed .whole ≡ true) × (answer .listed .octets ≤ length run)
-takes-whole {l} {held} {piece} takes few room = listed-whole (piece-fits l held piece few) room (takes .printed)
+takes-whole {l} {held} {piece} {run} takes few room = listed-whole (pieceText l held piece) run (piece-fits l held piece few) room (takes .printed)
 
 pub ends-whole : {l : Listing} {held run run-after : List ℕ} {answer : Listed} → Ends l held run answer run-after → 131072 ≤ length run
     → (answer .whole ≡ true) × (answer .octets ≤ length run)
-ends-whole {l} {held} ends room = listed-whole (end-fits l held) room (ends .printed)
+ends-whole {l} {held} {run} ends room = listed-whole (endOfText l held) run (end-fits l held) room (ends .printed)

@@ -14,9 +14,10 @@ pub start-one : One start-kinds.ps start-kinds.r start-reads.Pre start-reads.Pos
 start-one κs a x y v w pre p q = (p ∙ sym q, refl)
 
 pub take-one : One take-kinds.ps take-kinds.r take-reads.Pre take-reads.Post
-take-one κs a x y v w pre p q =
-    (λ i. record { listed = (p .printed ∙ sym (q .printed)) i; listing = (p .goes-on ∙ sym (q .goes-on)) i },
-    λ i. (tt, ((p .holds ∙ sym (q .holds)) i, (tt, ((p .wrote ∙ sym (q .wrote)) i, tt)))))
+take-one κs a x y v w pre p q = (
+  λ i. record { listed = (p .printed ∙ sym (q .printed)) i; listing = (p .goes-on ∙ sym (q .goes-on)) i },
+  λ i. (tt, ((p .holds ∙ sym (q .holds)) i, (tt, ((p .wrote ∙ sym (q .wrote)) i, tt)))),
+)
 
 pub end-one : One end-kinds.ps end-kinds.r end-reads.Pre end-reads.Post
 end-one κs a x y v w pre p q = (p .printed ∙ sym (q .printed), λ i. (tt, (tt, ((p .wrote ∙ sym (q .wrote)) i, tt))))

@@ -177,7 +177,7 @@ start-holds run =
 
 -- along a piece: the parts so far, their lines written, and the counts behind them
 pub record Going (l : Listing) (lent piece first : List ℕ) (at : Listed) (s : Standing) (t : Tally) (held run : List ℕ) (past : Listed) (place : ℕ)
-  : Type 0
+    : Type 0
   where
     pub parts : List Part
     pub along : Along (l .standing) lent piece place s held parts

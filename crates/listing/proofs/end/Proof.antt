@@ -1,58 +1,27 @@
+-- `listing::end` meets its contract.
+-- Assumes nothing.
 use borrow.Author.Needs.{needs}
+use Rattle.listing.proofs.Texts.{ends-refused, ends-nothing, ends-lines}
 use Rattle.listing.proofs.end.Statement.{statement}
 use Rattle.listing.proofs.end.Tie as tie
-use Rattle.listing.proofs.end.Reads as reads
-use Rattle.listing.proofs.end.Lts as lts
-use Rattle.listing.proofs.lines.log_refused_line.Reads as log-refused-line-reads
-use Rattle.listing.proofs.parts.end_lines.Reads as end-lines-reads
-use Rattle.pieces.proofs.end.Reads as end-reads
 
--- src/lib.rt:93:9
-end-requires : tie.Need-end-requires
-end-requires c κs = search needs
-
--- src/lib.rt:95:52
-cast-log-refused-line : tie.Need-cast-log-refused-line
-cast-log-refused-line c = search needs
-
--- src/lib.rt:95:9
-log-refused-line-requires : tie.Need-log-refused-line-requires
-log-refused-line-requires c κs = search needs
-
--- src/lib.rt:95:9
-same-length : tie.Need-same-length
-same-length c = search needs
-
--- src/lib.rt:95:9
 returns : tie.Need-returns
-returns c = ?
+returns c =
+    let at-if1 = c .before .before .before .before in
+    ends-refused {l = at-if1 .before .before .before .before .before .before .args .listing} (at-if1 .before .before .end .ensures) (at-if1 .if1 .taken)
+    (c .before .before .log-refused-line .ensures)
 
--- src/lib.rt:98:9
 returns-2 : tie.Need-returns-2
-returns-2 c = ?
+returns-2 c = ends-nothing {l = c .before .before .before .before .before .before .before .before .args .listing} (c .before .before .if1 .left) (c .if2 .taken)
 
--- src/lib.rt:100:5
-end-lines-requires : tie.Need-end-lines-requires
-end-lines-requires c κs = search needs
-
--- src/lib.rt:84:1
-same-length-2 : tie.Need-same-length-2
-same-length-2 c = search needs
-
--- src/lib.rt:84:1
 returns-3 : tie.Need-returns-3
-returns-3 c = ?
+returns-3 c =
+    let at-if2 = c .before .before .before .before in
+    let at-if1 = at-if2 .before .before in
+    ends-lines {l = at-if1 .before .before .before .before .before .before .args .listing} (at-if1 .before .before .end .ensures) (at-if1 .if1 .left) (at-if2 .if2 .left)
+    (c .before .before .end-lines .ensures)
 
 pub end-spec : {M : Type 1} → statement M
 end-spec =
     tie.close
-    (tie.spec
-    end-requires
-    cast-log-refused-line
-    log-refused-line-requires
-    same-length
-    returns
-    returns-2
-    end-lines-requires
-    same-length-2
-    returns-3)
+    (tie.spec (search needs) (search needs) (search needs) (search needs) returns returns-2 (search needs) (search needs) returns-3)

@@ -1,22 +1,15 @@
+-- `listing::start` meets its contract.
+-- Assumes nothing.
 use borrow.Author.Needs.{needs}
 use Rattle.listing.proofs.start.Statement.{statement}
 use Rattle.listing.proofs.start.Tie as tie
-use Rattle.listing.proofs.start.Reads as reads
-use Rattle.listing.proofs.start.Lts as lts
-use Rattle.pieces.proofs.start.Reads as start-reads
-use Rattle.receiver.proofs.opened.Reads as opened-reads
 
--- src/lib.rt:43:9
-start-requires : tie.Need-start-requires
-start-requires c κs = search needs
-
--- src/lib.rt:44:9
-opened-requires : tie.Need-opened-requires
-opened-requires c κs = search needs
-
--- src/lib.rt:40:1
 returns : tie.Need-returns
-returns c = ?
+returns c =
+    λ i. record {
+      standing = c .before .before .start .ensures i;
+      tally = record { state = c .before .opened .ensures i .state; records = 0; sound = 0; missing = 0; refused = 0 };
+    }
 
 pub start-spec : {M : Type 1} → statement M
-start-spec = tie.close (tie.spec start-requires opened-requires returns)
+start-spec = tie.close (tie.spec (search needs) (search needs) returns)

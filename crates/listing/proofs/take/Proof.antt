@@ -1,60 +1,47 @@
+-- `listing::take` meets its contract. The loop goes along the piece; the measure is what is left of it.
+-- Assumes nothing.
+use mathlib.Core.Path.{_≡_, sym, _∙_, ap}
+use Prim.Native.Nat.{_-_}
+use native.Mathlib.Omega.{arith}
+use borrow.Author.Needs.{needs}
+use lib.ListN.{length}
+use Rattle.listing.proofs.Texts.{Going, going-start, going-turn, going-on, going-end, found-room}
 use Rattle.listing.proofs.take.Statement.{statement}
 use Rattle.listing.proofs.take.Tie as tie
-use Rattle.listing.proofs.take.Reads as reads
-use Rattle.listing.proofs.take.Lts as lts
-use Rattle.listing.proofs.parts.step.Reads as step-reads
-use Rattle.pieces.proofs.next.Reads as next-reads
-use Rattle.pieces.proofs.sized.Reads as sized-reads
 
 abbrev Inv-loop : tie.InvT-loop
-Inv-loop held₀ piece run₀ standing₀ tally₀ past₀ place₀ held run standing tally past place = ?
+Inv-loop held₀ piece run₀ standing₀ tally₀ past₀ place₀ held run standing tally past place =
+    Going (record { standing = standing₀; tally = tally₀ }) held₀ piece run₀ past₀ standing tally held run past place
 
 abbrev μ-loop : tie.MeasureT-loop
-μ-loop held₀ piece run₀ standing₀ tally₀ past₀ place₀ held run standing tally past place = ?
+μ-loop held₀ piece run₀ standing₀ tally₀ past₀ place₀ held run standing tally past place = length piece - place
 
--- src/lib.rt:61:5
-sized-requires : tie.Need-sized-requires Inv-loop μ-loop
-sized-requires c κs = ?
-
--- src/lib.rt:69:5
 loop-holds : tie.Need-loop-holds Inv-loop μ-loop
-loop-holds c = ?
+loop-holds c = let sized = c .before .before .sized .ensures in going-start (ap length (sym (sized .0)) ∙ sized .1)
 
--- src/lib.rt:70:13
-next-requires : tie.Need-next-requires Inv-loop μ-loop
-next-requires c κs = ?
-
--- src/lib.rt:71:13
 step-requires : tie.Need-step-requires Inv-loop μ-loop
-step-requires c κs = ?
+step-requires c κs two = found-room (c .before .before .next .ensures) two
 
--- src/lib.rt:69:5
 loop-less : tie.Need-loop-less Inv-loop μ-loop
-loop-less c = ?
+loop-less c =
+    let at-next = c .before .before .before .before .before .before .before .before in
+    let at-test = at-next .before .before in
+    omega (arith, going-on (at-test .before .loop .inv) (at-test .loop-test .taken) (at-next .next .ensures))
 
--- src/lib.rt:69:5
 loop-again : tie.Need-loop-again Inv-loop μ-loop
-loop-again c = ?
+loop-again c =
+    let at-step = c .before .before .before .before .before in
+    let at-next = at-step .before .before .before in
+    let at-test = at-next .before .before in
+    going-turn (at-test .before .loop .inv) (at-test .loop-test .taken) (at-next .next .ensures) (at-step .step .ensures) (at-step .step .kept .0)
 
--- src/lib.rt:58:1
 same-length : tie.Need-same-length Inv-loop μ-loop
-same-length c = ?
+same-length c = c .before .loop .inv .same
 
--- src/lib.rt:58:1
 returns : tie.Need-returns Inv-loop μ-loop
-returns c = ?
+returns c = going-end (c .before .loop .inv) (c .loop-test .left)
 
 pub take-spec : {M : Type 1} → statement M
 take-spec =
     tie.close
-    (tie.spec
-    Inv-loop
-    μ-loop
-    sized-requires
-    loop-holds
-    next-requires
-    step-requires
-    loop-less
-    loop-again
-    same-length
-    returns)
+    (tie.spec Inv-loop μ-loop (search needs) loop-holds (search needs) step-requires loop-less loop-again same-length returns)

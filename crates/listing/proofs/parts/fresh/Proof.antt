@@ -1,17 +1,17 @@
+-- `listing::parts::fresh` meets its contract.
+-- Assumes nothing.
+use mathlib.Core.Path.{ap}
 use borrow.Author.Needs.{needs}
+use Rattle.receiver.specs.declared.Ready.{Ready}
+use Rattle.listing.specs.declared.Tally.{Tally}
 use Rattle.listing.proofs.parts.fresh.Statement.{statement}
 use Rattle.listing.proofs.parts.fresh.Tie as tie
-use Rattle.listing.proofs.parts.fresh.Reads as reads
-use Rattle.listing.proofs.parts.fresh.Lts as lts
-use Rattle.receiver.proofs.opened.Reads as opened-reads
 
--- src/parts.rt:34:9
-opened-requires : tie.Need-opened-requires
-opened-requires c κs = search needs
+abbrev tally-of : Ready → Tally
+tally-of opened = record { state = opened .state; records = 0; sound = 0; missing = 0; refused = 0 }
 
--- src/parts.rt:31:1
 returns : tie.Need-returns
-returns c = ?
+returns c = ap tally-of (c .before .opened .ensures)
 
 pub fresh-spec : {M : Type 1} → statement M
-fresh-spec = tie.close (tie.spec opened-requires returns)
+fresh-spec = tie.close (tie.spec (search needs) returns)

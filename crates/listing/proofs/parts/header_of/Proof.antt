@@ -1,27 +1,21 @@
+-- `listing::parts::header_of` meets its contract.
+-- Assumes nothing.
+use mathlib.Core.Path.{_≡_, sym}
+use native.Mathlib.Omega.{arith}
 use borrow.Author.Needs.{needs}
+use lib.ListN.{length}
+use lib.Seq.{length-take-le}
 use Rattle.listing.proofs.parts.header_of.Statement.{statement}
 use Rattle.listing.proofs.parts.header_of.Tie as tie
-use Rattle.listing.proofs.parts.header_of.Reads as reads
-use Rattle.listing.proofs.parts.header_of.Lts as lts
-use Rattle.log.proofs.read_header.Reads as read-header-reads
 
--- src/parts.rt:28:22
-array-share-prefix-held : tie.Need-array-share-prefix-held
-array-share-prefix-held c = search needs
+size : (c : tie.Start) → length (c .args .t1) ≡ 49
+size c = c .good .0 .1 .0 .1
 
--- src/parts.rt:28:22
 slice-aggregate-read-header : tie.Need-slice-aggregate-read-header
-slice-aggregate-read-header c = ?
+slice-aggregate-read-header c = sym (length-take-le 3 (c .before .args .t1) (omega (arith, size (c .before))))
 
--- src/parts.rt:28:5
-read-header-requires : tie.Need-read-header-requires
-read-header-requires c κs = search needs
-
--- src/parts.rt:25:1
 returns : tie.Need-returns
-returns c = search needs
+returns c = c .read-header .ensures
 
 pub header-of-spec : {M : Type 1} → statement M
-header-of-spec =
-    tie.close
-    (tie.spec array-share-prefix-held slice-aggregate-read-header read-header-requires returns)
+header-of-spec = tie.close (tie.spec (search needs) slice-aggregate-read-header (search needs) returns)

@@ -1,28 +1,18 @@
+-- `listing::parts::judged_front` meets its contract.
+-- Assumes nothing.
+use mathlib.Core.Path.{_∙_}
 use borrow.Author.Needs.{needs}
+use Rattle.receiver.specs.Receiver.{judgedOf}
+use Rattle.reading.specs.Records.{frontOf}
 use Rattle.listing.proofs.parts.judged_front.Statement.{statement}
 use Rattle.listing.proofs.parts.judged_front.Tie as tie
-use Rattle.listing.proofs.parts.judged_front.Reads as reads
-use Rattle.listing.proofs.parts.judged_front.Lts as lts
-use Rattle.log.proofs.read_cell.Reads as read-cell-reads
-use Rattle.log.proofs.read_record.Reads as read-record-reads
-use Rattle.receiver.proofs.judged.Reads as judged-reads
 
--- src/parts.rt:49:9
-read-record-requires : tie.Need-read-record-requires
-read-record-requires c κs = search needs
-
--- src/parts.rt:50:29
-read-cell-requires : tie.Need-read-cell-requires
-read-cell-requires c κs = search needs
-
--- src/parts.rt:50:5
-judged-requires : tie.Need-judged-requires
-judged-requires c κs = search needs
-
--- src/parts.rt:46:1
 returns : tie.Need-returns
-returns c = ?
+unfolding frontOf
+returns c =
+    c .judged .ensures
+    ∙ (λ i. judgedOf (c .before .before .before .before .args .state) (c .before .read-cell .ensures .0 i)
+    (c .before .before .read-record .ensures i .indication))
 
 pub judged-front-spec : {M : Type 1} → statement M
-judged-front-spec =
-    tie.close (tie.spec read-record-requires read-cell-requires judged-requires returns)
+judged-front-spec = tie.close (tie.spec (search needs) (search needs) (search needs) returns)
