@@ -9,10 +9,6 @@ use borrow.Author.Tests.{le-leb, lt-leb, leb-true}
 use lib.Dec.{leb, ltb}
 use lib.ListN.{length, take}
 use Rattle.runs.proofs.Laws.{both-true}
-use Rattle.listing.specs.declared.Listing.{Listing}
-use Rattle.listing.specs.declared.Printed.{Printed}
-use Rattle.listing.specs.Taking.{Takes}
-use Rattle.listing.proofs.Fits.{takes-whole}
 use Rattle.linelist.specs.Reads.{readsOn}
 
 pub reads-past : (octets stage : ℕ) → 4294967295 < octets → false ≡ readsOn octets stage
@@ -27,13 +23,7 @@ pub reads-to : (octets stage : ℕ) → readsOn octets stage ≡ true → octets
 unfolding readsOn
 reads-to octets stage on = leb-true octets 4294967295 (both-true (leb octets 4294967295) (ltb stage 2) on .0)
 
-take-within : (n : ℕ) (l : List ℕ) → length (take n l) ≤ length l
+pub take-within : (n : ℕ) (l : List ℕ) → length (take n l) ≤ length l
 take-within zero l = omega arith
 take-within (suc n) [] = omega arith
 take-within (suc n) (x ∷ l) = omega (arith, take-within n l)
-
--- the lines of what was read are whole, and lie in the text
-pub read-fits : (n : ℕ) {l : Listing} {held buffer text held-after text-after : List ℕ} {answer : Printed}
-    → Takes l held (take n buffer) text answer held-after text-after → length buffer ≤ 65536 → 131072 ≤ length text
-    → (answer .listed .whole ≡ true) × (answer .listed .octets ≤ length text)
-read-fits n {buffer = buffer} takes few room = takes-whole takes (omega (arith, take-within n buffer)) room

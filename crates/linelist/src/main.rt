@@ -45,7 +45,8 @@ fn print(lines: &[u8], whole: bool) -> bool
     written
 }
 
-// Hands the list just what a read delivered: the first octets of the buffer, as many as the read said.
+// Hands the list just what a read delivered: the first octets of the buffer, as many as the read said. The lines of so many are
+// whole in the text.
 fn take_read(
     listing: Listing,
     held: &mut [u8; 49],
@@ -53,7 +54,10 @@ fn take_read(
     got: isize,
     text: &mut [u8],
 ) -> Printed
-    ensures { λ r. ⌜ Takes listing (now (held .entry)) (take (clamped got (length (now (buffer .entry)))) (now (buffer .entry))) (now (text .entry)) r (now (held .exit)) (now (text .exit)) ⌝ }
+    requires { ⌜ (length (now buffer) ≤ 65536) × (131072 ≤ length (now text)) ⌝ }
+    ensures { λ r. ⌜ Takes listing (now (held .entry)) (take (clamped got (length (now (buffer .entry)))) (now (buffer .entry)))
+            (now (text .entry)) r (now (held .exit)) (now (text .exit))
+        × (r .listed .whole ≡ true) × (r .listed .octets ≤ length (now (text .exit))) ⌝ }
 {
     let n = io::count(got, buffer);
     listing::take(listing, held, &buffer[..n], text)
