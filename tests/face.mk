@@ -28,7 +28,7 @@ WARNINGS := -Wall -Wextra
 BENCH_FLAGS := -O3 -std=gnu11 $(WARNINGS) -falign-functions=64 -falign-loops=32
 
 .PHONY: face-build face-test face-compare face-examples face-archive fuzz
-.PHONY: bench-build bench bench-count bench-table bench-keep bench-guard
+.PHONY: bench-build bench bench-count bench-table bench-keep bench-guard bench-list fuzz-list
 
 # Proves again only what changed, so that nothing is measured or compared that isn't in the crates.
 face-archive:
@@ -100,6 +100,17 @@ fuzz: face-archive
 	$(call prints-expected,$(EXAMPLES)/management-c-asan,management)
 	$(MEMCHECK) $(COMPARE) fuzz $(MEMCHECK_CALLS) $(SEED)
 	$(COMPARE) fuzz $(N) $(SEED) $(LINELIST)
+	$(MAKE) -f tests/face.mk fuzz-list
+
+# A list of 300 MB, compared with that of the other implementation. The log isn't kept.
+LONG_OCTETS := 300000000
+
+fuzz-list:
+	python3 tests/long_log.py $(LONG_OCTETS) > target/long.log
+	$(LINELIST) target/long.log > target/long.list
+	$(COMPARE) list < target/long.log | cmp - target/long.list
+	rm target/long.log target/long.list
+	@echo "linelist: a log of $(LONG_OCTETS) octets is listed alike"
 
 BENCH_SOURCES := bench/bench.c bench/frames.c bench/plain.c bench/units.c
 
@@ -112,6 +123,14 @@ bench-build: face-archive
 
 bench: bench-build
 	python3 bench/run.py target/bench/bench '$(ROWS)'
+	$(MAKE) --no-print-directory -f tests/face.mk bench-list
+
+target/bench/plainlist: bench/plainlist.c
+	mkdir -p target/bench
+	gcc $(BENCH_FLAGS) $< -o $@
+
+bench-list: target/bench/plainlist
+	python3 bench/list.py $(LINELIST) target/bench/plainlist
 
 bench-count: bench-build
 	python3 bench/run.py --count target/bench/bench '$(ROWS)'

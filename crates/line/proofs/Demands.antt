@@ -3,7 +3,7 @@
 use mathlib.Core.Bool.{Bool, cond, _||_}
 use mathlib.Core.List.{List, [], _∷_, flatMap}
 use mathlib.Core.Path.{_≡_}
-use Prim.Native.Nat.{ℕ}
+use Prim.Native.Nat.{ℕ, _%_}
 use native.Mathlib.Nat.{le-trans}
 use lib.ListN.{length, take}
 use Rattle.runs.specs.Runs.{over}
@@ -22,11 +22,11 @@ use Rattle.log.specs.declared.Header.{Header}
 use Rattle.log.specs.declared.Record.{Record}
 use Rattle.log.specs.declared.keep.Kept.{Kept}
 use Rattle.log.specs.Numbers.{isCut, isLong, isPadded, numberAt}
-use Rattle.log.specs.Records.{headerRefusal, secondNumber, thirdNumber}
+use Rattle.log.specs.Records.{headerRefusal, headerOf, secondNumber, thirdNumber}
 use Rattle.log.specs.Written.{numberRefusal, headerRefused, recordRefusal}
 use Rattle.listing.specs.declared.Listed.{Listed}
+use Rattle.listing.specs.declared.Listing.{Listing}
 use Rattle.listing.specs.Lines.{logRefusedLine}
-use Rattle.listing.specs.List.{listRefusal}
 use Rattle.listing.specs.Text.{listed}
 use Rattle.cable.specs.declared.Imported.{Imported}
 use Rattle.cable.specs.declared.Exported.{Exported}
@@ -52,7 +52,7 @@ use Rattle.line.specs.Contracts.{
   MeetsWriteNumber,
   MeetsWriteHeader,
   MeetsWriteRecord,
-  MeetsList,
+  MeetsEnd,
   MeetsImport,
   MeetsExport,
   MeetsExportUnits,
@@ -164,10 +164,10 @@ pub demand-1-write-record : (log : List ℕ) (place : ℕ) (indication : Bool) (
     → Refuses (r .refusal) (recordRefusal log place cell) ((r .next ≡ 0) × (after ≡ log))
 demand-1-write-record log place indication cell r after meets = keeps meets
 
--- a list has no number of its own to refuse with: a log that is refused has just the line that says so
-pub demand-1-list : (log run : List ℕ) (r : Listed) (after : List ℕ) → MeetsList log run r after → (listRefusal log ≡ 0 → ⊥)
-    → (r ≡ listed (length run) (logRefusedLine (listRefusal log)))
-    × (after ≡ over (take (length run) (logRefusedLine (listRefusal log))) run)
+-- a list has no number of its own to refuse with: of a log that ends in its header just the line is written that says why
+pub demand-1-list : (l : Listing) (held run : List ℕ) (r : Listed) (after : List ℕ) → MeetsEnd l held run r after → l .standing .stage ≡ 0
+    → (r ≡ listed (length run) (logRefusedLine (headerOf (take (l .standing .count % 9) held) .refusal)))
+    × (after ≡ over (take (length run) (logRefusedLine (headerOf (take (l .standing .count % 9) held) .refusal))) run)
 demand-1-list = lists
 
 pub demand-1-import : (preambles subframes : List ℕ) (r : Imported) → MeetsImport preambles subframes r

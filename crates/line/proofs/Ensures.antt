@@ -59,8 +59,10 @@ use Rattle.log.proofs.reader.cell as cell
 use Rattle.log.proofs.reader.past_record as past-record
 use Rattle.log.proofs.reader.read as read
 use Rattle.log.proofs.One.{RecordEnsures, CellEnsures, PastEnsures, ReadEnsures}
-use Rattle.listing.proofs.list.Kinds as list-kinds
-use Rattle.listing.proofs.list.Reads as list-reads
+use Rattle.listing.proofs.end.Kinds as list-end-kinds
+use Rattle.listing.proofs.end.Reads as list-end-reads
+use Rattle.listing.proofs.take.Kinds as list-take-kinds
+use Rattle.listing.proofs.take.Reads as list-take-reads
 use Rattle.cable.proofs.import_frame.Kinds as import-kinds
 use Rattle.cable.proofs.import_frame.Reads as import-reads
 use Rattle.cable.proofs.export_frame.Kinds as export-kinds
@@ -89,7 +91,8 @@ use Rattle.line.specs.Contracts.{
   MeetsWriteNumber,
   MeetsWriteHeader,
   MeetsWriteRecord,
-  MeetsList,
+  MeetsEnd,
+  MeetsTake,
   MeetsImport,
   MeetsExport,
   MeetsExportUnits,
@@ -189,8 +192,13 @@ pub write-record-ensures : Ensured write-record-kinds.ps write-record-kinds.r wr
     (λ κs a x v. MeetsWriteRecord (now (a .0)) (a .1 .0) (a .1 .1 .0) (now (a .1 .1 .1 .0)) x (v .0))
 write-record-ensures κs a x v p = p
 
-pub list-ensures : Ensured list-kinds.ps list-kinds.r list-reads.Post (λ κs a x v. MeetsList (now (a .0)) (now (a .1 .0)) x (v .1 .0))
-list-ensures κs a x v p = p
+pub list-take-ensures : Ensured list-take-kinds.ps list-take-kinds.r list-take-reads.Post
+    (λ κs a x v. MeetsTake (a .0) (now (a .1 .0)) (now (a .1 .1 .0)) (now (a .1 .1 .1 .0)) x (v .1 .0) (v .1 .1 .1 .0))
+list-take-ensures κs a x v p = p
+
+pub list-end-ensures : Ensured list-end-kinds.ps list-end-kinds.r list-end-reads.Post
+    (λ κs a x v. MeetsEnd (a .0) (a .1 .0) (now (a .1 .1 .0)) x (v .1 .1 .0))
+list-end-ensures κs a x v p = p
 
 pub import-ensures : Ensured import-kinds.ps import-kinds.r import-reads.Post (λ κs a x v. MeetsImport (a .0) (a .1 .0) x)
 import-ensures κs a x v p = p

@@ -3,7 +3,7 @@
 use mathlib.Core.Bool.{Bool, cond, _||_}
 use mathlib.Core.List.{List, [], _∷_}
 use mathlib.Core.Path.{_≡_, refl, sym, _∙_, ap}
-use Prim.Native.Nat.{ℕ, _+_}
+use Prim.Native.Nat.{ℕ, _+_, _%_}
 use borrow.Author.Tests.{eqb-true}
 use lib.Dec.{eqb, leb, ltb}
 use lib.ListN.{length, getD, take}
@@ -29,10 +29,10 @@ use Rattle.log.specs.Records.{headerRefusal, headerOfNumbers, headerOf, secondN
 use Rattle.log.specs.Written.{Keeps}
 use Rattle.log.proofs.Refused.{refused-number, refused-header, refused-record, refused-cell, refused-place, keeps-refusal, refused-keeps}
 use Rattle.listing.specs.declared.Listed.{Listed}
+use Rattle.listing.specs.declared.Listing.{Listing}
 use Rattle.listing.specs.Lines.{logRefusedLine}
-use Rattle.listing.specs.List.{listRefusal}
 use Rattle.listing.specs.Text.{listed}
-use Rattle.listing.proofs.Refused.{refused-list}
+use Rattle.listing.proofs.Refused.{refused-end}
 use Rattle.cable.specs.declared.Imported.{Imported}
 use Rattle.cable.specs.declared.Exported.{Exported}
 use Rattle.cable.specs.Frames.{importRefusal, exportRefusal}
@@ -52,7 +52,7 @@ use Rattle.line.specs.Contracts.{
   MeetsReadRecord,
   MeetsReadCell,
   MeetsNextPlace,
-  MeetsList,
+  MeetsEnd,
   MeetsImport,
   MeetsExport,
   MeetsExportUnits,
@@ -169,11 +169,12 @@ pub keeps : {table place : ℕ} {octets log after : List ℕ} {r : Kept} → Kee
 keeps meets =
     record { by-the-table = keeps-refusal meets; then-nothing = λ some. refused-keeps meets (λ none. some (keeps-refusal meets ∙ none)) }
 
-pub lists : (log run : List ℕ) (r : Listed) (after : List ℕ) → MeetsList log run r after → (listRefusal log ≡ 0 → ⊥)
-    → (r ≡ listed (length run) (logRefusedLine (listRefusal log))) × (after ≡ over (take (length run) (logRefusedLine (listRefusal log))) run)
-lists log run r after meets some =
-    let line = refused-list log some in
-    (meets .answered ∙ ap (listed (length run)) line, meets .left ∙ ap (λ (l : List ℕ). over (take (length run) l) run) line)
+pub lists : (l : Listing) (held run : List ℕ) (r : Listed) (after : List ℕ) → MeetsEnd l held run r after → l .standing .stage ≡ 0
+    → (r ≡ listed (length run) (logRefusedLine (headerOf (take (l .standing .count % 9) held) .refusal)))
+    × (after ≡ over (take (length run) (logRefusedLine (headerOf (take (l .standing .count % 9) held) .refusal))) run)
+lists l held run r after meets z =
+    let line = refused-end l held z in
+    (meets .printed ∙ ap (listed (length run)) line, meets .wrote ∙ ap (λ (text : List ℕ). over (take (length run) text) run) line)
 
 pub imports : (preambles subframes : List ℕ) (r : Imported) → MeetsImport preambles subframes r
     → Refuses (r .refusal) (importRefusal preambles subframes) ((r .samples ≡ 0 ∷ 0 ∷ []) × (r .ancillary ≡ 0 ∷ 0 ∷ []))

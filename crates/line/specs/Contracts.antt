@@ -26,7 +26,9 @@ use Rattle.log.specs.Numbers.{numberAt, groupsOf}
 use Rattle.log.specs.Records.{headerOf, recordAt, cellAt, placeAfter}
 use Rattle.log.specs.Written.{Keeps, numberRefusal, headerOctets, headerRefused, recordOctets, recordRefusal}
 use Rattle.listing.specs.declared.Listed.{Listed}
-use Rattle.listing.specs.List.{Lists}
+use Rattle.listing.specs.declared.Listing.{Listing}
+use Rattle.listing.specs.declared.Printed.{Printed}
+use Rattle.listing.specs.Taking.{Takes, Ends}
 use Rattle.cable.specs.declared.Imported.{Imported}
 use Rattle.cable.specs.declared.Exported.{Exported}
 use Rattle.cable.specs.Frames.{importOf, exportOf}
@@ -113,9 +115,12 @@ MeetsWriteHeader log octet channels order r after =
 abbrev pub MeetsWriteRecord : List ℕ → ℕ → Bool → List ℕ → Kept → List ℕ → Type 0
 MeetsWriteRecord log place indication cell r after = Keeps (recordRefusal log place cell) place (recordOctets indication cell) log r after
 
--- `list`
-abbrev pub MeetsList : List ℕ → List ℕ → Listed → List ℕ → Type 0
-MeetsList log run r after = Lists log run r after
+-- the list of a log in pieces: `take` and `end`
+abbrev pub MeetsTake : Listing → List ℕ → List ℕ → List ℕ → Printed → List ℕ → List ℕ → Type 0
+MeetsTake l held piece run r held-after run-after = Takes l held piece run r held-after run-after
+
+abbrev pub MeetsEnd : Listing → List ℕ → List ℕ → Listed → List ℕ → Type 0
+MeetsEnd l held run r after = Ends l held run r after
 
 -- `import_frame` and `export_frame`
 abbrev pub MeetsImport : List ℕ → List ℕ → Imported → Type 0

@@ -1,74 +1,162 @@
-// `linelist`, document 01, "The log": prints the list of the log on standard input. Everything that matters is in `listing`; here
-// the log is read, and its list is written by one call.
+// `linelist`, document 01, "The log", and request 14: prints the list of a log as it reads it, from the file that its argument
+// names or from standard input. Everything that matters is in `listing`; here the log is read piece by piece, and its lines are
+// written.
 use libc::STDERR_FILENO;
 use libc::STDIN_FILENO;
 use libc::STDOUT_FILENO;
+use listing::Listing;
+use listing::Printed;
 ghost use mathlib.Core.Bool.{true};
 ghost use mathlib.Core.Path.{_≡_};
 ghost use Prim.Native.Nat.{_≤_};
-ghost use lib.ListN.{length};
+ghost use lib.ListN.{length, take};
+ghost use Rattle.io.specs.Counts.{clamped};
+ghost use Rattle.listing.specs.Taking.{Takes};
+ghost use Rattle.linelist.specs.Reads.{readsOn};
 
-// How many octets were read from standard input, and whether a read failed.
-struct Reading {
-    octets: usize,
-    failed: bool,
+fn usage() {
+    io::write_all(STDERR_FILENO, b"usage: linelist [FILE]\n");
 }
 
-// Reads until the run is full or the input ends, however few octets come at a time.
-fn read_log(run: &mut [u8]) -> Reading
-    ensures { λ r. ⌜ r .octets ≤ length (now (run .exit)) ⌝ }
+// Says what failed, and the system's reason.
+fn told(what: &[u8]) {
+    io::write_all(STDERR_FILENO, b"linelist: ");
+    os::fail(what);
+}
+
+// Whether to read on: not once an octet past the limit is read, nor behind a fault.
+fn reads_on(octets: u64, stage: u8) -> bool
+    ensures { λ r. ⌜ r ≡ readsOn octets stage ⌝ }
 {
-    let mut octets = 0;
-    while octets < run.len() {
-        let got = libc::read(STDIN_FILENO, &mut run[octets..]);
-        if got < 0 {
-            return Reading {
-                octets: 0,
-                failed: true,
-            };
-        }
-        let more = io::count(got, &run[octets..]);
-        if more == 0 {
-            return Reading {
-                octets,
-                failed: false,
-            };
-        }
-        octets += more;
+    if 4294967295 < octets {
+        return false;
     }
-    Reading {
-        octets,
-        failed: false,
-    }
+    stage < 2
 }
 
-// Writes a list to standard output. It asks that the list is whole, and main proves that.
-fn print(list: &[u8], whole: bool)
+// Writes lines to standard output, and answers whether it could. It asks that they are whole, and its callers prove that.
+fn print(lines: &[u8], whole: bool) -> bool
     requires { ⌜ whole ≡ true ⌝ }
 {
-    if !io::write_all(STDOUT_FILENO, list) {
-        io::write_all(
-            STDERR_FILENO,
-            b"linelist: standard output could not be written\n",
-        );
+    let written = io::write_all(STDOUT_FILENO, lines);
+    if !written {
+        told(b"standard output");
+    }
+    written
+}
+
+// Hands the list just what a read delivered: the first octets of the buffer, as many as the read said. The lines of so many are
+// whole in the text.
+fn take_read(
+    listing: Listing,
+    held: &mut [u8; 49],
+    buffer: &[u8],
+    got: isize,
+    text: &mut [u8],
+) -> Printed
+    requires { ⌜ (length (now buffer) ≤ 65536) × (131072 ≤ length (now text)) ⌝ }
+    ensures { λ r. ⌜ Takes listing (now (held .entry)) (take (clamped got (length (now (buffer .entry)))) (now (buffer .entry)))
+        (now (text .entry)) r (now (held .exit)) (now (text .exit))
+        × (r .listed .whole ≡ true) × (r .listed .octets ≤ length (now (text .exit))) ⌝ }
+{
+    let n = io::count(got, buffer);
+    listing::take(listing, held, &buffer[..n], text)
+}
+
+// Writes what ends the list.
+fn finish(listing: Listing, held: [u8; 49], text: &mut [u8])
+    requires { ⌜ 131072 ≤ length (now text) ⌝ }
+{
+    let listed = listing::end(listing, held, text);
+    let octets = listed.octets;
+    print(&text[..octets], listed.whole);
+}
+
+// Reads a log piece by piece, and writes its lines as it goes. `name` is what a failed read is told of.
+fn list(fd: i32, name: &[u8], held: &mut [u8; 49], buffer: &mut [u8], text: &mut [u8])
+    requires { ⌜ (length (now buffer) ≤ 65536) × (131072 ≤ length (now text)) ⌝ }
+{
+    let mut listing = listing::start(4294967295);
+    let mut octets: u64 = 0;
+    let mut stage: u8 = 0;
+    while reads_on(octets, stage) {
+        let got = libc::read(fd, buffer);
+        if got < 0 {
+            told(name);
+            return;
+        }
+        let more = io::count(got, buffer);
+        if more == 0 {
+            finish(listing, *held, text);
+            return;
+        }
+        let printed = take_read(listing, held, buffer, got, text);
+        let listed = printed.listed;
+        let length = listed.octets;
+        if !print(&text[..length], listed.whole) {
+            return;
+        }
+        listing = printed.listing;
+        let standing = listing.standing;
+        stage = standing.stage;
+        octets += more as u64;
     }
 }
 
-// Reads a log and writes its list. One octet above 65,536 is enough to see that a log is too long, so no more is read. No list is
-// longer than 131,072 octets.
-fn main() {
-    let mut log = [0u8; 65537];
-    let reading = read_log(&mut log);
-    if reading.failed {
-        io::write_all(
-            STDERR_FILENO,
-            b"linelist: standard input could not be read\n",
-        );
+fn list_from(fd: i32, name: &[u8]) {
+    let mut held = [0u8; 49];
+    let mut buffer = io::large_buffer();
+    let mut text = [0u8; 131072];
+    list(fd, name, &mut held, &mut buffer, &mut text);
+}
+
+fn list_input() {
+    if libc::isatty(STDIN_FILENO) == 1 {
+        usage();
         return;
     }
-    let octets = reading.octets;
-    let mut text = [0u8; 131072];
-    let listed = listing::list(&log[..octets], &mut text);
-    let length = listed.octets;
-    print(&text[..length], listed.whole);
+    list_from(STDIN_FILENO, b"standard input");
+}
+
+fn list_file(name: &[u8]) {
+    let fd = os::open_read(name);
+    if fd < 0 {
+        told(name);
+        return;
+    }
+    list_from(fd, name);
+    libc::close(fd);
+}
+
+// Lists the log that the one argument names. `-`, or no argument, is standard input; any other word that begins with `-` gets
+// the usage.
+fn main() {
+    let words = os::arg_count();
+    if words < 2 {
+        list_input();
+        return;
+    }
+    if 2 < words {
+        usage();
+        return;
+    }
+    let mut name = io::buffer();
+    let length = os::arg(1, &mut name);
+    if os::errno() != 0 {
+        told(b"the name of the file");
+        return;
+    }
+    if length == 0 {
+        list_file(&name[..length]);
+        return;
+    }
+    if name[0] != b'-' {
+        list_file(&name[..length]);
+        return;
+    }
+    if length == 1 {
+        list_input();
+        return;
+    }
+    usage();
 }

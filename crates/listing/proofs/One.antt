@@ -1,9 +1,23 @@
--- No second answer: whatever answer and lent run at exit meet the contract of `list` are equal. Stated over the contract itself.
+-- No second answer: whatever answer, lent array and lent run at exit meet the contract of a public function are equal. Stated over
+-- the contracts themselves.
 -- Assumes nothing.
-use mathlib.Core.Path.{sym, _∙_}
+use mathlib.Core.Path.{refl, sym, _∙_}
 use Rattle.runs.proofs.One.{One}
-use Rattle.listing.proofs.list.Kinds as list-kinds
-use Rattle.listing.proofs.list.Reads as list-reads
+use Rattle.listing.proofs.end.Kinds as end-kinds
+use Rattle.listing.proofs.end.Reads as end-reads
+use Rattle.listing.proofs.start.Kinds as start-kinds
+use Rattle.listing.proofs.start.Reads as start-reads
+use Rattle.listing.proofs.take.Kinds as take-kinds
+use Rattle.listing.proofs.take.Reads as take-reads
 
-pub list-one : One list-kinds.ps list-kinds.r list-reads.Pre list-reads.Post
-list-one κs a x y v w pre p q = (p .answered ∙ sym (q .answered), λ i. (tt, ((p .left ∙ sym (q .left)) i, tt)))
+pub start-one : One start-kinds.ps start-kinds.r start-reads.Pre start-reads.Post
+start-one κs a x y v w pre p q = (p ∙ sym q, refl)
+
+pub take-one : One take-kinds.ps take-kinds.r take-reads.Pre take-reads.Post
+take-one κs a x y v w pre p q = (
+  λ i. record { listed = (p .printed ∙ sym (q .printed)) i; listing = (p .goes-on ∙ sym (q .goes-on)) i },
+  λ i. (tt, ((p .holds ∙ sym (q .holds)) i, (tt, ((p .wrote ∙ sym (q .wrote)) i, tt)))),
+)
+
+pub end-one : One end-kinds.ps end-kinds.r end-reads.Pre end-reads.Post
+end-one κs a x y v w pre p q = (p .printed ∙ sym (q .printed), λ i. (tt, (tt, ((p .wrote ∙ sym (q .wrote)) i, tt))))

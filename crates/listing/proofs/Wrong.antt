@@ -1,4 +1,4 @@
--- Wrong answers to the public function: its contract rules them out. Stated over the contract itself.
+-- Wrong answers to the public functions: the contracts rule each of them out. Stated over the contracts themselves.
 -- Assumes nothing.
 use mathlib.Core.Bool.{true, true≢false}
 use mathlib.Core.List.{List, [], _∷_}
@@ -9,19 +9,27 @@ use contract.Lifetimes.{Lfts}
 use lib.ListN.{getD, replicate}
 use Rattle.runs.specs.Runs.{over}
 use Rattle.runs.proofs.Wrong.{Never, Place, lent}
-use Rattle.log.proofs.Wrong as log
 use Rattle.receiver.proofs.Wrong as receiver
-use Rattle.reading.proofs.Computed as reading
+use Rattle.pieces.proofs.Wrong as pieces
+use Rattle.pieces.specs.Steps.{stepsFrom, stoodOf}
 use Rattle.listing.specs.declared.Listed.{Listed}
+use Rattle.listing.specs.declared.Listing.{Listing}
+use Rattle.listing.specs.declared.Printed.{Printed}
+use Rattle.listing.specs.declared.Tally.{Tally}
+use Rattle.listing.specs.List.{lineOf}
+use Rattle.listing.specs.Taking.{afterOf, endText, partText, partTally, textOf, tallyOf, startOf}
 use Rattle.listing.specs.Text.{digitsOf}
 use Rattle.listing.specs.Words.{words}
-use Rattle.listing.specs.List.{lineOf, linesOf, endLines, listRefusal, listOf}
-use Rattle.listing.proofs.list.Kinds as list-kinds
-use Rattle.listing.proofs.list.Reads as list-reads
+use Rattle.listing.proofs.end.Kinds as end-kinds
+use Rattle.listing.proofs.end.Reads as end-reads
+use Rattle.listing.proofs.start.Kinds as start-kinds
+use Rattle.listing.proofs.start.Reads as start-reads
+use Rattle.listing.proofs.take.Kinds as take-kinds
+use Rattle.listing.proofs.take.Reads as take-reads
 
 -- every definition on the way down to the numbers
 unfolded : Unit {0}
-unfolding over log.unfolded receiver.unfolded reading.unfolded digitsOf lineOf linesOf endLines listRefusal listOf
+unfolding over receiver.unfolded pieces.unfolded pieces.steps-unfolded stepsFrom stoodOf digitsOf lineOf afterOf endText partText partTally textOf tallyOf
 unfolded = tt
 
 -- the paper's zero cell, and its log: 56 02 00, then twice 00 and that cell
@@ -38,46 +46,76 @@ slot low rest = 0 ∷ 0 ∷ 0 ∷ low ∷ rest
 abbrev indicated : List ℕ
 indicated = 0x56 ∷ 2 ∷ 0 ∷ 1 ∷ slot 15 (slot 7 (slot 15 (slot 7 (slot 15 (slot 7 (slot 7 (slot 15 (slots 7 []))))))))
 
-module _ (κs : Lfts 2) (p q : Place) where
-  -- a log listed into a run of so many zeros
-  abbrev Listing : List ℕ → ℕ → (Listed → List ℕ → Type 0) → Type 0
-  Listing log room Wrong =
-      Never list-kinds.ps list-kinds.r list-reads.Post κs (lent p log, (lent q (replicate room 0), tt)) (λ x v. Wrong x (v .1 .0))
+abbrev zeros : ℕ → List ℕ
+zeros n = replicate n 0
+
+module _ (κs : Lfts 3) (p q r : Place) where
+  -- a log of so many octets at most, taken in one piece, its list written into a run of so many zeros
+  abbrev Taken : ℕ → List ℕ → ℕ → (Printed → List ℕ → Type 0) → Type 0
+  Taken limit log room Wrong =
+      Never take-kinds.ps take-kinds.r take-reads.Post κs
+      (startOf limit, (lent p (zeros 49), (lent q log, (lent r (zeros room), tt)))) (λ x v. Wrong x (v .1 .1 .1 .0))
 
   -- the repeat told as sound
-  pub repeat-not-sound : Listing twice 100 (λ x run.
-      run ≡ over (words "format 86 2 0\n0 sound 0 number 0\n1 sound 0 number 0\nend 2 sound 0 missing 0 refused\n") (replicate 100 0))
+  pub repeat-not-sound : Taken 1000 twice 100 (λ x run.
+      run ≡ over (words "format 86 2 0\n0 sound 0 number 0\n1 sound 0 number 0\n") (zeros 100))
   unfolding unfolded
   repeat-not-sound x v wrong s =
-      let word : _≡_ {A = ℕ} 115 114 = ap (λ (l : List ℕ). getD l 35 0) (sym wrong ∙ s .left) in omega arith
+      let word : _≡_ {A = ℕ} 115 114 = ap (λ (l : List ℕ). getD l 35 0) (sym wrong ∙ s .wrote) in omega arith
 
   -- the indication not looked at, and the cell told as sound
-  pub wrongly-indicated-not-sound : Listing indicated 100 (λ x run.
-      run ≡ over (words "format 86 2 0\n0 sound 0 number 5\nend 1 sound 0 missing 0 refused\n") (replicate 100 0))
+  pub wrongly-indicated-not-sound : Taken 1000 indicated 100 (λ x run.
+      run ≡ over (words "format 86 2 0\n0 sound 0 number 5\n") (zeros 100))
   unfolding unfolded
   wrongly-indicated-not-sound x v wrong s =
-      let word : _≡_ {A = ℕ} 115 114 = ap (λ (l : List ℕ). getD l 16 0) (sym wrong ∙ s .left) in omega arith
+      let word : _≡_ {A = ℕ} 115 114 = ap (λ (l : List ℕ). getD l 16 0) (sym wrong ∙ s .wrote) in omega arith
 
   -- refused 15 and not counted as refused
-  pub refused-15-not-passed-over : Listing indicated 100 (λ x run.
-      run ≡ over (words "format 86 2 0\n0 refused 15\nend 0 sound 0 missing 0 refused\n") (replicate 100 0))
+  pub refused-15-not-passed-over : Taken 1000 indicated 100 (λ x run. x .listing .tally .refused ≡ 0)
   unfolding unfolded
   refused-15-not-passed-over x v wrong s =
-      let digit : _≡_ {A = ℕ} 48 49 = ap (λ (l : List ℕ). getD l 49 0) (sym wrong ∙ s .left) in omega arith
+      let right : x .listing .tally .refused ≡ 1 = ap (λ (l : Listing). l .tally .refused) (s .goes-on) in omega arith
 
   -- a record that is broken counted as refused
-  pub broken-not-refused : Listing (0x56 ∷ 2 ∷ 0 ∷ 2 ∷ []) 100 (λ x run.
-      run ≡ over (words "format 86 2 0\n0 broken 11\nend 0 sound 0 missing 1 refused\n") (replicate 100 0))
+  pub broken-not-refused : Taken 1000 (0x56 ∷ 2 ∷ 0 ∷ 2 ∷ []) 100 (λ x run.
+      run ≡ over (words "format 86 2 0\n0 broken 11\nend 0 sound 0 missing 1 refused\n") (zeros 100))
   unfolding unfolded
   broken-not-refused x v wrong s =
-      let digit : _≡_ {A = ℕ} 49 48 = ap (λ (l : List ℕ). getD l 48 0) (sym wrong ∙ s .left) in omega arith
+      let digit : _≡_ {A = ℕ} 49 48 = ap (λ (l : List ℕ). getD l 48 0) (sym wrong ∙ s .wrote) in omega arith
 
-  -- nothing said of a log that can't be read
-  pub empty-log-not-passed-over : Listing [] 100 (λ x run. x .octets ≡ 0)
+  -- an octet past the limit turns the log away
+  pub long-log-not-turned-away : Taken 3 (0x56 ∷ 2 ∷ 0 ∷ 0 ∷ []) 100 (λ x run. run ≡ over (words "log refused 13\n") (zeros 100))
   unfolding unfolded
-  empty-log-not-passed-over x v wrong s = let right : x .octets ≡ 15 = ap (λ (l : Listed). l .octets) (s .answered) in omega arith
+  long-log-not-turned-away x v wrong s =
+      let letter : _≡_ {A = ℕ} 108 102 = ap (λ (l : List ℕ). getD l 0 0) (sym wrong ∙ s .wrote) in omega arith
 
   -- a list that its run cuts told as whole
-  pub cut-list-not-whole : Listing [] 14 (λ x run. x .whole ≡ true)
+  pub cut-list-not-whole : Taken 1000 (0x56 ∷ 2 ∷ 0 ∷ []) 13 (λ x run. x .listed .whole ≡ true)
   unfolding unfolded
-  cut-list-not-whole x v wrong s = true≢false (sym wrong ∙ ap (λ (l : Listed). l .whole) (s .answered))
+  cut-list-not-whole x v wrong s = true≢false (sym wrong ∙ ap (λ (l : Listed). l .whole) (s .printed))
+
+module _ (κs : Lfts 1) (p : Place) where
+  abbrev Ended : Listing → (Listed → List ℕ → Type 0) → Type 0
+  Ended l Wrong = Never end-kinds.ps end-kinds.r end-reads.Post κs (l, (zeros 49, (lent p (zeros 100), tt))) (λ x v. Wrong x (v .1 .1 .0))
+
+  -- nothing said of a log that can't be read
+  pub empty-log-not-passed-over : Ended (startOf 1000) (λ x run. x .octets ≡ 0)
+  unfolding unfolded
+  empty-log-not-passed-over x v wrong s = let right : x .octets ≡ 15 = ap (λ (l : Listed). l .octets) (s .printed) in omega arith
+
+  -- it is told as one that has an end
+  pub empty-log-has-no-end-line : Ended (startOf 1000) (λ x run. run ≡ over (words "end 0 sound 0 missing 0 refused\n") (zeros 100))
+  unfolding unfolded
+  empty-log-has-no-end-line x v wrong s =
+      let letter : _≡_ {A = ℕ} 101 108 = ap (λ (l : List ℕ). getD l 0 0) (sym wrong ∙ s .wrote) in omega arith
+
+module _ (κs : Lfts 0) where
+  abbrev Started : (Listing → Type 0) → Type 0
+  Started Wrong = Never start-kinds.ps start-kinds.r start-reads.Post κs (1000, tt) (λ x v. Wrong x)
+
+  -- the limit not kept, and something counted
+  pub start-keeps-the-limit : Started (λ x. x .standing .left ≡ 65536)
+  start-keeps-the-limit x v wrong s = let right : x .standing .left ≡ 1000 = ap (λ (l : Listing). l .standing .left) s in omega arith
+
+  pub start-counts-nothing : Started (λ x. x .tally .records ≡ 1)
+  start-counts-nothing x v wrong s = let right : x .tally .records ≡ 0 = ap (λ (l : Listing). l .tally .records) s in omega arith

@@ -2,34 +2,11 @@
 -- Assumes nothing.
 use mathlib.Core.List.{List, _++_}
 use mathlib.Core.Path.{_≡_}
-use Prim.Native.Nat.{ℕ, _+_, _≤_}
-use lib.ListN.{length, take, drop}
+use Prim.Native.Nat.{ℕ}
+use lib.ListN.{length, take}
 use Rattle.runs.specs.Runs.{over}
-use Rattle.log.specs.declared.Header.{Header}
-use Rattle.reading.specs.Code.{Counts}
-use Rattle.reading.specs.Heard.{Heard, heardFrom}
-use Rattle.reading.specs.Reading.{freshOf}
-use Rattle.reading.specs.Records.{recordsIn, faultIn}
-use Rattle.listing.specs.declared.records.Standing.{Standing}
 use Rattle.listing.specs.declared.Listed.{Listed}
-use Rattle.listing.specs.List.{linesOf, endLines}
 use Rattle.listing.specs.Text.{listed}
-
--- what is heard of a log behind a header, and the lines of it
-abbrev pub heardBehind : List ℕ → Header → List Heard
-heardBehind log header = heardFrom (freshOf header) (recordsIn (drop (header .place) log))
-
-abbrev pub recordLines : List ℕ → Header → List ℕ
-recordLines log header =
-    linesOf 0 (heardBehind log header) ++ endLines (heardBehind log header) (faultIn (drop (header .place) log))
-
--- the counts of a list where these were heard
-abbrev pub Counted : Standing → List Heard → Type 0
-Counted here done = Counts (here .sound) (here .missing) (here .refused) done
-
--- counts to which no sum adds too much: a log of 65,536 octets has fewer than 2,000 records
-abbrev pub Small : Standing → Type 0
-Small here = (here .index ≤ 2000) × (here .sound + here .refused ≤ 2000) × (here .missing ≤ 28000)
 
 -- a run that was lent holds octets as far as it goes, and behind them what it held before
 pub record Holds (lent octets now : List ℕ) (at : Listed) : Type 0 where

@@ -27,6 +27,6 @@ abbrev pub endLine : ℕ → ℕ → ℕ → List ℕ
 endLine sound missing refused =
     item (words "end ") sound ++ item (words " sound ") missing ++ item (words " missing ") refused ++ words " refused\n"
 
--- "A fault in the header, or 13, prints only `log refused r`"
+-- "A fault in the header .. prints only `log refused r`"
 abbrev pub logRefusedLine : ℕ → List ℕ
 logRefusedLine refusal = item (words "log refused ") refusal ++ words "\n"

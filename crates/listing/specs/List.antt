@@ -1,19 +1,16 @@
--- The list of a log, document 01, "The log": a line for the format, a line for each record, and the end line.
+-- The list of a log, document 01, "The log", and request 14: a line for the format, a line for each record, and the end line.
 -- Assumes nothing.
 use mathlib.Core.Bool.{cond}
 use mathlib.Core.List.{List, [], _∷_, _++_}
-use mathlib.Core.Path.{_≡_}
-use Prim.Native.Nat.{ℕ, _+_}
-use lib.Dec.{eqb, ltb}
-use lib.ListN.{length, take}
-use Rattle.runs.specs.Runs.{over}
+use Prim.Native.Nat.{ℕ, _+_, _-_}
+use lib.Dec.{eqb}
+use lib.ListN.{length}
 use Rattle.log.specs.Records.{headerOf}
 use Rattle.receiver.specs.declared.Received.{Received}
-use Rattle.reading.specs.Heard.{Heard, soundIn, missingIn, refusedIn}
-use Rattle.reading.specs.Reading.{readingOf}
-use Rattle.listing.specs.declared.Listed.{Listed}
+use Rattle.reading.specs.Heard.{Heard, heardFrom, soundIn, missingIn, refusedIn}
+use Rattle.reading.specs.Reading.{freshOf, behindHeader}
+use Rattle.pieces.specs.Limit.{recordsTo, faultTo}
 use Rattle.listing.specs.Lines.{formatLine, soundLine, refusedLine, brokenLine, endLine, logRefusedLine}
-use Rattle.listing.specs.Text.{listed}
 
 -- a record's line: what the receiver took is sound, with the count of missing cells before it
 unfoldable pub lineOf : ℕ → Received → List ℕ
@@ -35,19 +32,19 @@ endLines heard fault =
     (endLine (soundIn heard) (missingIn heard) (refusedIn heard))
     (brokenLine (length heard) fault ++ endLine (soundIn heard) (missingIn heard) (refusedIn heard))
 
--- 13, "`linelist`: a log above 65,536 octets", comes before what the header is refused for
-unfoldable pub listRefusal : List ℕ → ℕ
-listRefusal log = cond (ltb 65536 (length log)) 13 (headerOf log .refusal)
+-- what a fresh receiver makes of the whole records within the limit, which counts the header's three octets too
+abbrev pub heardTo : ℕ → List ℕ → List Heard
+heardTo limit log = heardFrom (freshOf (headerOf log)) (recordsTo (limit - 3) (behindHeader log))
 
--- "A fault in the header, or 13, prints only `log refused r`"
-unfoldable pub listOf : List ℕ → List ℕ
-listOf log =
-    cond (eqb (listRefusal log) 0)
+-- the list of a log that may have so many octets: "A fault in the header .. prints only `log refused r`"; 13 "stands in the list as
+-- `k broken 13` when an octet past it is met in record k"
+unfoldable pub listTo : ℕ → List ℕ → List ℕ
+listTo limit log =
+    cond (eqb (headerOf log .refusal) 0)
     (formatLine (headerOf log .format) (headerOf log .channels) (headerOf log .order)
-    ++ (linesOf 0 (readingOf log .heard) ++ endLines (readingOf log .heard) (readingOf log .fault)))
-    (logRefusedLine (listRefusal log))
+    ++ (linesOf 0 (heardTo limit log) ++ endLines (heardTo limit log) (faultTo (limit - 3) (behindHeader log))))
+    (logRefusedLine (headerOf log .refusal))
 
--- the whole promise of listing: the answer, and what the lent run holds afterwards
-pub record Lists (log run : List ℕ) (answer : Listed) (after : List ℕ) : Type 0 where
-  pub answered : answer ≡ listed (length run) (listOf log)
-  pub left : after ≡ over (take (length run) (listOf log)) run
+-- "a log of up to 4,294,967,295 octets"
+abbrev pub listOf : List ℕ → List ℕ
+listOf log = listTo 4294967295 log

@@ -1,38 +1,101 @@
-// The list of a log, document 01, "The log": what `linelist` prints, as octets written into a lent run.
-ghost use Rattle.listing.specs.List.{Lists};
+// The list of a log, document 01, "The log", and request 14: what `linelist` prints of a log that it takes in pieces, as octets
+// written into a lent run.
+use pieces::Standing;
+use receiver::Receiver;
+ghost use mathlib.Core.Path.{_≡_};
+ghost use Rattle.listing.specs.Taking.{startOf, Takes, Ends};
 
 mod lines; // lines.rt: the lines of a list
-mod records; // records.rt: a line for each record, and the end line
+mod parts; // parts.rt: the lines of a log's parts, and the counts
 mod text; // text.rt: octets and numbers put into a lent run
 
-// How many octets of a list were written from a run's start, and whether they are the whole list.
+// How many octets of a list were written from a run's start, and whether they are all that were to be written.
 pub struct Listed {
     pub octets: usize,
     pub whole: bool,
 }
 
-// Writes the list of a log into a lent run, from its start, as far as it goes: what is past its end is left out. A log
-// above 65,536 octets is refused 13, as `linelist` has it.
-pub fn list(log: &[u8], run: &mut [u8]) -> Listed
-    ensures { λ r. ⌜ Lists (now (log .entry)) (now (run .entry)) r (now (run .exit)) ⌝ }
+// The receiver's state and the counts so far: whole records, and the three of the end line.
+pub struct Tally {
+    pub state: Receiver,
+    pub records: usize,
+    pub sound: usize,
+    pub missing: usize,
+    pub refused: usize,
+}
+
+// A list under way: where its log stands, and the counts.
+pub struct Listing {
+    pub standing: Standing,
+    pub tally: Tally,
+}
+
+// What was written for a piece, and the list to go on with.
+pub struct Printed {
+    pub listed: Listed,
+    pub listing: Listing,
+}
+
+// A list before the first octet of a log that may have `limit` octets.
+pub fn start(limit: u64) -> Listing
+    ensures { λ r. ⌜ r ≡ startOf limit ⌝ }
+{
+    let standing = pieces::start(limit);
+    let opened = receiver::opened(0, 0, 0);
+    let state = opened.state;
+    let tally = Tally {
+        state,
+        records: 0,
+        sound: 0,
+        missing: 0,
+        refused: 0,
+    };
+    Listing { standing, tally }
+}
+
+// Takes a piece of the log and writes the lines that it makes whole into the run, from its start, as far as it goes: what is past
+// its end is left out. The octets of a record that isn't whole yet are held in `held`. Behind a fault nothing is read or written.
+pub fn take(listing: Listing, held: &mut [u8; 49], piece: &[u8], run: &mut [u8]) -> Printed
+    ensures { λ r. ⌜ Takes listing (now (held .entry)) (now (piece .entry)) (now (run .entry)) r (now (held .exit)) (now (run .exit)) ⌝ }
+{
+    pieces::sized(*held);
+    let mut standing = listing.standing;
+    let mut tally = listing.tally;
+    let mut past = Listed {
+        octets: 0,
+        whole: true,
+    };
+    let mut place = 0;
+    while place < piece.len() {
+        let found = pieces::next(standing, held, piece, place);
+        let stepped = parts::step(run, past, tally, found, held, piece, place);
+        standing = found.standing;
+        tally = stepped.tally;
+        past = stepped.past;
+        place = found.next;
+    }
+    Printed {
+        listed: past,
+        listing: Listing { standing, tally },
+    }
+}
+
+// Writes what ends the list of a log that ends here: nothing where a fault ended it before.
+pub fn end(listing: Listing, held: [u8; 49], run: &mut [u8]) -> Listed
+    ensures { λ r. ⌜ Ends listing held (now (run .entry)) r (now (run .exit)) ⌝ }
 {
     let start = Listed {
         octets: 0,
         whole: true,
     };
-    if 65536 < log.len() {
-        return lines::log_refused_line(run, start, 13);
+    let standing = listing.standing;
+    let tally = listing.tally;
+    let refusal = pieces::end(standing, held);
+    if standing.stage == 0 {
+        return lines::log_refused_line(run, start, refusal as usize);
     }
-    let header = log::read_header(log);
-    if header.refusal != 0 {
-        return lines::log_refused_line(run, start, header.refusal as usize);
+    if standing.stage != 1 {
+        return start;
     }
-    let past = lines::format_line(
-        run,
-        start,
-        header.format as usize,
-        header.channels as usize,
-        header.order as usize,
-    );
-    records::records(log, header, run, past)
+    parts::end_lines(run, start, tally, refusal)
 }

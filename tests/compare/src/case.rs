@@ -16,6 +16,7 @@ pub enum Kind {
     ReadHeader,
     ReadRecord,
     Linelist,
+    LinelistLimit,
     Aes3Import,
     Aes3Export,
     Equipment,
@@ -33,7 +34,7 @@ impl Kind {
 }
 
 /// Kind, name, and the fields in and out: n a number, r a run of numbers or a state, o octets.
-const KINDS: [(Kind, &str, &str, &str); 18] = [
+const KINDS: [(Kind, &str, &str, &str); 19] = [
     (Kind::SenderOpen, "sender_open", "nnnnnn", "nr"),
     (Kind::ReceiverOpen, "receiver_open", "nnn", "nr"),
     (Kind::Send, "send", "rnrro", "nro"),
@@ -44,6 +45,7 @@ const KINDS: [(Kind, &str, &str, &str); 18] = [
     (Kind::ReadHeader, "read_header", "o", "nnnnn"),
     (Kind::ReadRecord, "read_record", "on", "nnnnn"),
     (Kind::Linelist, "linelist", "o", "o"),
+    (Kind::LinelistLimit, "linelist_limit", "on", "o"),
     (Kind::Aes3Import, "aes3_import", "or", "nrr"),
     (Kind::Aes3Export, "aes3_export", "rr", "nor"),
     (Kind::Equipment, "equipment", "ooo", "noonnnn"),

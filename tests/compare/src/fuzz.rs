@@ -50,7 +50,7 @@ impl Referee<'_> {
             Kind::Linelist => self.listed(&case),
             _ => by_library(&case),
         };
-        let numbered = !matches!(case.kind, Kind::CheckCharacter | Kind::Linelist);
+        let numbered = !matches!(case.kind, Kind::CheckCharacter | Kind::Linelist | Kind::LinelistLimit);
         let refusal = if numbered { plain[0].number() } else { 0 };
         *self.answered.entry((case.kind.name(), refusal)).or_default() += 1;
         match other {

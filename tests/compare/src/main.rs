@@ -12,6 +12,7 @@ mod story;
 mod vectors;
 
 use std::error::Error;
+use std::io::{Read, Write};
 use std::path::Path;
 use std::process::ExitCode;
 
@@ -22,6 +23,7 @@ compare fuzz COUNT [SEED [LINELIST]]
                                  compare COUNT pseudo-random calls, and listings with those of LINELIST
 compare replay SEED SCENARIO [LINELIST]
                                  play one scenario of a fuzz run again
+compare list                     print the plain implementation's list of the log on standard input
 compare story                    play demand 3: a sender, a line that drops, spoils and repeats, a receiver";
 
 /// The program, if it stands there: while the crates grow it may not be built yet.
@@ -33,6 +35,13 @@ fn built(program: &str) -> Option<&Path> {
     Some(path).filter(|path| path.exists())
 }
 
+fn list() -> Result<bool, Box<dyn Error>> {
+    let mut log = Vec::new();
+    std::io::stdin().read_to_end(&mut log)?;
+    std::io::stdout().write_all(plain::listing(&log).as_bytes())?;
+    Ok(true)
+}
+
 fn run(words: &[&str]) -> Result<bool, Box<dyn Error>> {
     match words {
         ["vectors", folder] => vectors::run(Path::new(folder), None),
@@ -42,6 +51,7 @@ fn run(words: &[&str]) -> Result<bool, Box<dyn Error>> {
         ["fuzz", count, seed, program] => Ok(fuzz::run(count.parse()?, seed.parse()?, built(program))),
         ["replay", seed, scenario] => Ok(fuzz::replay(seed.parse()?, scenario.parse()?, None)),
         ["replay", seed, scenario, program] => Ok(fuzz::replay(seed.parse()?, scenario.parse()?, built(program))),
+        ["list"] => list(),
         ["story"] => Ok(story::run()),
         _ => Err(USAGE.into()),
     }

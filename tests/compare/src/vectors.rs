@@ -6,6 +6,7 @@ use std::fs;
 use std::io::Write;
 use std::path::{Path, PathBuf};
 use std::process::{Command, Stdio};
+use std::thread;
 
 use crate::answers::ANSWERERS;
 use crate::case::{fields, values, Answer, Case, Kind};
@@ -38,14 +39,16 @@ impl Count {
     }
 }
 
-/// What the program writes for a log.
+/// What the program writes for a log. It writes as it reads, so the log is handed over beside.
 pub fn by_program(program: &Path, log: &[u8]) -> Fallible<Answer> {
     let mut child = Command::new(program).stdin(Stdio::piped()).stdout(Stdio::piped()).spawn()?;
     let mut input = child.stdin.take().ok_or("no standard input")?;
-    // A program that turns a long log away may stop reading it, which is no fault.
-    let _ = input.write_all(log);
-    drop(input);
-    Ok(values![&child.wait_with_output()?.stdout[..]])
+    let output = thread::scope(|scope| {
+        // A program that turns a log away may stop reading it, which is no fault.
+        scope.spawn(move || input.write_all(log));
+        child.wait_with_output()
+    })?;
+    Ok(values![&output.stdout[..]])
 }
 
 fn run_file(file: &Path, program: Option<&Path>) -> Fallible<bool> {

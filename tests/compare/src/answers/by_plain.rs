@@ -20,6 +20,7 @@ pub fn by_plain(case: &Case) -> Answer {
         Kind::Equipment => management::equipment_by_plain(case),
         Kind::Controller => management::controller_by_plain(case),
         Kind::Linelist => values![plain::listing(case.octets(0)).as_bytes()],
+        Kind::LinelistLimit => values![plain::listing_to(case.octets(0), case.number(1)).as_bytes()],
         Kind::Aes3Import => aes3_import(case),
         Kind::Aes3Export => aes3_export(case),
         Kind::UnitsExport => units_export(case),

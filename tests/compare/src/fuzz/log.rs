@@ -77,12 +77,12 @@ pub fn walk(random: &mut Random, referee: &mut Referee) -> Played {
     Ok(())
 }
 
-/// Now and then the log is as long as `linelist` takes, or one octet longer.
+/// Now and then the log goes on with records of zeros, past what `linelist` reads at a time.
 pub fn list(random: &mut Random, referee: &mut Referee) -> Played {
     let mut log = log(random);
     if random.one_in(8) {
         let whole = log.clone();
-        log = whole.iter().copied().chain(std::iter::repeat(0)).take(random.pick(&[65_535, 65_536, 65_537])).collect();
+        log = whole.iter().copied().chain(std::iter::repeat(0)).take(random.pick(&[65_535, 65_536, 65_537, 131_072, 200_000])).collect();
     }
     referee.call(Case::new(Kind::Linelist, values![&log[..]])).map(|_| ())
 }

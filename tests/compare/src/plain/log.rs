@@ -5,7 +5,8 @@ use super::cells::{Shape, CELL_OCTETS};
 use super::{refuse_if, Refusal};
 
 const MOST_GROUPS: usize = 3;
-const MOST_LISTED: usize = 65_536;
+/// The most octets of a log that `linelist` lists.
+const MOST_LISTED: u64 = 4_294_967_295;
 /// The most that one cell brings: fourteen missing and its own, at 48 entries each.
 const AMPLE_ROOM: usize = 15 * 48;
 
@@ -53,10 +54,28 @@ pub fn record(log: &[u8], place: u64) -> Result<Record, Refusal> {
 
 /// What `linelist` prints for a log.
 pub fn listing(log: &[u8]) -> String {
-    let judged = refuse_if(log.len() > MOST_LISTED, 13).and_then(|()| header(log));
-    match judged {
+    listing_to(log, MOST_LISTED)
+}
+
+/// The same with another limit.
+pub fn listing_to(log: &[u8], limit: u64) -> String {
+    match header(log) {
         Err(refusal) => format!("log refused {refusal}\n"),
-        Ok(header) => records_listed(log, &header),
+        Ok(header) => records_listed(log, &header, limit),
+    }
+}
+
+/// What the walk along the records meets at a place. An octet past the limit is 13, whatever it is; a record that begins within
+/// the limit and passes it is 11 by its first octet, 12 where the log ends within the limit, and else 13.
+fn record_within(log: &[u8], place: u64, limit: u64) -> Result<Record, Refusal> {
+    let length = log.len() as u64;
+    refuse_if(place < length && place >= limit, 13)?;
+    let met = record(log, place);
+    let past = place < length && place + 1 + CELL_OCTETS as u64 > limit && length > limit;
+    match met {
+        Err(11) => met,
+        _ if past => Err(13),
+        _ => met,
     }
 }
 
@@ -68,14 +87,14 @@ struct Tally {
     refused: u64,
 }
 
-fn records_listed(log: &[u8], header: &Header) -> String {
+fn records_listed(log: &[u8], header: &Header, limit: u64) -> String {
     let Header { format, channels, order, .. } = *header;
     let mut text = format!("format {format} {channels} {order}\n");
     let mut receiver = Receiver { format, channels, order, started: false, last: 0, count: 0 };
     let mut tally = Tally::default();
     let mut place = header.place as u64;
     for index in 0.. {
-        let line = match record(log, place) {
+        let line = match record_within(log, place, limit) {
             Ok(Record::End) => break,
             Ok(Record::Cell { indication, start, next }) => {
                 place = next as u64;

@@ -1,0 +1,25 @@
+-- No second answer: whatever answer and lent array at exit meet the contract of a public function are equal. Stated over the
+-- contracts themselves.
+-- Assumes nothing.
+use mathlib.Core.Path.{refl, sym, _∙_}
+use Rattle.runs.proofs.One.{One}
+use Rattle.pieces.proofs.end.Kinds as end-kinds
+use Rattle.pieces.proofs.end.Reads as end-reads
+use Rattle.pieces.proofs.next.Kinds as next-kinds
+use Rattle.pieces.proofs.next.Reads as next-reads
+use Rattle.pieces.proofs.sized.Kinds as sized-kinds
+use Rattle.pieces.proofs.sized.Reads as sized-reads
+use Rattle.pieces.proofs.start.Kinds as start-kinds
+use Rattle.pieces.proofs.start.Reads as start-reads
+
+pub start-one : One start-kinds.ps start-kinds.r start-reads.Pre start-reads.Post
+start-one κs a x y v w pre p q = (p ∙ sym q, refl)
+
+pub next-one : One next-kinds.ps next-kinds.r next-reads.Pre next-reads.Post
+next-one κs a x y v w pre p q = (p .answered ∙ sym (q .answered), λ i. (tt, ((p .left ∙ sym (q .left)) i, (tt, (tt, tt)))))
+
+pub end-one : One end-kinds.ps end-kinds.r end-reads.Pre end-reads.Post
+end-one κs a x y v w pre p q = (p ∙ sym q, refl)
+
+pub sized-one : One sized-kinds.ps sized-kinds.r sized-reads.Pre sized-reads.Post
+sized-one κs a x y v w pre p q = (p .0 ∙ sym (q .0), refl)

@@ -1,0 +1,143 @@
+-- Wrong answers to the public functions: the contracts rule each of them out. And a wrong walk over pieces: it forgets what is held
+-- where a piece ends inside a record, and the theorem of any division is false of it.
+-- Assumes nothing.
+use mathlib.Core.List.{List, [], _∷_, _++_}
+use mathlib.Core.Path.{_≡_, sym, _∙_, ap}
+use Prim.Native.Nat.{ℕ}
+use native.Mathlib.Omega.{arith}
+use contract.Lifetimes.{Lfts}
+use lib.ListN.{length, replicate}
+use Rattle.runs.proofs.Wrong.{Never, Place, lent}
+use Rattle.log.proofs.Wrong as log
+use Rattle.reading.proofs.Computed as reading
+use Rattle.pieces.specs.declared.Found.{Found}
+use Rattle.pieces.specs.declared.Standing.{Standing}
+use Rattle.pieces.specs.Limit.{Part, recordsTo, faultTo, endPart, partsOf}
+use Rattle.pieces.specs.Steps.{
+  heldCount,
+  takingOf,
+  headerFound,
+  recordFound,
+  liesWhole,
+  beginsAbove,
+  nextOf,
+  heldNow,
+}
+use Rattle.pieces.specs.Taken.{Taking, freshTaking, inHeader, inRecord, one, after, handed, endFault, endParts, joinedOf}
+use Rattle.pieces.proofs.end.Kinds as end-kinds
+use Rattle.pieces.proofs.end.Reads as end-reads
+use Rattle.pieces.proofs.next.Kinds as next-kinds
+use Rattle.pieces.proofs.next.Reads as next-reads
+use Rattle.pieces.proofs.sized.Kinds as sized-kinds
+use Rattle.pieces.proofs.sized.Reads as sized-reads
+use Rattle.pieces.proofs.start.Kinds as start-kinds
+use Rattle.pieces.proofs.start.Reads as start-reads
+
+-- every definition on the way down to the numbers
+unfoldable pub steps-unfolded : Unit {0}
+unfolding log.unfolded heldCount takingOf headerFound recordFound liesWhole beginsAbove nextOf heldNow endFault
+steps-unfolded = tt
+
+unfoldable pub unfolded : Unit {0}
+unfolding log.unfolded reading.unfolded recordsTo faultTo endPart partsOf inHeader inRecord one after handed endFault endParts joinedOf
+unfolded = tt
+
+-- among the records, with so many octets held and left
+abbrev among : ℕ → ℕ → Standing
+among count left = record { stage = 1; fault = 0; count = count; left = left; records = 7 }
+
+abbrev zeros : List ℕ
+zeros = replicate 49 0
+
+module _ (κs : Lfts 2) (p q : Place) where
+  abbrev Next : Standing → List ℕ → (Found → List ℕ → Type 0) → Type 0
+  Next s piece Wrong =
+      Never next-kinds.ps next-kinds.r next-reads.Post κs (s, (lent p zeros, (lent q piece, (0, tt)))) (λ x v. Wrong x (v .1 .0))
+
+  -- the octet held is forgotten where the piece ends inside a record
+  pub held-octet-not-forgotten : Next (among 0 100) (1 ∷ []) (λ x held. x .standing .count ≡ 0)
+  unfolding steps-unfolded
+  held-octet-not-forgotten x v wrong s =
+      let right : x .standing .count ≡ 1 = ap (λ (f : Found). f .standing .count) (s .answered) in omega arith
+
+  -- it is counted, and not kept
+  pub held-octet-not-lost : Next (among 0 100) (1 ∷ []) (λ x held. held ≡ zeros)
+  unfolding steps-unfolded
+  held-octet-not-lost x v wrong s =
+      let octet : _≡_ {A = ℕ} 0 1 = ap (λ (l : List ℕ). first l) (sym wrong ∙ s .left) in omega arith
+    where
+      first : List ℕ → ℕ
+      first [] = 0
+      first (x ∷ l) = x
+
+  -- an octet above 1 taken for an indication
+  pub no-record-begins-with-2 : Next (among 0 100) (2 ∷ []) (λ x held. x .what ≡ 0)
+  unfolding steps-unfolded
+  no-record-begins-with-2 x v wrong s = let right : x .what ≡ 4 = ap (λ (f : Found). f .what) (s .answered) in omega arith
+
+  -- an octet past the limit taken
+  pub octet-past-the-limit-not-taken : Next (among 5 0) (0 ∷ []) (λ x held. x .standing .fault ≡ 0)
+  unfolding steps-unfolded
+  octet-past-the-limit-not-taken x v wrong s =
+      let right : x .standing .fault ≡ 13 = ap (λ (f : Found). f .standing .fault) (s .answered) in omega arith
+
+  -- a record that is whole not counted
+  pub whole-record-counted : Next (among 48 100) (0 ∷ []) (λ x held. x .standing .records ≡ 7)
+  unfolding steps-unfolded
+  whole-record-counted x v wrong s =
+      let right : x .standing .records ≡ 8 = ap (λ (f : Found). f .standing .records) (s .answered) in omega arith
+
+module _ (κs : Lfts 0) where
+  abbrev End : Standing → (ℕ → Type 0) → Type 0
+  End s Wrong = Never end-kinds.ps end-kinds.r end-reads.Post κs (s, (zeros, tt)) (λ x v. Wrong x)
+
+  -- a record that is cut passed over
+  pub cut-record-not-passed-over : End (among 48 100) (λ x. x ≡ 0)
+  unfolding steps-unfolded
+  cut-record-not-passed-over x v wrong s = omega (arith, s)
+
+  -- 12 for a log that ends behind a record
+  pub end-behind-a-record-no-fault : End (among 0 100) (λ x. x ≡ 12)
+  unfolding steps-unfolded
+  end-behind-a-record-no-fault x v wrong s = omega (arith, s)
+
+  abbrev Start : ℕ → (Standing → Type 0) → Type 0
+  Start limit Wrong = Never start-kinds.ps start-kinds.r start-reads.Post κs (limit, tt) (λ x v. Wrong x)
+
+  -- the limit not kept
+  pub start-keeps-the-limit : Start 1000 (λ x. x .left ≡ 0)
+  start-keeps-the-limit x v wrong s = let right : x .left ≡ 1000 = ap (λ (t : Standing). t .left) s in omega arith
+
+  -- records before the header is read
+  pub start-is-in-the-header : Start 1000 (λ x. x .stage ≡ 1)
+  start-is-in-the-header x v wrong s = let right : x .stage ≡ 0 = ap (λ (t : Standing). t .stage) s in omega arith
+
+  abbrev Sized : (List ℕ → Type 0) → Type 0
+  Sized Wrong = Never sized-kinds.ps sized-kinds.r sized-reads.Post κs (zeros, tt) (λ x v. Wrong x)
+
+  -- shorter, or with another octet
+  pub sized-not-shorter : Sized (λ x. length x ≡ 48)
+  sized-not-shorter x v wrong s = omega (arith, s .1)
+
+  pub sized-not-altered : Sized (λ x. x ≡ replicate 49 1)
+  sized-not-altered x v wrong s = let octet : _≡_ {A = ℕ} 1 0 = ap first (sym wrong ∙ s .0) in omega arith
+    where
+      first : List ℕ → ℕ
+      first [] = 0
+      first (x ∷ l) = x
+
+-- a walk that forgets
+unfoldable pub forgotten : Taking → Taking
+forgotten t = record { stage = t .stage; fault = t .fault; left = t .left; records = t .records; part = [] }
+
+unfoldable pub forgetting : Taking → List (List ℕ) → List Part
+forgetting t [] = endParts t
+forgetting t (piece ∷ pieces) = handed t piece ++ forgetting (forgotten (after t piece)) pieces
+
+-- a header and a record of zeros, divided inside the record
+abbrev divided : List (List ℕ)
+divided = (0x06 ∷ 2 ∷ 0 ∷ 0 ∷ replicate 9 0) ∷ replicate 39 0 ∷ []
+
+pub forgetting-refuted : forgetting (freshTaking 1000) divided ≡ partsOf 1000 (joinedOf divided) → ⊥
+unfolding unfolded forgetting forgotten
+forgetting-refuted same = let parts : _≡_ {A = ℕ} 2 3 = ap length same in omega arith

@@ -1,0 +1,3 @@
+pub mod Limit
+pub mod Steps
+pub mod Taken
