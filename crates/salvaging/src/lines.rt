@@ -1,0 +1,36 @@
+// The lines that are said of a salvage, each put behind the octets that a lent run holds already.
+use text::Listed;
+use text::put_all;
+use text::put_item;
+ghost use Rattle.text.specs.Code.{Puts};
+ghost use Rattle.salvaging.specs.Lines.{refusedLine, endLine, logRefusedLine};
+
+pub(crate) fn refused_line(run: &mut [u8], at: Listed, index: usize, refusal: usize) -> Listed
+    ensures { λ r. ⌜ Puts (now (run .entry)) at (now (run .exit)) r (refusedLine index refusal) ⌝ }
+{
+    let past_index = put_item(run, at, b"", index);
+    let past_refusal = put_item(run, past_index, b" refused ", refusal);
+    put_all(run, past_refusal, b"\n")
+}
+
+pub(crate) fn end_line(
+    run: &mut [u8],
+    at: Listed,
+    kept: usize,
+    left_out: usize,
+    cut: usize,
+) -> Listed
+    ensures { λ r. ⌜ Puts (now (run .entry)) at (now (run .exit)) r (endLine kept left_out cut) ⌝ }
+{
+    let past_kept = put_item(run, at, b"end ", kept);
+    let past_left_out = put_item(run, past_kept, b" kept ", left_out);
+    let past_cut = put_item(run, past_left_out, b" left out ", cut);
+    put_all(run, past_cut, b" cut\n")
+}
+
+pub(crate) fn log_refused_line(run: &mut [u8], at: Listed, refusal: usize) -> Listed
+    ensures { λ r. ⌜ Puts (now (run .entry)) at (now (run .exit)) r (logRefusedLine refusal) ⌝ }
+{
+    let past = put_item(run, at, b"log refused ", refusal);
+    put_all(run, past, b"\n")
+}
