@@ -17,14 +17,14 @@ pub(crate) fn end_line(
     run: &mut [u8],
     at: Listed,
     kept: usize,
-    left_out: usize,
+    left: usize,
     cut: usize,
 ) -> Listed
-    ensures { λ r. ⌜ Puts (now (run .entry)) at (now (run .exit)) r (endLine kept left_out cut) ⌝ }
+    ensures { λ r. ⌜ Puts (now (run .entry)) at (now (run .exit)) r (endLine kept left cut) ⌝ }
 {
     let past_kept = put_item(run, at, b"end ", kept);
-    let past_left_out = put_item(run, past_kept, b" kept ", left_out);
-    let past_cut = put_item(run, past_left_out, b" left out ", cut);
+    let past_left = put_item(run, past_kept, b" kept ", left);
+    let past_cut = put_item(run, past_left, b" left out ", cut);
     put_all(run, past_cut, b" cut\n")
 }
 
