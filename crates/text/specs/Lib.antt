@@ -1,3 +1,0 @@
-pub mod Code
-pub mod Text
-pub mod Words
