@@ -4,39 +4,27 @@ use mathlib.Core.Bool.{true}
 use mathlib.Core.List.{List, [], _++_}
 use mathlib.Core.Path.{_≡_, refl, sym, _∙_, ap}
 use Prim.Native.Nat.{ℕ, _+_, _%_, _^_, _≤_, _<_}
-use native.Mathlib.Omega.{arith}
-use borrow.Author.Tests.{le-leb}
-use lib.ListN.{length, take}
-use lib.Seq.{take-nil}
-use Rattle.runs.specs.Runs.{over}
+use lib.ListN.{length}
 use Rattle.pieces.specs.declared.Found.{Found}
 use Rattle.pieces.specs.declared.Standing.{Standing}
 use Rattle.pieces.specs.Limit.{Part}
 use Rattle.pieces.specs.Steps.{Steps, foundParts}
 use Rattle.pieces.proofs.Walks.{Along, along-start, along-turn, along-end, turn-on}
-use Rattle.text.specs.declared.Listed.{Listed}
-use Rattle.text.specs.Code.{Holds, Puts}
-use Rattle.text.proofs.Laws.{puts-then, puts-same, puts-none}
+use Rattle.text.specs.declared.Put.{Put}
+use Rattle.text.specs.Put.{Puts}
+use Rattle.text.proofs.Laws.{puts-then, puts-same, puts-none, said-from-start, wrote-from-start}
 use Rattle.salvaging.specs.declared.Salvaging.{Salvaging}
 use Rattle.salvaging.specs.declared.Tally.{Tally}
 use Rattle.salvaging.specs.Taking.{octetsBy, textBy, tallyBy, Tells, pieceOctets, pieceText, endOfText, lastText, endTally, Takes, Ends}
 use Rattle.salvaging.proofs.Texts.{octets-joined, text-joined, tally-joined}
 
 -- nothing is written yet
-abbrev pub none : Listed
+abbrev pub none : Put
 none = record { octets = 0; whole = true }
-
-start-holds : (run : List ℕ) → Holds run [] run none
-unfolding over
-start-holds run =
-    record {
-      run = rw (take-nil {A = ℕ} (length run));
-      said = rw (take-nil {A = ℕ} (length run), le-leb 0 (length run) (omega arith));
-    }
 
 -- along a piece: the parts so far, what was written of them into each run, and the counts behind them
 pub record Going (from : Standing) (t₀ : Tally) (lent piece out₀ notes₀ : List ℕ) (s : Standing) (t : Tally) (held out notes : List ℕ)
-    (saved noted : Listed) (place : ℕ)
+    (saved noted : Put) (place : ℕ)
     : Type 0
   where
     pub parts : List Part
@@ -61,7 +49,7 @@ module _ {from : Standing} {t₀ : Tally} {lent piece out₀ notes₀ : List ℕ
         same-notes = refl;
       }
 
-  pub going-turn : {s : Standing} {t t₁ : Tally} {held now out out₁ notes notes₁ : List ℕ} {saved saved₁ noted noted₁ : Listed} {place : ℕ} {f : Found}
+  pub going-turn : {s : Standing} {t t₁ : Tally} {held now out out₁ notes notes₁ : List ℕ} {saved saved₁ noted noted₁ : Put} {place : ℕ} {f : Found}
       → Going from t₀ lent piece out₀ notes₀ s t held out notes saved noted place → place < length piece → Steps s held piece place f now
       → Tells t (foundParts f now piece place) out saved out₁ saved₁ notes noted notes₁ noted₁ t₁
       → length out₁ ≡ length out → length notes₁ ≡ length notes
@@ -82,12 +70,12 @@ module _ {from : Standing} {t₀ : Tally} {lent piece out₀ notes₀ : List ℕ
         same-notes = same-notes ∙ g .same-notes;
       }
 
-  pub going-on : {s : Standing} {t : Tally} {held now out notes : List ℕ} {saved noted : Listed} {place : ℕ} {f : Found}
+  pub going-on : {s : Standing} {t : Tally} {held now out notes : List ℕ} {saved noted : Put} {place : ℕ} {f : Found}
       → Going from t₀ lent piece out₀ notes₀ s t held out notes saved noted place → place < length piece → Steps s held piece place f now
       → (place < f .next) × (f .next ≤ length piece)
   going-on g here step = turn-on (g .along) here step
 
-pub going-end : (v : Salvaging) {lent piece out₀ notes₀ held out notes : List ℕ} {s : Standing} {t : Tally} {saved noted : Listed} {place octets : ℕ}
+pub going-end : (v : Salvaging) {lent piece out₀ notes₀ held out notes : List ℕ} {s : Standing} {t : Tally} {saved noted : Put} {place octets : ℕ}
     → Going (v .standing) (v .tally) lent piece out₀ notes₀ s t held out notes saved noted place → length piece ≤ place
     → octets ≡ (v .octets + length piece) % 2 ^ 64
     → Takes v lent piece out₀ notes₀
@@ -96,13 +84,13 @@ going-end v {lent} {piece} {out₀} {notes₀} g end sum =
     let ends = along-end (g .along) end in
     let all-out : octetsBy (v .tally) (g .parts) ≡ pieceOctets v lent piece = ap (octetsBy (v .tally)) (ends .1) in
     let all-notes : textBy (v .tally) (g .parts) ≡ pieceText v lent piece = ap (textBy (v .tally)) (ends .1) in
-    let holds-out = puts-same all-out (g .saves) out₀ [] (start-holds out₀) in
-    let holds-notes = puts-same all-notes (g .notes-it) notes₀ [] (start-holds notes₀) in
+    let all-saved = puts-same all-out (g .saves) in
+    let all-noted = puts-same all-notes (g .notes-it) in
     record {
-      saved = holds-out .said;
-      noted = holds-notes .said;
-      wrote-out = holds-out .run;
-      wrote-notes = holds-notes .run;
+      saved = said-from-start all-saved;
+      noted = said-from-start all-noted;
+      wrote-out = wrote-from-start all-saved;
+      wrote-notes = wrote-from-start all-noted;
       goes-on = λ i. record {
         standing = ends .0 i .standing;
         octets = sum i;
@@ -112,8 +100,8 @@ going-end v {lent} {piece} {out₀} {notes₀} g end sum =
     }
 
 -- at the log's end
-pub ends-with : (v : Salvaging) {held notes notes₁ : List ℕ} {noted : Listed} {t : Tally} → t ≡ endTally v held
+pub ends-with : (v : Salvaging) {held notes notes₁ : List ℕ} {noted : Put} {t : Tally} → t ≡ endTally v held
     → Puts notes none notes₁ noted (lastText (v .octets) t) → Ends v held notes noted notes₁
-ends-with v {notes = notes} is puts =
-    let holds = puts-same (ap (lastText (v .octets)) is) puts notes [] (start-holds notes) in
-    record { noted = holds .said; wrote-notes = holds .run }
+ends-with v is puts =
+    let all = puts-same (ap (lastText (v .octets)) is) puts in
+    record { noted = said-from-start all; wrote-notes = wrote-from-start all }

@@ -21,8 +21,8 @@ use Rattle.pieces.specs.declared.Standing.{Standing}
 use Rattle.pieces.specs.Limit.{Part, head, whole, refused, broken, done, endPart}
 use Rattle.pieces.specs.Steps.{takingOf, Steps, foundParts}
 use Rattle.pieces.specs.Taken.{Taking, endFault, endParts}
-use Rattle.text.specs.declared.Listed.{Listed}
-use Rattle.text.specs.Code.{Puts}
+use Rattle.text.specs.declared.Put.{Put}
+use Rattle.text.specs.Put.{Puts}
 use Rattle.text.proofs.Laws.{puts-same, puts-none}
 use Rattle.salvaging.specs.declared.Salvaging.{Salvaging}
 use Rattle.salvaging.specs.declared.Tally.{Tally}
@@ -100,7 +100,7 @@ module _ (t : Tally) (octets : List ℕ) where
       unfolding partTally
       tally-is = counted ∙ ap (afterOf t) is
 
-      pub tells-sound : {out out₁ notes : List ℕ} {saved saved₁ noted : Listed} → got .refusal ≡ 0
+      pub tells-sound : {out out₁ notes : List ℕ} {saved saved₁ noted : Put} → got .refusal ≡ 0
           → Puts out saved out₁ saved₁ (recordOctets (r .indication) cell)
           → TellsOne t (whole w) out saved out₁ saved₁ notes noted notes noted tally
       unfolding partOctets partText frontOf
@@ -116,7 +116,7 @@ module _ (t : Tally) (octets : List ℕ) where
             counts = tally-is;
           }
 
-      pub tells-refused : {out notes notes₁ : List ℕ} {saved noted noted₁ : Listed} {index : ℕ} → (got .refusal ≡ 0 → ⊥)
+      pub tells-refused : {out notes notes₁ : List ℕ} {saved noted noted₁ : Put} {index : ℕ} → (got .refusal ≡ 0 → ⊥)
           → index ≡ (t .kept + t .«left_out») % 2 ^ 64 → Puts notes noted notes₁ noted₁ (refusedLine index (got .refusal))
           → TellsOne t (whole w) out saved out saved notes noted notes₁ noted₁ tally
       unfolding partOctets partText
@@ -137,7 +137,7 @@ module _ (t : Tally) (f : Found) (held piece : List ℕ) (place : ℕ) where
   found = foundParts f held piece place
 
   -- one part was found
-  tells : {out out₁ notes notes₁ : List ℕ} {saved saved₁ noted noted₁ : Listed} {tally : Tally} {p : Part} → found ≡ p ∷ []
+  tells : {out out₁ notes notes₁ : List ℕ} {saved saved₁ noted noted₁ : Put} {tally : Tally} {p : Part} → found ≡ p ∷ []
       → TellsOne t p out saved out₁ saved₁ notes noted notes₁ noted₁ tally → Tells t found out saved out₁ saved₁ notes noted notes₁ noted₁ tally
   unfolding octetsBy textBy tallyBy
   tells {p = p} is one =
@@ -147,7 +147,7 @@ module _ (t : Tally) (f : Found) (held piece : List ℕ) (place : ℕ) where
         counts = one .counts ∙ ap (tallyBy t) (sym is);
       }
 
-  pub tells-in-piece : {out out₁ notes notes₁ : List ℕ} {saved saved₁ noted noted₁ : Listed} {tally : Tally} → f .what ≡ 2
+  pub tells-in-piece : {out out₁ notes notes₁ : List ℕ} {saved saved₁ noted noted₁ : Put} {tally : Tally} → f .what ≡ 2
       → TellsOne t (whole (frontOf (take (place + 49 - place) (drop place piece)))) out saved out₁ saved₁ notes noted notes₁ noted₁ tally
       → Tells t found out saved out₁ saved₁ notes noted notes₁ noted₁ tally
   unfolding foundParts
@@ -158,7 +158,7 @@ module _ (t : Tally) (f : Found) (held piece : List ℕ) (place : ℕ) where
       (rw (other, eq-eqb (f .what) 2 two) (ap (λ (k : ℕ). whole (frontOf (take k (drop place piece))) ∷ []) (sym n)))
       one
 
-  pub tells-held : {out out₁ notes notes₁ : List ℕ} {saved saved₁ noted noted₁ : Listed} {tally : Tally} → f .what ≡ 3
+  pub tells-held : {out out₁ notes notes₁ : List ℕ} {saved saved₁ noted noted₁ : Put} {tally : Tally} → f .what ≡ 3
       → TellsOne t (whole (frontOf held)) out saved out₁ saved₁ notes noted notes₁ noted₁ tally
       → Tells t found out saved out₁ saved₁ notes noted notes₁ noted₁ tally
   unfolding foundParts
@@ -167,7 +167,7 @@ module _ (t : Tally) (f : Found) (held piece : List ℕ) (place : ℕ) where
       let not-2 : eqb (f .what) 2 ≡ false = ne-eqb (f .what) 2 (λ two. omega arith) in
       tells (rw (not-1, not-2, eq-eqb (f .what) 3 three)) one
 
-  pub tells-header : {out out₁ notes : List ℕ} {saved saved₁ noted : Listed} {tally : Tally} {h : Header} → f .what ≡ 1
+  pub tells-header : {out out₁ notes : List ℕ} {saved saved₁ noted : Put} {tally : Tally} {h : Header} → f .what ≡ 1
       → h ≡ headerOf (take 3 held) → Puts out saved out₁ saved₁ (headOctets h) → tally ≡ freshTally h
       → Tells t found out saved out₁ saved₁ notes noted notes noted tally
   unfolding foundParts partOctets partText partTally
@@ -180,7 +180,7 @@ module _ (t : Tally) (f : Found) (held piece : List ℕ) (place : ℕ) where
       })
 
   module _ (not-1 : f .what ≡ 1 → ⊥) (not-2 : f .what ≡ 2 → ⊥) (not-3 : f .what ≡ 3 → ⊥) where
-    pub tells-nothing : {out notes : List ℕ} {saved noted : Listed} → (f .what ≡ 4 → ⊥)
+    pub tells-nothing : {out notes : List ℕ} {saved noted : Put} → (f .what ≡ 4 → ⊥)
         → Tells t found out saved out saved notes noted notes noted t
     unfolding foundParts octetsBy textBy tallyBy
     tells-nothing {out} {notes} {saved} {noted} not-4 =
@@ -200,14 +200,14 @@ module _ (t : Tally) (f : Found) (held piece : List ℕ) (place : ℕ) where
           rw (ne-eqb (f .what) 1 not-1, ne-eqb (f .what) 2 not-2, ne-eqb (f .what) 3 not-3, eq-eqb (f .what) 4 four)
           (ap (λ (p : Part). p ∷ []) is)
 
-      pub tells-header-refused : {out notes : List ℕ} {saved noted : Listed} {tally : Tally} → f .standing .stage ≡ 2
+      pub tells-header-refused : {out notes : List ℕ} {saved noted : Put} {tally : Tally} → f .standing .stage ≡ 2
           → tally ≡ refusedBy t (f .standing .fault) → Tells t found out saved out saved notes noted notes noted tally
       unfolding partOctets partText partTally
       tells-header-refused {out} {notes} {saved} {noted} two counts =
           tells {p = refused (f .standing .fault)} (found-fault {p = refused (f .standing .fault)} (rw (eq-eqb (f .standing .stage) 2 two)))
           (record { saves = puts-none out saved; notes-it = puts-none notes noted; counts = counts })
 
-      pub tells-broken : {out notes : List ℕ} {saved noted : Listed} → (f .standing .stage ≡ 2 → ⊥)
+      pub tells-broken : {out notes : List ℕ} {saved noted : Put} → (f .standing .stage ≡ 2 → ⊥)
           → Tells t found out saved out saved notes noted notes noted t
       unfolding partOctets partText partTally
       tells-broken {out} {notes} {saved} {noted} other =

@@ -18,9 +18,9 @@ use Rattle.pieces.specs.Limit.{Part, head, whole, refused, broken, done}
 use Rattle.pieces.specs.Steps as pieces
 use Rattle.pieces.specs.Steps.{takingOf, stoodOf}
 use Rattle.pieces.specs.Taken.{handed, endParts}
-use Rattle.text.specs.declared.Listed.{Listed}
-use Rattle.text.specs.Code.{Puts}
-use Rattle.text.specs.Text.{listed}
+use Rattle.text.specs.declared.Put.{Put}
+use Rattle.text.specs.Put.{Puts}
+use Rattle.text.specs.Put.{listed}
 use Rattle.salvaging.specs.declared.Salvaging.{Salvaging}
 use Rattle.salvaging.specs.declared.Tally.{Tally}
 use Rattle.salvaging.specs.declared.Wrote.{Wrote}
@@ -98,8 +98,8 @@ tallyBy t [] = t
 tallyBy t (p ∷ ps) = tallyBy (partTally t p) ps
 
 -- one part: what is put into each run, and the counts
-pub record TellsOne (t : Tally) (p : Part) (out : List ℕ) (saved : Listed) (out₁ : List ℕ) (saved₁ : Listed) (notes : List ℕ) (noted : Listed)
-    (notes₁ : List ℕ) (noted₁ : Listed) (t₁ : Tally)
+pub record TellsOne (t : Tally) (p : Part) (out : List ℕ) (saved : Put) (out₁ : List ℕ) (saved₁ : Put) (notes : List ℕ) (noted : Put)
+    (notes₁ : List ℕ) (noted₁ : Put) (t₁ : Tally)
     : Type 0
   where
     pub saves : Puts out saved out₁ saved₁ (partOctets t p)
@@ -107,8 +107,8 @@ pub record TellsOne (t : Tally) (p : Part) (out : List ℕ) (saved : Listed) (ou
     pub counts : t₁ ≡ partTally t p
 
 -- and of parts in a row
-pub record Tells (t : Tally) (ps : List Part) (out : List ℕ) (saved : Listed) (out₁ : List ℕ) (saved₁ : Listed) (notes : List ℕ)
-    (noted : Listed) (notes₁ : List ℕ) (noted₁ : Listed) (t₁ : Tally)
+pub record Tells (t : Tally) (ps : List Part) (out : List ℕ) (saved : Put) (out₁ : List ℕ) (saved₁ : Put) (notes : List ℕ)
+    (noted : Put) (notes₁ : List ℕ) (noted₁ : Put) (t₁ : Tally)
     : Type 0
   where
     pub saves : Puts out saved out₁ saved₁ (octetsBy t ps)
@@ -162,7 +162,7 @@ pub record Takes (s : Salvaging) (held piece out notes : List ℕ) (answer : Wro
   pub holds : held-after ≡ stoodOf (s .standing) held piece .held
 
 -- the whole promise of the end
-pub record Ends (s : Salvaging) (held notes : List ℕ) (answer : Listed) (notes-after : List ℕ) : Type 0 where
+pub record Ends (s : Salvaging) (held notes : List ℕ) (answer : Put) (notes-after : List ℕ) : Type 0 where
   pub noted : answer ≡ listed (length notes) (endOfText s held)
   pub wrote-notes : notes-after ≡ over (take (length notes) (endOfText s held)) notes
 

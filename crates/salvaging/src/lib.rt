@@ -1,7 +1,7 @@
 // Salvage of a log that is taken in pieces, request 9: the new log, and what is said of it, as octets written into two lent runs.
 use pieces::Standing;
 use receiver::Receiver;
-use text::Listed;
+use text::Put;
 ghost use mathlib.Core.Path.{_≡_};
 ghost use Rattle.salvaging.specs.Taking.{startOf, endTally, Takes, Ends};
 
@@ -27,8 +27,8 @@ pub struct Salvaging {
 
 // What was written for a piece, of the new log and of the notes, and the salvage to go on with.
 pub struct Wrote {
-    pub saved: Listed,
-    pub noted: Listed,
+    pub saved: Put,
+    pub noted: Put,
     pub salvaging: Salvaging,
 }
 
@@ -69,11 +69,11 @@ pub fn take(
     pieces::sized(*held);
     let mut standing = salvaging.standing;
     let mut tally = salvaging.tally;
-    let mut saved = Listed {
+    let mut saved = Put {
         octets: 0,
         whole: true,
     };
-    let mut noted = Listed {
+    let mut noted = Put {
         octets: 0,
         whole: true,
     };
@@ -113,10 +113,10 @@ fn ended(salvaging: Salvaging, held: [u8; 49]) -> Tally
 }
 
 // Writes the last line of a log that ends here: the counts, or the header's refusal.
-pub fn end(salvaging: Salvaging, held: [u8; 49], notes: &mut [u8]) -> Listed
+pub fn end(salvaging: Salvaging, held: [u8; 49], notes: &mut [u8]) -> Put
     ensures { λ r. ⌜ Ends salvaging held (now (notes .entry)) r (now (notes .exit)) ⌝ }
 {
-    let start = Listed {
+    let start = Put {
         octets: 0,
         whole: true,
     };

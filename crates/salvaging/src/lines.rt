@@ -1,11 +1,11 @@
 // The lines that are said of a salvage, each put behind the octets that a lent run holds already.
-use text::Listed;
+use text::Put;
 use text::put_all;
 use text::put_item;
-ghost use Rattle.text.specs.Code.{Puts};
+ghost use Rattle.text.specs.Put.{Puts};
 ghost use Rattle.salvaging.specs.Lines.{refusedLine, endLine, logRefusedLine};
 
-pub(crate) fn refused_line(run: &mut [u8], at: Listed, index: usize, refusal: usize) -> Listed
+pub(crate) fn refused_line(run: &mut [u8], at: Put, index: usize, refusal: usize) -> Put
     ensures { λ r. ⌜ Puts (now (run .entry)) at (now (run .exit)) r (refusedLine index refusal) ⌝ }
 {
     let past_index = put_item(run, at, b"", index);
@@ -15,11 +15,11 @@ pub(crate) fn refused_line(run: &mut [u8], at: Listed, index: usize, refusal: us
 
 pub(crate) fn end_line(
     run: &mut [u8],
-    at: Listed,
+    at: Put,
     kept: usize,
     left: usize,
     cut: usize,
-) -> Listed
+) -> Put
     ensures { λ r. ⌜ Puts (now (run .entry)) at (now (run .exit)) r (endLine kept left cut) ⌝ }
 {
     let past_kept = put_item(run, at, b"end ", kept);
@@ -28,7 +28,7 @@ pub(crate) fn end_line(
     put_all(run, past_cut, b" cut\n")
 }
 
-pub(crate) fn log_refused_line(run: &mut [u8], at: Listed, refusal: usize) -> Listed
+pub(crate) fn log_refused_line(run: &mut [u8], at: Put, refusal: usize) -> Put
     ensures { λ r. ⌜ Puts (now (run .entry)) at (now (run .exit)) r (logRefusedLine refusal) ⌝ }
 {
     let past = put_item(run, at, b"log refused ", refusal);

@@ -4,7 +4,7 @@ use crate::lines;
 use log::Header;
 use pieces::Found;
 use receiver::Received;
-use text::Listed;
+use text::Put;
 use text::put_all;
 ghost use mathlib.Core.Path.{_≡_};
 ghost use Prim.Native.Nat.{_+_, _-_, _≤_};
@@ -14,13 +14,13 @@ ghost use Rattle.log.specs.Written.{octetOf, recordOctets};
 ghost use Rattle.reading.specs.Records.{frontOf};
 ghost use Rattle.pieces.specs.Limit.{whole};
 ghost use Rattle.pieces.specs.Steps.{foundParts};
-ghost use Rattle.text.specs.Code.{Puts};
+ghost use Rattle.text.specs.Put.{Puts};
 ghost use Rattle.salvaging.specs.Taking.{freshTally, afterOf, refusedBy, headOctets, lastText, Tells, TellsOne};
 
 // What was written so far, and the counts to go on with.
 pub(crate) struct Stepped {
-    pub saved: Listed,
-    pub noted: Listed,
+    pub saved: Put,
+    pub noted: Put,
     pub tally: Tally,
 }
 
@@ -85,7 +85,7 @@ fn after(tally: Tally, got: Received) -> Tally
 }
 
 // A header that was taken: each of its numbers is one octet.
-fn put_header(out: &mut [u8], at: Listed, header: Header) -> Listed
+fn put_header(out: &mut [u8], at: Put, header: Header) -> Put
     ensures { λ r. ⌜ Puts (now (out .entry)) at (now (out .exit)) r (headOctets header) ⌝ }
 {
     let octets = [
@@ -102,7 +102,7 @@ fn octet_of(indication: bool) -> u8
     if indication { 1 } else { 0 }
 }
 
-fn put_record(out: &mut [u8], at: Listed, indication: bool, cell: &[u8]) -> Listed
+fn put_record(out: &mut [u8], at: Put, indication: bool, cell: &[u8]) -> Put
     ensures { λ r. ⌜ Puts (now (out .entry)) at (now (out .exit)) r (recordOctets indication (now (cell .entry))) ⌝ }
 {
     let octets = [octet_of(indication)];
@@ -114,8 +114,8 @@ fn put_record(out: &mut [u8], at: Listed, indication: bool, cell: &[u8]) -> List
 fn record_step(
     out: &mut [u8],
     notes: &mut [u8],
-    saved: Listed,
-    noted: Listed,
+    saved: Put,
+    noted: Put,
     tally: Tally,
     octets: &[u8],
 ) -> Stepped
@@ -146,8 +146,8 @@ fn record_step(
 fn held_step(
     out: &mut [u8],
     notes: &mut [u8],
-    saved: Listed,
-    noted: Listed,
+    saved: Put,
+    noted: Put,
     tally: Tally,
     held: [u8; 49],
 ) -> Stepped
@@ -161,8 +161,8 @@ fn held_step(
 pub(crate) fn step(
     out: &mut [u8],
     notes: &mut [u8],
-    saved: Listed,
-    noted: Listed,
+    saved: Put,
+    noted: Put,
     tally: Tally,
     found: Found,
     held: &[u8; 49],
@@ -213,7 +213,7 @@ fn cut_of(octets: usize, taken: usize) -> usize
 }
 
 // What is said last: the header's refusal, or the counts.
-pub(crate) fn last_line(notes: &mut [u8], at: Listed, octets: usize, tally: Tally) -> Listed
+pub(crate) fn last_line(notes: &mut [u8], at: Put, octets: usize, tally: Tally) -> Put
     ensures { λ r. ⌜ Puts (now (notes .entry)) at (now (notes .exit)) r (lastText octets tally) ⌝ }
 {
     if tally.refusal != 0 {
