@@ -19,6 +19,13 @@ fn usage() {
     io::write_all(STDERR_FILENO, b"usage: salvage [FILE]\n");
 }
 
+fn uncounted() {
+    io::write_all(
+        STDERR_FILENO,
+        b"salvage: more octets than can be counted\n",
+    );
+}
+
 // Says what failed, and the system's reason.
 fn told(what: &[u8]) {
     io::write_all(STDERR_FILENO, b"salvage: ");
@@ -110,10 +117,7 @@ fn save(
         salvaging = wrote.salvaging;
         octets += more as u64;
     }
-    io::write_all(
-        STDERR_FILENO,
-        b"salvage: more octets than can be counted\n",
-    );
+    uncounted();
 }
 
 fn save_from(fd: i32, name: &[u8]) {
