@@ -2,7 +2,6 @@
 // output, and to standard error a line for each record left out and the counts. Everything that matters is in `salvaging`; here
 // the log is read piece by piece, to its end, and what is made of it is written.
 use libc::STDERR_FILENO;
-use libc::STDIN_FILENO;
 use libc::STDOUT_FILENO;
 use salvaging::Salvaging;
 use salvaging::Wrote;
@@ -15,10 +14,6 @@ ghost use Rattle.io.specs.Counts.{clamped};
 ghost use Rattle.salvaging.specs.Taking.{Takes};
 ghost use Rattle.salvage.specs.Whole.{Whole};
 
-fn usage() {
-    io::write_all(STDERR_FILENO, b"usage: salvage [FILE]\n");
-}
-
 fn uncounted() {
     io::write_all(
         STDERR_FILENO,
@@ -28,8 +23,7 @@ fn uncounted() {
 
 // Says what failed, and the system's reason.
 fn told(what: &[u8]) {
-    io::write_all(STDERR_FILENO, b"salvage: ");
-    os::fail(what);
+    source::told(b"salvage", what);
 }
 
 // Writes octets, and answers whether it could. It asks that they are whole, and its callers prove that.
@@ -128,53 +122,14 @@ fn save_from(fd: i32, name: &[u8]) {
     save(fd, name, &mut held, &mut buffer, &mut out, &mut notes);
 }
 
-fn save_input() {
-    if libc::isatty(STDIN_FILENO) == 1 {
-        usage();
-        return;
-    }
-    save_from(STDIN_FILENO, b"standard input");
-}
-
-fn save_file(name: &[u8]) {
-    let fd = os::open_read(name);
-    if fd < 0 {
-        told(name);
-        return;
-    }
-    save_from(fd, name);
-    libc::close(fd);
-}
-
-// Salvages the log that the one argument names. `-`, or no argument, is standard input; any other word that begins with `-` gets
-// the usage.
+// Salvages the log that the one argument names, or the one on standard input.
 fn main() {
-    let words = os::arg_count();
-    if words < 2 {
-        save_input();
-        return;
-    }
-    if 2 < words {
-        usage();
-        return;
-    }
     let mut name = io::buffer();
-    let length = os::arg(1, &mut name);
-    if os::errno() != 0 {
-        told(b"the name of the file");
+    let source = source::chosen(b"salvage", b"[FILE]", &mut name);
+    if source.fd < 0 {
         return;
     }
-    if length == 0 {
-        save_file(&name[..length]);
-        return;
-    }
-    if name[0] != b'-' {
-        save_file(&name[..length]);
-        return;
-    }
-    if length == 1 {
-        save_input();
-        return;
-    }
-    usage();
+    let length = source.length;
+    save_from(source.fd, &name[..length]);
+    source::done(source);
 }
