@@ -15,10 +15,7 @@ ghost use Rattle.salvaging.specs.Taking.{Takes};
 ghost use Rattle.salvage.specs.Whole.{Whole};
 
 fn uncounted() {
-    io::write_all(
-        STDERR_FILENO,
-        b"salvage: more octets than can be counted\n",
-    );
+    io::write_all(STDERR_FILENO, b"salvage: more octets than can be counted\n");
 }
 
 // Says what failed, and the system's reason.
@@ -42,11 +39,21 @@ fn print_both(out: &[u8], saved: Put, notes: &[u8], noted: Put) -> bool
     requires { ⌜ Whole saved (length (now out)) × Whole noted (length (now notes)) ⌝ }
 {
     let octets = saved.octets;
-    if !print(STDOUT_FILENO, b"standard output", &out[..octets], saved.whole) {
+    if !print(
+        STDOUT_FILENO,
+        b"standard output",
+        &out[..octets],
+        saved.whole,
+    ) {
         return false;
     }
     let lines = noted.octets;
-    print(STDERR_FILENO, b"standard error", &notes[..lines], noted.whole)
+    print(
+        STDERR_FILENO,
+        b"standard error",
+        &notes[..lines],
+        noted.whole,
+    )
 }
 
 // Hands the salvage just what a read delivered: the first octets of the buffer, as many as the read said. What so many make is whole
@@ -74,7 +81,12 @@ fn finish(salvaging: Salvaging, held: [u8; 49], notes: &mut [u8])
 {
     let noted = salvaging::end(salvaging, held, notes);
     let octets = noted.octets;
-    print(STDERR_FILENO, b"standard error", &notes[..octets], noted.whole);
+    print(
+        STDERR_FILENO,
+        b"standard error",
+        &notes[..octets],
+        noted.whole,
+    );
 }
 
 // Reads a log piece by piece to its end, and writes what comes of it as it goes. `name` is what a failed read is told of. The octets

@@ -13,13 +13,7 @@ pub(crate) fn refused_line(run: &mut [u8], at: Put, index: usize, refusal: usize
     put_all(run, past_refusal, b"\n")
 }
 
-pub(crate) fn end_line(
-    run: &mut [u8],
-    at: Put,
-    kept: usize,
-    left: usize,
-    cut: usize,
-) -> Put
+pub(crate) fn end_line(run: &mut [u8], at: Put, kept: usize, left: usize, cut: usize) -> Put
     ensures { λ r. ⌜ Puts (now (run .entry)) at (now (run .exit)) r (endLine kept left cut) ⌝ }
 {
     let past_kept = put_item(run, at, b"end ", kept);

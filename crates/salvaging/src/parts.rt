@@ -191,7 +191,11 @@ pub(crate) fn step(
         };
     }
     if found.what != 4 {
-        return Stepped { saved, noted, tally };
+        return Stepped {
+            saved,
+            noted,
+            tally,
+        };
     }
     let standing = found.standing;
     if standing.stage == 2 {
@@ -202,7 +206,11 @@ pub(crate) fn step(
             tally: told,
         };
     }
-    Stepped { saved, noted, tally }
+    Stepped {
+        saved,
+        noted,
+        tally,
+    }
 }
 
 // The octets of a log that are neither its header's nor a whole record's.

@@ -20,8 +20,7 @@ returns c =
     let takes = at-take .take .ensures in
     let fits = takes-whole takes
     (omega (arith, take-within (at-count .count .result) (start .args .buffer .now), start .pre .0)) (start .pre .1) (start .pre .2) in
-    let said = at-count .count .ensures .1 ∙ ap (λ (z : ℤ). clamped z (length (start .args .buffer .now))) (toZ-ofZ (start .fits .got)) in
-    (
+    let said = at-count .count .ensures .1 ∙ ap (λ (z : ℤ). clamped z (length (start .args .buffer .now))) (toZ-ofZ (start .fits .got)) in (
       handed-on (start .args .buffer .now) said takes,
       record { all = fits .0 .0; within = omega (arith, fits .0 .1, at-take .take .kept .1 .1 .1 .0) },
       record { all = fits .1 .0; within = omega (arith, fits .1 .1, at-take .take .kept .1 .1 .1 .1 .0) },
