@@ -25,7 +25,8 @@ use Rattle.text.proofs.Short.{take-to, one-item, with-words, two-short, three-s
 use Rattle.salvaging.specs.declared.Salvaging.{Salvaging}
 use Rattle.salvaging.specs.declared.Tally.{Tally}
 use Rattle.salvaging.specs.declared.Wrote.{Wrote}
-use Rattle.salvaging.specs.Lines.{refusedLine, endLine, logRefusedLine}
+use Rattle.listing.specs.Lines.{refusedLine, logRefusedLine}
+use Rattle.salvaging.specs.Lines.{endLine}
 use Rattle.salvaging.specs.Taking.{
   judgedWhole,
   partOctets,

@@ -26,7 +26,8 @@ use Rattle.text.specs.Put.{Puts}
 use Rattle.text.proofs.Laws.{puts-same, puts-none}
 use Rattle.salvaging.specs.declared.Salvaging.{Salvaging}
 use Rattle.salvaging.specs.declared.Tally.{Tally}
-use Rattle.salvaging.specs.Lines.{refusedLine, endLine, logRefusedLine}
+use Rattle.listing.specs.Lines.{refusedLine, logRefusedLine}
+use Rattle.salvaging.specs.Lines.{endLine}
 use Rattle.salvaging.specs.Taking.{
   freshTally,
   refusedBy,

@@ -34,7 +34,8 @@ use Rattle.pieces.proofs.Walks.{division-parts}
 use Rattle.saving.specs.Salvage.{newLog, listFrom, listOf, leftOut, cutFrom}
 use Rattle.salvaging.specs.declared.Salvaging.{Salvaging}
 use Rattle.salvaging.specs.declared.Tally.{Tally}
-use Rattle.salvaging.specs.Lines.{refusedLine, endLine, logRefusedLine}
+use Rattle.listing.specs.Lines.{refusedLine, logRefusedLine}
+use Rattle.salvaging.specs.Lines.{endLine}
 use Rattle.salvaging.specs.Said.{savedOf, linesOf, notesOf}
 use Rattle.salvaging.specs.Taking.{
   freshTally,

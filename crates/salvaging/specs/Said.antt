@@ -8,7 +8,8 @@ use Rattle.log.specs.Records.{headerOf}
 use Rattle.reading.specs.Heard.{soundIn}
 use Rattle.reading.specs.Reading.{readingOf}
 use Rattle.saving.specs.Salvage.{newLog, listOf, leftOut, cutFrom}
-use Rattle.salvaging.specs.Lines.{refusedLine, endLine, logRefusedLine}
+use Rattle.listing.specs.Lines.{refusedLine, logRefusedLine}
+use Rattle.salvaging.specs.Lines.{endLine}
 
 -- the new log, and nothing where the header is refused
 unfoldable pub savedOf : List ℕ → List ℕ

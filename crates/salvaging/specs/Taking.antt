@@ -24,7 +24,8 @@ use Rattle.text.specs.Put.{listed}
 use Rattle.salvaging.specs.declared.Salvaging.{Salvaging}
 use Rattle.salvaging.specs.declared.Tally.{Tally}
 use Rattle.salvaging.specs.declared.Wrote.{Wrote}
-use Rattle.salvaging.specs.Lines.{refusedLine, endLine, logRefusedLine}
+use Rattle.listing.specs.Lines.{refusedLine, logRefusedLine}
+use Rattle.salvaging.specs.Lines.{endLine}
 
 -- a receiver opened by a header of three octets, and no record yet
 abbrev pub freshTally : Header → Tally

@@ -3,7 +3,8 @@ use text::Put;
 use text::put_all;
 use text::put_item;
 ghost use Rattle.text.specs.Put.{Puts};
-ghost use Rattle.salvaging.specs.Lines.{refusedLine, endLine, logRefusedLine};
+ghost use Rattle.listing.specs.Lines.{refusedLine, logRefusedLine};
+ghost use Rattle.salvaging.specs.Lines.{endLine};
 
 pub(crate) fn refused_line(run: &mut [u8], at: Put, index: usize, refusal: usize) -> Put
     ensures { λ r. ⌜ Puts (now (run .entry)) at (now (run .exit)) r (refusedLine index refusal) ⌝ }
