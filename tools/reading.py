@@ -27,7 +27,7 @@ ROOT = pathlib.Path(__file__).resolve().parent.parent / "crates"
 START = ROOT / "line/proofs/Demands.antt"
 CODE = {"Code", "Packing", "Unpacking", "Marks", "Settings", "Sound", "Steps", "Taken", "Taking"}
 CONTRACTS = ("line", "Contracts")
-MOST = 1230
+MOST = 1231
 
 NAME = r"[^\s(){}\[\],;.:λ∷→«»\"]+"
 DECLARES = re.compile(rf"^(?:unfoldable |abbrev )?(?:pub )?(?:record |data )?({NAME})\s*(?:[:({{]|$)")
