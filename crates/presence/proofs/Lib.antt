@@ -1,0 +1,6 @@
+pub mod Laws
+pub mod One
+pub mod Said
+pub mod Theorems
+pub mod Walks
+pub mod Wrong
