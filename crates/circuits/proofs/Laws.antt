@@ -22,7 +22,20 @@ use Rattle.formats.specs.Settings.{settingsOf}
 use Rattle.formats.proofs.Laws.{refusal-of, settled-of, settles-all, sound-fields, sound-format, no-slots}
 use Rattle.circuits.specs.declared.Verdict.{Verdict}
 use Rattle.circuits.specs.declared.Verdict.the-variants.{Refused, Yes, Share, Allowance, Sum}
-use Rattle.circuits.specs.Circuits.{octetRefusal, slotsOf, fitsSlots, cellsPerSecond, pick, judgedFrom, checkRefusal, checkedOf, plannedOf, planRefusal, planRefusalOf, Plans}
+use Rattle.circuits.specs.Circuits.{
+  octetRefusal,
+  slotsOf,
+  fitsSlots,
+  cellsPerSecond,
+  pick,
+  judgedFrom,
+  checkRefusal,
+  checkedOf,
+  plannedOf,
+  planRefusal,
+  planRefusalOf,
+  Plans,
+}
 
 -- ---- a share
 

@@ -23,7 +23,8 @@ unfolding F.lengthOf F.sampleBits F.ancillaryBits F.overheadBits F.listedOctets 
 formats = tt
 
 numbers : Unit {0}
-unfolding N.tableA1 N.turned N.protectionOf N.sevenOf N.dividedEntry N.wordBit N.gathered N.placeIn N.foundOf N.differenceOf vOf nineOf protectedBits tenGuard guardOf
+unfolding N.tableA1 N.turned N.protectionOf N.sevenOf N.dividedEntry N.wordBit N.gathered N.placeIn N.foundOf N.differenceOf
+    vOf nineOf protectedBits tenGuard guardOf
 numbers = tt
 
 found : Unit {0}
@@ -47,7 +48,8 @@ unfolding S.cellNow S.sentOf S.cellAfter
 sent = tt
 
 receiver : Unit {0}
-unfolding R.openedOf R.lastRefused R.countRefused R.stateRefusal R.lengthsRefused R.foundNow R.gapOf R.countAfter R.receiveRefusal R.entriesNow R.secondNow R.after R.receivedOf R.entriesGiven
+unfolding R.openedOf R.lastRefused R.countRefused R.stateRefusal R.lengthsRefused R.foundNow R.gapOf R.countAfter
+    R.receiveRefusal R.entriesNow R.secondNow R.after R.receivedOf R.entriesGiven
 receiver = tt
 
 line : Unit {0}

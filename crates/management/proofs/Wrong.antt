@@ -44,7 +44,10 @@ use Rattle.management.proofs.controller.rime_controller.Reads as contro
 
 -- every definition on the way down to the numbers
 unfoldable pub unfolded : Unit {0}
-unfolding readOn over broughtTo statusEnquiry audioConnectionRequest audioDisconnectionRequest inputPortStatusOctets inputPortStatus outputPortStatusOctets outputPortStatus misfits fewest serves firstFrom configured recognised unsupported statusFor inputStatus outputStatus statusMessage replied connectedTo connected disconnectedFrom disconnected equipmentOf configuration noted statusTaken controllerOf
+unfolding readOn over broughtTo statusEnquiry audioConnectionRequest audioDisconnectionRequest inputPortStatusOctets
+    inputPortStatus outputPortStatusOctets outputPortStatus misfits fewest serves firstFrom configured recognised
+    unsupported statusFor inputStatus outputStatus statusMessage replied connectedTo connected disconnectedFrom
+    disconnected equipmentOf configuration noted statusTaken controllerOf
 unfolded = tt
 
 -- an input port with selector 5, enabled, in 56 hex, its first endpoint reference in one octet

@@ -10,7 +10,20 @@ use native.Mathlib.Omega.{arith}
 use borrow.Author.Tests.{eq-eqb}
 use lib.Dec.{eqb}
 use lib.ListN as L
-use lib.ListN.{length, getD, take, drop, replicate, length-drop, length-append, length-replicate, getD-replicate, replicate-append-replicate, List·getD-append, take-append-drop}
+use lib.ListN.{
+  length,
+  getD,
+  take,
+  drop,
+  replicate,
+  length-drop,
+  length-append,
+  length-replicate,
+  getD-replicate,
+  replicate-append-replicate,
+  List·getD-append,
+  take-append-drop,
+}
 use lib.Seq.{take-at, drop-at, drop-append-add, drop-drop, take-append-le, take-add, length-take-le, getD-drop, getD-take, getD-append-add, drop-paste}
 use Rattle.runs.specs.Runs.{over, written}
 use Rattle.runs.proofs.Filling.{Filled, begun, turned, done}

@@ -69,7 +69,8 @@ unfolding entriesOf slotOf slotOfEntry entryOfSlot carried over orElse refusalOf
 placed-unfolded = tt
 
 unfoldable pub unfolded : Unit {0}
-unfolding formats.unfolded numbers.unfolded guards.unfolded cells-unfolded placed-unfolded foundNow gapOf countAfter receiveRefusal entriesNow secondNow receivedOf judgedOf entriesGiven
+unfolding formats.unfolded numbers.unfolded guards.unfolded cells-unfolded placed-unfolded foundNow gapOf countAfter
+    receiveRefusal entriesNow secondNow receivedOf judgedOf entriesGiven
 unfolded = tt
 
 -- openings: format, C, order

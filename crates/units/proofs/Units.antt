@@ -17,7 +17,19 @@ use Rattle.formats.specs.Sound.{Sound}
 use Rattle.cells.specs.Cells.{subframeOf, subframeAt, sampleIn, ancillaryIn}
 use Rattle.cells.proofs.Subframes.{subframe-lt, sample-back, ancillary-back}
 use Rattle.units.specs.Units.{subframeOctets, frameOctets, frameSize, framesIn, unitsOf, unitOctets, exportOctets, exportSize, readOff}
-use Rattle.units.proofs.Joined.{joined-same, regrouped, regrouped-all, singly, joined-take, joined-drop, in-full, in-last, units-whole, units-rest, units-joined}
+use Rattle.units.proofs.Joined.{
+  joined-same,
+  regrouped,
+  regrouped-all,
+  singly,
+  joined-take,
+  joined-drop,
+  in-full,
+  in-last,
+  units-whole,
+  units-rest,
+  units-joined,
+}
 
 -- a unit that there is: it has a frame at least, and it is full unless it is the last
 module _ (frames fit : ℕ) (some : 1 ≤ fit) where

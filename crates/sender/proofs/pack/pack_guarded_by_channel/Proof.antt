@@ -58,4 +58,11 @@ guarded-by-channel-requires-8 c κs =
     (from s .pre .0, from s .pre .1, named-itself (from s .pre .0) (from s .pre .2), from s .pre .3, s .sevens .ensures)
 
 pub pack-guarded-by-channel-spec : {M : Type 1} → statement M
-pack-guarded-by-channel-spec = tie.close (tie.spec (search needs) guarded-by-channel-requires guarded-by-channel-requires-2 guarded-by-channel-requires-3 guarded-by-channel-requires-4 guarded-by-channel-requires-5 guarded-by-channel-requires-6 guarded-by-channel-requires-7 guarded-by-channel-requires-8 (search needs) (λ c. c .before .before .guarded-by-channel .ensures) (search needs) (λ c. c .before .before .guarded-by-channel2 .ensures) (search needs) (λ c. c .before .before .guarded-by-channel3 .ensures) (search needs) (λ c. c .before .before .guarded-by-channel4 .ensures) (search needs) (λ c. c .before .before .guarded-by-channel5 .ensures) (search needs) (λ c. c .before .before .guarded-by-channel6 .ensures) (search needs) (λ c. c .before .before .guarded-by-channel7 .ensures) (search needs) (λ c. c .before .before .guarded-by-channel8 .ensures))
+pack-guarded-by-channel-spec = tie.close (tie.spec (search needs) guarded-by-channel-requires guarded-by-channel-requires-2
+    guarded-by-channel-requires-3 guarded-by-channel-requires-4 guarded-by-channel-requires-5
+    guarded-by-channel-requires-6 guarded-by-channel-requires-7 guarded-by-channel-requires-8 (search needs) (λ c. c
+    .before .before .guarded-by-channel .ensures) (search needs) (λ c. c .before .before .guarded-by-channel2 .ensures)
+    (search needs) (λ c. c .before .before .guarded-by-channel3 .ensures) (search needs) (λ c. c .before .before
+    .guarded-by-channel4 .ensures) (search needs) (λ c. c .before .before .guarded-by-channel5 .ensures) (search needs) (λ
+    c. c .before .before .guarded-by-channel6 .ensures) (search needs) (λ c. c .before .before .guarded-by-channel7
+    .ensures) (search needs) (λ c. c .before .before .guarded-by-channel8 .ensures))

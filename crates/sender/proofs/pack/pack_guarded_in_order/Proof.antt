@@ -58,4 +58,11 @@ guarded-in-order-requires-8 c κs =
     (from s .pre .0, from s .pre .1, named-itself (from s .pre .0) (from s .pre .2), from s .pre .3, s .sevens .ensures)
 
 pub pack-guarded-in-order-spec : {M : Type 1} → statement M
-pack-guarded-in-order-spec = tie.close (tie.spec (search needs) guarded-in-order-requires guarded-in-order-requires-2 guarded-in-order-requires-3 guarded-in-order-requires-4 guarded-in-order-requires-5 guarded-in-order-requires-6 guarded-in-order-requires-7 guarded-in-order-requires-8 (search needs) (λ c. c .before .before .guarded-in-order .ensures) (search needs) (λ c. c .before .before .guarded-in-order2 .ensures) (search needs) (λ c. c .before .before .guarded-in-order3 .ensures) (search needs) (λ c. c .before .before .guarded-in-order4 .ensures) (search needs) (λ c. c .before .before .guarded-in-order5 .ensures) (search needs) (λ c. c .before .before .guarded-in-order6 .ensures) (search needs) (λ c. c .before .before .guarded-in-order7 .ensures) (search needs) (λ c. c .before .before .guarded-in-order8 .ensures))
+pack-guarded-in-order-spec = tie.close (tie.spec (search needs) guarded-in-order-requires guarded-in-order-requires-2
+    guarded-in-order-requires-3 guarded-in-order-requires-4 guarded-in-order-requires-5 guarded-in-order-requires-6
+    guarded-in-order-requires-7 guarded-in-order-requires-8 (search needs) (λ c. c .before .before .guarded-in-order
+    .ensures) (search needs) (λ c. c .before .before .guarded-in-order2 .ensures) (search needs) (λ c. c .before .before
+    .guarded-in-order3 .ensures) (search needs) (λ c. c .before .before .guarded-in-order4 .ensures) (search needs) (λ c.
+    c .before .before .guarded-in-order5 .ensures) (search needs) (λ c. c .before .before .guarded-in-order6 .ensures)
+    (search needs) (λ c. c .before .before .guarded-in-order7 .ensures) (search needs) (λ c. c .before .before
+    .guarded-in-order8 .ensures))
