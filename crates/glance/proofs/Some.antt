@@ -70,3 +70,15 @@ unfolding some
 some-same f g zero same = refl
 some-same f g (suc n) same =
     ap₂ (λ (a b : Bool). a || b) (some-same f g n (λ i h. same i (omega (arith, h)))) (same n (omega arith))
+
+-- a test that fails below m and from there on is another one
+pub some-behind : (f g : ℕ → Bool) (m n : ℕ) → ((i : ℕ) → i < m → f i ≡ false) → ((i : ℕ) → i < n → f (m + i) ≡ g i)
+    → some f (m + n) ≡ some g n
+unfolding some
+some-behind f g m zero before behind =
+    let all : m + zero ≡ m = omega arith in
+    rw all (split (some f m) (λ e. let at = some-where f m e in absurd (true≢false (sym (at .passes) ∙ before (at .place) (at .within)))) (λ e. e))
+some-behind f g m (suc n) before behind =
+    let next : m + suc n ≡ suc (m + n) = omega arith in
+    rw next
+    (ap₂ (λ (a b : Bool). a || b) (some-behind f g m n before (λ i h. behind i (omega (arith, h)))) (behind n (omega arith)))

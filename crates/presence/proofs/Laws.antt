@@ -1,80 +1,15 @@
--- Laws of a test along numbers and along a list, and of the answer record by record.
+-- Laws of a test along a list, and of the answer record by record.
 -- Assumes nothing.
 use mathlib.Core.Bool.{Bool, true, false, true≢false, cond, _||_}
 use mathlib.Core.List.{List, [], _∷_}
-use mathlib.Core.Logic.{⊎-elim}
-use mathlib.Core.Path.{_≡_, refl, sym, _∙_, ap, ap₂, subst}
-use Prim.Native.Nat.{ℕ, zero, suc, _+_, _≤_, _<_}
-use native.Mathlib.Nat.{eq-or-lt-of-le, le-of-suc-le-suc, not-suc-le-zero}
+use mathlib.Core.Path.{_≡_, ap}
+use Prim.Native.Nat.{ℕ, suc, _+_}
 use native.Mathlib.Omega.{arith}
-use borrow.Author.Tests.{eq-eqb, ne-eqb}
-use lib.Dec.{eqb}
 use lib.ListN.{length}
 use Rattle.runs.proofs.Laws.{split}
 use Rattle.reading.specs.Heard.{Heard}
 use Rattle.presence.specs.declared.Presence.{Presence}
-use Rattle.presence.specs.Presence.{isSound, some, sounds, someOf, firstOf, yesAt, noneIn, answerOf}
-
--- one sample
-pub zero-silent : (sample mark : ℕ) → sample ≡ 0 → false ≡ isSound sample mark
-unfolding isSound
-zero-silent sample mark e = rw (eq-eqb sample 0 e)
-
-pub by-mark : (sample mark : ℕ) → (sample ≡ 0 → ⊥) → eqb mark 0 ≡ isSound sample mark
-unfolding isSound
-by-mark sample mark some = rw (ne-eqb sample 0 some)
-
-or-true : (a b : Bool) → b ≡ true → a || b ≡ true
-or-true true b e = refl
-or-true false b e = e
-
-or-first : (a b : Bool) → b ≡ false → a || b ≡ true → a ≡ true
-or-first true b f e = refl
-or-first false b f e = absurd (true≢false (sym e ∙ f))
-
--- a test that passes at a number below n
-module _ (test : ℕ → Bool) where
-  pub some-here : (n i : ℕ) → i < n → test i ≡ true → some test n ≡ true
-  unfolding some
-  some-here zero i h e = absurd (not-suc-le-zero h)
-  some-here (suc n) i h e =
-      ⊎-elim
-      (λ same. or-true (some test n) (test n) (subst (λ (k : ℕ). test k ≡ true) same e))
-      (λ less. rw (some-here n i less e))
-      (eq-or-lt-of-le (le-of-suc-le-suc h))
-
-  pub some-more : (n : ℕ) → some test n ≡ false → test n ≡ false → some test (n + 1) ≡ false
-  unfolding some
-  some-more n before here = let one : n + 1 ≡ suc n = omega arith in rw (one, before, here)
-
-  pub some-all : {i n : ℕ} → i ≤ n → n ≤ i → some test i ≡ false → false ≡ some test n
-  some-all {i} {n} a b none = let all : i ≡ n = omega arith in sym (subst (λ (k : ℕ). some test k ≡ false) all none)
-
-  -- where it passes
-  pub record Passing (n : ℕ) : Type 0 where
-    pub place : ℕ
-    pub within : place < n
-    pub passes : test place ≡ true
-
-  pub some-where : (n : ℕ) → some test n ≡ true → Passing n
-  unfolding some
-  some-where zero e = absurd (true≢false (sym e))
-  some-where (suc n) e =
-      split (test n)
-      (λ here. record { place = n; within = omega arith; passes = here })
-      (λ none.
-      let before : Passing n = some-where n (or-first (some test n) (test n) none e) in
-      record { place = before .place; within = omega (arith, before .within); passes = before .passes })
-
-  pub some-none : (n : ℕ) → some test n ≡ false → (i : ℕ) → i < n → test i ≡ false
-  some-none n none i h = split (test i) (λ e. absurd (true≢false (sym (some-here n i h e) ∙ none))) (λ e. e)
-
--- two tests that say the same below n
-pub some-same : (f g : ℕ → Bool) (n : ℕ) → ((i : ℕ) → i < n → f i ≡ g i) → some f n ≡ some g n
-unfolding some
-some-same f g zero same = refl
-some-same f g (suc n) same =
-    ap₂ (λ (a b : Bool). a || b) (some-same f g n (λ i h. same i (omega (arith, h)))) (same n (omega arith))
+use Rattle.presence.specs.Presence.{sounds, someOf, firstOf, yesAt, noneIn, answerOf}
 
 pub or-rest : (a b : Bool) → a ≡ false → a || b ≡ true → b ≡ true
 or-rest true b f e = absurd (true≢false f)

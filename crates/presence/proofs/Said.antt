@@ -1,18 +1,17 @@
--- Laws of what one record says: what the receiver wrote into three runs of 720 entries is what it hands out.
+-- Laws of what one record says: what the receiver wrote into three runs of 720 entries is what it hands out, and a look at the cell
+-- says the same.
 -- Assumes nothing.
 use mathlib.Core.Bool.{Bool, false}
-use mathlib.Core.List.{List}
-use mathlib.Core.Path.{_≡_, sym, _∙_, ap}
+use mathlib.Core.List.{List, _++_}
+use mathlib.Core.Path.{_≡_, sym, _∙_, ap, ap₂}
 use Prim.Native.Nat.{ℕ, suc, _+_, _*_, _-_, _≤_, _<_}
 use native.Mathlib.Nat.{suc-mul}
 use native.Mathlib.Omega.{arith}
-use borrow.Author.Tests.{ne-eqb}
-use lib.ListN.{length, getD, drop, replicate, length-append, length-replicate, List·getD-append}
+use borrow.Author.Tests.{eq-eqb, ne-eqb}
+use lib.ListN.{length, getD, drop, replicate, length-append, length-replicate, getD-replicate, List·getD-append}
+use lib.Seq.{getD-append-add}
 use Rattle.runs.specs.Runs.{over}
 use Rattle.runs.proofs.Laws.{length-tab}
-use Rattle.formats.specs.declared.Settled.{Settled}
-use Rattle.formats.specs.Settings.{settled, settingsOf}
-use Rattle.formats.proofs.Laws.{settled-of, settled-limits}
 use Rattle.cells.specs.Cells.{entriesOf}
 use Rattle.receiver.specs.declared.Receiver.{Receiver}
 use Rattle.receiver.specs.declared.Received.{Received}
@@ -28,12 +27,13 @@ use Rattle.receiver.specs.Receiver.{
   Receives,
 }
 use Rattle.receiver.proofs.Laws.{Passes, passes, answer-refusal, answer-missing}
-use Rattle.reading.specs.Heard.{Heard, given, hear}
+use Rattle.reading.specs.Heard.{Heard, given, hear, onward}
 use Rattle.reading.specs.Heard as reading
 use Rattle.reading.specs.Records.{Whole}
 use Rattle.reading.proofs.Heard.{refused-gives}
-use Rattle.presence.specs.Presence.{some, soundAt, sounds, saidOf}
-use Rattle.presence.proofs.Laws.{some-same}
+use Rattle.glance.specs.Glance.{isSound, some, soundAt, ownSamples, ownMarks, readable, soundsOf}
+use Rattle.glance.proofs.Some.{some-behind}
+use Rattle.presence.specs.Presence.{sounds, saidOf}
 
 -- entries of missing cells, and the cell's own
 length-entries : (read : ℕ → ℕ) (missing : ℕ) (st : Receiver) (cell : List ℕ) → 1 ≤ gapOf st cell
@@ -87,9 +87,6 @@ module _ (st : Receiver) (cell : List ℕ) (indication : Bool) {samples ancillar
       unfolding sounds some hear
       silent = rw (refused-gives st arrived none (samplesNow st cell))
 
-      pub refused-says : record { state = answer .state; sounds = false } ≡ saidOf st cell indication
-      refused-says i = record { state = answer-is i .state; sounds = sym silent i }
-
     -- it is taken
     module _ (taken : answer .refusal ≡ 0) where
       no-refusal : receiveRefusal st cell indication 720 720 720 ≡ 0
@@ -129,32 +126,75 @@ module _ (st : Receiver) (cell : List ℕ) (indication : Bool) {samples ancillar
           let one-more : suc (gapOf st cell - 1) ≡ gapOf st cell = omega (arith, passed .gap-from) in
           rw missing-is (sym (suc-mul (gapOf st cell - 1) (usedNow st)) ∙ ap (λ (gap : ℕ). gap * usedNow st) one-more)
 
-      module _ {set : Settled} (settles : set ≡ settingsOf (st .format) (st .channels) (st .order)) where
-        abbrev used : ℕ
-        used = set .channels * set .times
+-- what is said by the judgement and a look at the cell
+module _ (st : Receiver) (cell : List ℕ) (indication : Bool) {answer : Received} (judged : answer ≡ judgedOf st cell indication) where
+  abbrev record-here : Whole
+  record-here = record { indication = indication; cell = cell }
 
-        is : set ≡ settled (st .format) (st .channels) (st .order)
-        is = settles ∙ settled-of (st .format) (st .channels) (st .order) (passed .early .settings)
+  abbrev heard-here : Heard
+  heard-here = hear st record-here
 
-        pub used-to : used ≤ 48
-        used-to = settled-limits (st .format) (st .channels) (st .order) is (passed .early .settings) .used-to
+  state-is : answer .state ≡ onward heard-here
+  unfolding hear
+  state-is = ap (λ (r : Received). r .state) judged
 
-        used-is : used ≡ usedNow st
-        used-is = ap (λ (x : Settled). x .channels * x .times) is
+  pub refused-says : (answer .refusal ≡ 0 → ⊥) → record { state = answer .state; sounds = false } ≡ saidOf st cell indication
+  unfolding sounds some hear
+  refused-says some-refusal =
+      let none : reading.isSound heard-here ≡ false
+      = ne-eqb _ 0 (λ e. some-refusal (ap (λ (r : Received). r .refusal) judged ∙ e)) in
+      let silent-here : sounds heard-here ≡ false = rw (refused-gives st record-here none (samplesNow st cell)) in
+      λ i. record { state = state-is i; sounds = sym silent-here i }
 
-        count-is : answer .missing * used + used ≡ gapOf st cell * usedNow st
-        count-is = ap (λ (u : ℕ). answer .missing * u + u) used-is ∙ wrote-is
+  module _ (taken : answer .refusal ≡ 0) where
+    no-refusal-here : receiveRefusal st cell indication 720 720 720 ≡ 0
+    unfolding judgedOf
+    no-refusal-here =
+        sym (answer-refusal st cell indication 720 720 720) ∙ sym (ap (λ (r : Received). r .refusal) judged) ∙ taken
 
-        pub count-to : answer .missing * used + used ≤ 720
-        count-to = rw count-is (passed .room)
+    passed-here : Passes st cell 720 720 720
+    passed-here = passes st cell indication 720 720 720 no-refusal-here
 
-        says : {found : Bool} → found ≡ some (soundAt samples₁ marks₁) (answer .missing * used + used) → found ≡ sounds h
-        unfolding sounds
-        says found-is =
-            found-is
-            ∙ ap (some (soundAt samples₁ marks₁)) (count-is ∙ sym length-samples)
-            ∙ some-same (soundAt samples₁ marks₁) (soundAt (h .samples) (h .marks)) (length (h .samples)) same-there
+    given-here : (entries : List ℕ) → given st record-here entries ≡ entries
+    unfolding given entriesGiven
+    given-here entries = rw no-refusal-here
 
-        pub taken-says : {found : Bool} → found ≡ some (soundAt samples₁ marks₁) (answer .missing * used + used)
-            → record { state = answer .state; sounds = found } ≡ saidOf st cell indication
-        taken-says found-is i = record { state = answer-is i .state; sounds = says found-is i }
+    abbrev gap : ℕ
+    gap = (gapOf st cell - 1) * usedNow st
+
+    -- of the gap's entries none counts, and behind them are the cell's own
+    behind-gap : some (soundAt (samplesNow st cell) (marksNow st cell)) (gap + usedNow st)
+        ≡ some (soundAt (ownSamples st cell) (ownMarks st cell)) (usedNow st)
+    unfolding entriesNow soundAt isSound
+    behind-gap =
+        some-behind (soundAt (samplesNow st cell) (marksNow st cell)) (soundAt (ownSamples st cell) (ownMarks st cell)) gap (usedNow st)
+        (λ i h. rw (in-gap 0 (ownSamples st cell) i h))
+        (λ i h.
+        ap₂ (λ (sample mark : ℕ). isSound sample mark) (past-gap 0 (ownSamples st cell) i) (past-gap 2 (ownMarks st cell) i))
+      where
+        in-gap : (value : ℕ) (own : List ℕ) (i : ℕ) → i < gap → getD (replicate gap value ++ own) i 0 ≡ value
+        in-gap value own i h =
+            List·getD-append (replicate gap value) own 0 i (omega (arith, h, length-replicate {A = ℕ} gap value))
+            ∙ getD-replicate gap i value 0 h
+
+        past-gap : (value : ℕ) (own : List ℕ) (i : ℕ) → getD (replicate gap value ++ own) (gap + i) 0 ≡ getD own i 0
+        past-gap value own i =
+            ap (λ (n : ℕ). getD (replicate gap value ++ own) (n + i) 0) (sym (length-replicate {A = ℕ} gap value))
+            ∙ getD-append-add (replicate gap value) own i 0
+
+    looks : soundsOf st cell ≡ sounds heard-here
+    unfolding soundsOf sounds hear readable
+    looks =
+        let whole : gapOf st cell * usedNow st ≡ gap + usedNow st
+        = (let one-more : gapOf st cell ≡ suc (gapOf st cell - 1) = omega (arith, passed-here .gap-from) in
+        ap (λ (g : ℕ). g * usedNow st) one-more ∙ suc-mul (gapOf st cell - 1) (usedNow st)) in
+        let long : length (samplesNow st cell) ≡ gap + usedNow st = length-entries _ 0 st cell (passed-here .gap-from) ∙ whole in
+        rw (eq-eqb _ 0 (passed-here .early .settings), eq-eqb _ 48 (passed-here .early .cell))
+        (sym behind-gap
+        ∙ ap (some (soundAt (samplesNow st cell) (marksNow st cell))) (sym long)
+        ∙ ap₂ (λ (samples marks : List ℕ). some (soundAt samples marks) (length samples)) (sym (given-here (samplesNow st cell)))
+        (sym (given-here (marksNow st cell))))
+
+    pub taken-says : {found : Bool} → found ≡ soundsOf st cell
+        → record { state = answer .state; sounds = found } ≡ saidOf st cell indication
+    taken-says found-is i = record { state = state-is i; sounds = (found-is ∙ looks) i }

@@ -15,13 +15,12 @@ use Rattle.reading.specs.Heard.{Heard, heardBy, endBy, hear, onward, heardFrom}
 use Rattle.reading.specs.Reading.{freshOf, behindHeader}
 use Rattle.reading.specs.Records.{Whole, recordsIn}
 use Rattle.reading.proofs.Heard.{length-heard}
+use Rattle.glance.specs.Glance.{isSound, soundAt}
+use Rattle.glance.proofs.Some.{Passing, some-here, some-where}
 use Rattle.presence.specs.declared.Presence.{Presence}
 use Rattle.presence.specs.Handed.{Call, HandsOut, AllSilent, FirstAt, FirstIn}
-use Rattle.presence.specs.Presence.{isSound, soundAt, sounds, someOf, firstOf, yesAt, refusedBy, answerOf, presenceOf}
+use Rattle.presence.specs.Presence.{sounds, someOf, firstOf, yesAt, refusedBy, answerOf, presenceOf}
 use Rattle.presence.proofs.Laws.{
-  Passing,
-  some-here,
-  some-where,
   or-rest,
   answerFrom,
   from-start,

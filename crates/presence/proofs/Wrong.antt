@@ -11,8 +11,9 @@ use Rattle.runs.proofs.Wrong.{Never, Place, lent}
 use Rattle.log.proofs.Wrong as log
 use Rattle.receiver.proofs.Wrong as receiver
 use Rattle.reading.proofs.Computed as reading
+use Rattle.glance.specs.Glance.{isSound, some, soundAt}
 use Rattle.presence.specs.declared.Presence.{Presence}
-use Rattle.presence.specs.Presence.{isSound, some, soundAt, sounds, someOf, firstOf, answerOf, presenceOf}
+use Rattle.presence.specs.Presence.{sounds, someOf, firstOf, answerOf, presenceOf}
 use Rattle.presence.proofs.anything.Kinds as anything-kinds
 use Rattle.presence.proofs.anything.Reads as anything-reads
 

@@ -1,30 +1,18 @@
 -- Request 7: "is there a sample marked 0 that isn't zero?"
 -- Assumes nothing.
-use mathlib.Core.Bool.{Bool, true, false, cond, not, _&&_, _||_}
+use mathlib.Core.Bool.{Bool, true, false, cond, _||_}
 use mathlib.Core.List.{List, [], _∷_}
-use Prim.Native.Nat.{ℕ, zero, suc, _+_}
+use Prim.Native.Nat.{ℕ, suc}
 use lib.Dec.{eqb}
-use lib.ListN.{length, getD, drop}
+use lib.ListN.{length, drop}
 use Rattle.log.specs.declared.Header.{Header}
 use Rattle.receiver.specs.declared.Receiver.{Receiver}
 use Rattle.reading.specs.Heard.{Heard, hear, onward, heardFrom}
 use Rattle.reading.specs.Reading.{freshOf, readingOf}
 use Rattle.reading.specs.Records.{recordsIn}
+use Rattle.glance.specs.Glance.{some, soundAt}
 use Rattle.presence.specs.declared.Presence.{Presence}
 use Rattle.presence.specs.declared.sounds.Said.{Said}
-
--- "a sample marked 0 that isn't zero"
-unfoldable pub isSound : ℕ → ℕ → Bool
-isSound sample mark = not (eqb sample 0) && eqb mark 0
-
--- a test that passes at a number below n
-unfoldable pub some : (ℕ → Bool) → ℕ → Bool
-some test zero = false
-some test (suc n) = some test n || test n
-
--- two runs side by side, samples and their marks: such a sample at a place
-unfoldable pub soundAt : List ℕ → List ℕ → ℕ → Bool
-soundAt samples marks i = isSound (getD samples i 0) (getD marks i 0)
 
 -- there is one among what the receiver hands out for a record
 unfoldable pub sounds : Heard → Bool

@@ -2,7 +2,6 @@
 use log::Header;
 ghost use mathlib.Core.Bool.{true, false};
 ghost use mathlib.Core.Path.{_≡_};
-ghost use lib.ListN.{length};
 ghost use Rattle.log.specs.Records.{headerOf};
 ghost use Rattle.reading.specs.Reading.{behindHeader};
 ghost use Rattle.presence.specs.Presence.{presenceOf, readFrom, refusedBy};
@@ -18,14 +17,7 @@ pub struct Presence {
 }
 
 // Reads records from the place behind an accepted header on, and stops at the first that says yes.
-fn records(
-    log: &[u8],
-    header: Header,
-    samples: &mut [u64],
-    ancillary: &mut [u8],
-    marks: &mut [u8],
-) -> Presence
-    requires { ⌜ (length (now samples) ≡ 720) × (length (now ancillary) ≡ 720) × (length (now marks) ≡ 720) ⌝ }
+fn records(log: &[u8], header: Header) -> Presence
     ensures { λ r. ⌜ r ≡ readFrom header (now (log .entry)) ⌝ }
 {
     let opened = receiver::opened(header.format, header.channels, header.order);
@@ -34,14 +26,7 @@ fn records(
     let mut number = 0;
     let mut here = log::read_record(log, place);
     while here.what == 1 {
-        let said = sounds::heard(
-            state,
-            log::read_cell(log, place),
-            here.indication,
-            samples,
-            ancillary,
-            marks,
-        );
+        let said = sounds::heard(state, log::read_cell(log, place), here.indication);
         if said.sounds {
             return Presence {
                 refusal: 0,
@@ -74,8 +59,5 @@ pub fn anything(log: &[u8]) -> Presence
             number: 0,
         };
     }
-    let mut samples = [0u64; 720];
-    let mut ancillary = [0u8; 720];
-    let mut marks = [0u8; 720];
-    records(log, header, &mut samples, &mut ancillary, &mut marks)
+    records(log, header)
 }
