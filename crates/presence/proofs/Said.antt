@@ -189,7 +189,7 @@ module _ (st : Receiver) (cell : List ℕ) (indication : Bool) {answer : Receive
         = (let one-more : gapOf st cell ≡ suc (gapOf st cell - 1) = omega (arith, passed-here .gap-from) in
         ap (λ (g : ℕ). g * usedNow st) one-more ∙ suc-mul (gapOf st cell - 1) (usedNow st)) in
         let long : length (samplesNow st cell) ≡ gap + usedNow st = length-entries _ 0 st cell (passed-here .gap-from) ∙ whole in
-        rw (eq-eqb _ 0 (passed-here .early .settings), eq-eqb _ 48 (passed-here .early .cell))
+        rw (eq-eqb _ 0 (passed-here .early .settings), eq-eqb _ 48 (passed-here .early .whole))
         (sym behind-gap
         ∙ ap (some (soundAt (samplesNow st cell) (marksNow st cell))) (sym long)
         ∙ ap₂ (λ (samples marks : List ℕ). some (soundAt samples marks) (length samples)) (sym (given-here (samplesNow st cell)))

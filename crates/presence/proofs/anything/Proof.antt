@@ -11,11 +11,8 @@ returns c = header-refused _ (c .before .before .read-header .ensures) (c .if1 .
 
 returns-2 : tie.Need-returns-2
 returns-2 c =
-    let r = c .before .before .before in
-    let e = r .before .before .before .before in
-    r .records .ensures ∙ header-taken _ (e .before .before .read-header .ensures) (e .if1 .left)
+    let e = c .before in
+    c .records .ensures ∙ header-taken _ (e .before .before .read-header .ensures) (e .if1 .left)
 
 pub anything-spec : {M : Type 1} → statement M
-anything-spec =
-    tie.close
-    (tie.spec (search needs) returns (search needs) (search needs) (search needs) (search needs) returns-2)
+anything-spec = tie.close (tie.spec (search needs) returns (search needs) returns-2)
