@@ -1,3 +1,4 @@
+pub mod Going
 pub mod Laws
 pub mod One
 pub mod Said

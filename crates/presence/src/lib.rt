@@ -1,11 +1,15 @@
 // Is there anything on it at all? Request 7: whether a log holds a sample marked 0 that isn't zero, and in which record first.
 use log::Header;
+use pieces::Standing;
+use receiver::Receiver;
 ghost use mathlib.Core.Bool.{true, false};
 ghost use mathlib.Core.Path.{_≡_};
 ghost use Rattle.log.specs.Records.{headerOf};
 ghost use Rattle.reading.specs.Reading.{behindHeader};
 ghost use Rattle.presence.specs.Presence.{presenceOf, readFrom, refusedBy};
+ghost use Rattle.presence.specs.Taking.{searchStart, Takes, answerAtEnd};
 
+mod parts; // parts.rt: a log's parts one after the other
 mod sounds; // sounds.rt: what one record says
 
 // The refusal of the header (0: none); whether there is a sample marked 0 that isn't zero; for a yes the first record with one,
@@ -60,4 +64,74 @@ pub fn anything(log: &[u8]) -> Presence
         };
     }
     records(log, header)
+}
+
+// What is known behind a part of a log: the receiver's state, and the answer so far. Until a record says yes its number is how many
+// whole records were read.
+pub struct Sought {
+    pub state: Receiver,
+    pub refusal: u8,
+    pub found: bool,
+    pub number: usize,
+}
+
+// A search under way: where its log stands, and what is known.
+pub struct Search {
+    pub standing: Standing,
+    pub sought: Sought,
+}
+
+// A search before the first octet of a log of any length.
+pub fn start() -> Search
+    ensures { λ r. ⌜ r ≡ searchStart ⌝ }
+{
+    let standing = pieces::start(18446744073709551615);
+    let opened = receiver::opened(0, 0, 0);
+    let state = opened.state;
+    let sought = Sought {
+        state,
+        refusal: 0,
+        found: false,
+        number: 0,
+    };
+    Search { standing, sought }
+}
+
+// Takes a piece of the log. The octets of a record that isn't whole yet are held in `held`. Behind a yes no record is judged, and
+// behind a fault nothing is read.
+pub fn take(search: Search, held: &mut [u8; 49], piece: &[u8]) -> Search
+    ensures { λ r. ⌜ Takes search (now (held .entry)) (now (piece .entry)) r (now (held .exit)) ⌝ }
+{
+    pieces::sized(*held);
+    let mut standing = search.standing;
+    let mut sought = search.sought;
+    let mut place = 0;
+    while place < piece.len() {
+        let found = pieces::next(standing, held, piece, place);
+        sought = parts::step(sought, found, held, piece, place);
+        standing = found.standing;
+        place = found.next;
+    }
+    Search { standing, sought }
+}
+
+// The answer for a log that ends here: whatever its pieces were, it is that of the whole log.
+pub fn end(search: Search, held: [u8; 49]) -> Presence
+    ensures { λ r. ⌜ r ≡ answerAtEnd search held ⌝ }
+{
+    let standing = search.standing;
+    let sought = search.sought;
+    let refusal = pieces::end(standing, held);
+    if standing.stage == 0 {
+        return Presence {
+            refusal,
+            found: sought.found,
+            number: sought.number,
+        };
+    }
+    Presence {
+        refusal: sought.refusal,
+        found: sought.found,
+        number: sought.number,
+    }
 }
