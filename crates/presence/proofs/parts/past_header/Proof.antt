@@ -23,7 +23,7 @@ sought-of opened = record { state = opened .state; refusal = 0; found = false; n
 
 returns : tie.Need-returns
 returns c =
-    ap sought-of (c .before .opened .ensures) ∙ ap freshSought (c .before .before .before .read-header .ensures)
+    ap sought-of (c .before .opened .ensures) ∙ ap freshSought (c .before .before .read-header .ensures)
 
 pub past-header-spec : {M : Type 1} → statement M
 past-header-spec =
