@@ -78,13 +78,7 @@ pub(crate) fn sound_line(
     put_all(run, past_number, b"\n")
 }
 
-pub(crate) fn end_line(
-    run: &mut [u8],
-    at: Put,
-    sound: usize,
-    missing: usize,
-    refused: usize,
-) -> Put
+pub(crate) fn end_line(run: &mut [u8], at: Put, sound: usize, missing: usize, refused: usize) -> Put
     ensures { λ r. ⌜ Puts (now (run .entry)) at (now (run .exit)) r (endLine sound missing refused) ⌝ }
 {
     three(

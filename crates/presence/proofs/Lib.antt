@@ -1,5 +1,6 @@
 pub mod Going
 pub mod Laws
+pub mod Lines
 pub mod One
 pub mod Said
 pub mod Theorems

@@ -7,6 +7,8 @@ use Rattle.presence.proofs.anything.Kinds as anything-kinds
 use Rattle.presence.proofs.anything.Reads as anything-reads
 use Rattle.presence.proofs.end.Kinds as end-kinds
 use Rattle.presence.proofs.end.Reads as end-reads
+use Rattle.presence.proofs.put_line.Kinds as put-line-kinds
+use Rattle.presence.proofs.put_line.Reads as put-line-reads
 use Rattle.presence.proofs.start.Kinds as start-kinds
 use Rattle.presence.proofs.start.Reads as start-reads
 use Rattle.presence.proofs.take.Kinds as take-kinds
@@ -23,3 +25,6 @@ take-one κs a x y v w pre p q = (p .goes-on ∙ sym (q .goes-on), λ i. (tt, ((
 
 pub end-one : One end-kinds.ps end-kinds.r end-reads.Pre end-reads.Post
 end-one κs a x y v w pre p q = (p ∙ sym q, refl)
+
+pub put-line-one : One put-line-kinds.ps put-line-kinds.r put-line-reads.Pre put-line-reads.Post
+put-line-one κs a x y v w pre p q = (p .printed ∙ sym (q .printed), λ i. (tt, ((p .wrote ∙ sym (q .wrote)) i, tt)))

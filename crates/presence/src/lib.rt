@@ -2,10 +2,16 @@
 use log::Header;
 use pieces::Standing;
 use receiver::Receiver;
+use text::Put;
 ghost use mathlib.Core.Bool.{true, false};
+ghost use mathlib.Core.List.{_++_};
 ghost use mathlib.Core.Path.{_≡_};
 ghost use Rattle.log.specs.Records.{headerOf};
 ghost use Rattle.reading.specs.Reading.{behindHeader};
+ghost use Rattle.text.specs.Put.{Puts};
+ghost use Rattle.text.specs.Text.{item};
+ghost use Rattle.text.specs.Words.{words};
+ghost use Rattle.presence.specs.Line.{Writes};
 ghost use Rattle.presence.specs.Presence.{presenceOf, readFrom, refusedBy};
 ghost use Rattle.presence.specs.Taking.{searchStart, Takes, answerAtEnd};
 
@@ -134,4 +140,29 @@ pub fn end(search: Search, held: [u8; 49]) -> Presence
         found: sought.found,
         number: sought.number,
     }
+}
+
+// A line of words and a number.
+fn number_line(run: &mut [u8], begins: &[u8], n: usize) -> Put
+    ensures { λ r. ⌜ Puts (now (run .entry)) (record { octets = 0; whole = true }) (now (run .exit)) r (item (now (begins .entry)) n ++ words "\n") ⌝ }
+{
+    let start = Put {
+        octets: 0,
+        whole: true,
+    };
+    let past = text::put_item(run, start, begins, n);
+    text::put_all(run, past, b"\n")
+}
+
+// Writes the answer's line into the run, from its start, as far as it goes: `yes K`, `no N` or `log refused r`. What is past it stays.
+pub fn put_line(presence: Presence, run: &mut [u8]) -> Put
+    ensures { λ r. ⌜ Writes presence (now (run .entry)) r (now (run .exit)) ⌝ }
+{
+    if presence.refusal != 0 {
+        return number_line(run, b"log refused ", presence.refusal as usize);
+    }
+    if presence.found {
+        return number_line(run, b"yes ", presence.number);
+    }
+    number_line(run, b"no ", presence.number)
 }

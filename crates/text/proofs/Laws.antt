@@ -44,8 +44,8 @@ pub puts-then : {a b c : List ℕ} {s t u : Put} {first second : List ℕ} → P
 puts-then {a} {s = s} {first = first} {second = second} p q =
     record {
       is = q .is
-      ∙ ap (λ (f : Filling). putAll f second) (p .is)
-      ∙ sym (put-joined (record { run = a; past = s }) first second);
+          ∙ ap (λ (f : Filling). putAll f second) (p .is)
+          ∙ sym (put-joined (record { run = a; past = s }) first second);
     }
 
 pub puts-same : {a b : List ℕ} {s t : Put} {octets same : List ℕ} → octets ≡ same → Puts a s b t octets → Puts a s b t same
@@ -105,9 +105,11 @@ module _ (run : List ℕ) (at : Put) (octets : List ℕ) where
   pub puts-room : {after : List ℕ} → at .octets + length octets ≤ length run → after ≡ written run (at .octets) (take (length octets) octets)
       → Puts run at after (record { octets = at .octets + length octets; whole = at .whole }) octets
   puts-room room e =
-      record { is = (λ i. filling (e i) (at .octets + length octets) (at .whole))
-      ∙ (λ i. filling (written run (at .octets) (take-all (length octets) octets (omega arith) i)) (at .octets + length octets) (at .whole))
-      ∙ sym (put-room run (at .octets) (at .whole) octets room) }
+      record {
+        is = (λ i. filling (e i) (at .octets + length octets) (at .whole))
+            ∙ (λ i. filling (written run (at .octets) (take-all (length octets) octets (omega arith) i)) (at .octets + length octets) (at .whole))
+            ∙ sym (put-room run (at .octets) (at .whole) octets room);
+      }
 
   pub puts-nothing : length octets ≡ 0 → Puts run at run at octets
   puts-nothing none = puts-same (nothing octets none) (puts-none run at)
@@ -128,10 +130,12 @@ module _ (run : List ℕ) (at : Put) (octets : List ℕ) where
       let first : putAll (record { run = run; past = at }) (take room octets) ≡ filling after (length run) (at .whole) =
       put-room run (at .octets) (at .whole) (take room octets) (omega (arith, fits, is, within))
       ∙ (λ i. filling (sym e i) ((let p : at .octets + length (take room octets) ≡ length run = omega (arith, fits, is, within) in p) i) (at .whole)) in
-      record { is = sym (put-none-fits after (length run) (at .whole) (drop room octets) (omega (arith, kept)) (omega (arith, length-drop room octets, less)))
-      ∙ sym (ap (λ (f : Filling). putAll f (drop room octets)) first)
-      ∙ sym (put-joined (record { run = run; past = at }) (take room octets) (drop room octets))
-      ∙ ap (putAll (record { run = run; past = at })) (take-append-drop room octets) }
+      record {
+        is = sym (put-none-fits after (length run) (at .whole) (drop room octets) (omega (arith, kept)) (omega (arith, length-drop room octets, less)))
+            ∙ sym (ap (λ (f : Filling). putAll f (drop room octets)) first)
+            ∙ sym (put-joined (record { run = run; past = at }) (take room octets) (drop room octets))
+            ∙ ap (putAll (record { run = run; past = at })) (take-append-drop room octets);
+      }
 
 -- a run that was lent holds octets as far as it goes, and behind them what it held before
 record Holds (lent octets now : List ℕ) (at : Put) : Type 0 where
@@ -306,7 +310,7 @@ module _ {n : ℕ} {digits : List ℕ} {left digit : ℕ} where
       let moved : digitsOf (suc (suc first)) left ++ behind ≡ digitsOf (suc first) (left / 10) ++ ((48 + left % 10) ∷ behind) =
       rw (digits-step (suc first) left large) (append-snoc (digitsOf (suc first) (left / 10)) (48 + left % 10) behind) in
       let stored : digitsOf (suc first) (left / 10) ++ ((48 + left % 10) ∷ behind)
-          ≡ digitsOf (suc first) (left / 10) ++ drop (suc first) (set digits (suc first) digit) =
+      ≡ digitsOf (suc first) (left / 10) ++ drop (suc first) (set digits (suc first) digit) =
       rw (← e, behind-stored digits (suc first) digit here) in
       rw before
       (record {
