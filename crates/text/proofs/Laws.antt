@@ -259,6 +259,18 @@ module _ {run after : List ℕ} {past : Put} {octets : List ℕ} (p : Puts run (
   pub wrote-from-start : after ≡ over (take (length run) octets) run
   wrote-from-start = ap (λ (f : Filling). f .run) (p .is) ∙ all-held .run
 
+  -- no more than the run has entries
+  pub within-from-start : past .octets ≤ length run
+  within-from-start =
+      let said : past .octets ≡ length (take (length run) octets) = ap (λ (q : Put). q .octets) said-from-start in
+      split (leb (length octets) (length run))
+      (λ t.
+      let fits : length octets ≤ length run = leb-true (length octets) (length run) t in
+      omega (arith, said, fits, ap length (take-all (length run) octets fits)))
+      (λ t.
+      let more : length run ≤ length octets = omega (arith, leb-false (length octets) (length run) t) in
+      omega (arith, said, length-take-le (length run) octets more))
+
 digits-one : (k n : ℕ) → n < 10 → digitsOf (suc k) n ≡ (48 + n % 10) ∷ []
 unfolding digitsOf
 digits-one k n small = let low : n % 10 ≡ n = omega arith in rw (lt-ltb n 10 small, low)
