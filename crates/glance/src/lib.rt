@@ -134,7 +134,8 @@ fn damaged_in(set: Settled, used: usize, cell: &[u8]) -> usize
     count
 }
 
-// Whether one of the cell's own samples is marked 0 and isn't zero. Not so where the state's settings are refused, or the cell isn't
+// Whether one of the cell's own samples is marked 0 and isn't zero. Not so where the state's settings are refused, or the cell
+// isn't
 // of 48 octets.
 pub fn sounds(state: Receiver, cell: &[u8]) -> bool
     ensures { λ r. ⌜ r ≡ soundsOf state (now (cell .entry)) ⌝ }
@@ -154,7 +155,8 @@ pub fn sounds(state: Receiver, cell: &[u8]) -> bool
     among(set.format, cell, used)
 }
 
-// How many of the cell's own entries are marked 0, and how many 1. Zeros where the state's settings are refused, or the cell isn't of
+// How many of the cell's own entries are marked 0, and how many 1. Zeros where the state's settings are refused, or the cell
+// isn't of
 // 48 octets.
 pub fn marked(state: Receiver, cell: &[u8]) -> Marks
     ensures { λ r. ⌜ r ≡ markedOf state (now (cell .entry)) ⌝ }

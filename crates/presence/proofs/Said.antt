@@ -1,4 +1,5 @@
--- Laws of what one record says: what the receiver wrote into three runs of 720 entries is what it hands out, and a look at the cell
+-- Laws of what one record says: what the receiver wrote into three runs of 720 entries is what it hands out, and a look at the
+-- cell
 -- says the same.
 -- Assumes nothing.
 use mathlib.Core.Bool.{Bool, false}

@@ -72,7 +72,8 @@ pub fn anything(log: &[u8]) -> Presence
     records(log, header)
 }
 
-// What is known behind a part of a log: the receiver's state, and the answer so far. Until a record says yes its number is how many
+// What is known behind a part of a log: the receiver's state, and the answer so far. Until a record says yes its number is how
+// many
 // whole records were read.
 pub struct Sought {
     pub state: Receiver,
@@ -154,7 +155,8 @@ fn number_line(run: &mut [u8], begins: &[u8], n: usize) -> Put
     text::put_all(run, past, b"\n")
 }
 
-// Writes the answer's line into the run, from its start, as far as it goes: `yes K`, `no N` or `log refused r`. What is past it stays.
+// Writes the answer's line into the run, from its start, as far as it goes: `yes K`, `no N` or `log refused r`. What is past it
+// stays.
 pub fn put_line(presence: Presence, run: &mut [u8]) -> Put
     ensures { λ r. ⌜ Writes presence (now (run .entry)) r (now (run .exit)) ⌝ }
 {

@@ -9,7 +9,8 @@ pub(crate) struct Said {
     pub sounds: bool,
 }
 
-// Judges a cell with room for all that one call can write, and looks at its own entries where it is taken. Those of missing cells are
+// Judges a cell with room for all that one call can write, and looks at its own entries where it is taken. Those of missing cells
+// are
 // zero. Nothing is written.
 pub(crate) fn heard(state: Receiver, cell: &[u8], indication: bool) -> Said
     ensures { λ r. ⌜ r ≡ saidOf state (now (cell .entry)) indication ⌝ }
