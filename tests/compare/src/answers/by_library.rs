@@ -18,6 +18,7 @@ pub fn by_library(case: &Case) -> Option<Answer> {
         Kind::ReadHeader if cfg!(feature = "log") => read_header(case),
         Kind::ReadRecord if cfg!(feature = "log") => read_record(case),
         Kind::Anything if cfg!(feature = "log") => anything(case),
+        Kind::Salvage if cfg!(feature = "log") => salvage(case),
         Kind::Aes3Import if cfg!(feature = "cable") => aes3_import(case),
         Kind::Aes3Export if cfg!(feature = "cable") => aes3_export(case),
         Kind::Equipment => management::equipment_by_library(case),
@@ -164,6 +165,16 @@ fn anything(case: &Case) -> Option<Answer> {
     let mut answer = [u64::MAX; 2];
     let refusal = face::anything(case.octets(0), &mut answer);
     Some(values![u64::from(refusal), answer[0], answer[1]])
+}
+
+fn salvage(case: &Case) -> Option<Answer> {
+    let mut out = Fenced::around(case.octets(1), LEFT_OVER);
+    let mut list = Fenced::around(case.run(2), u64::MAX);
+    let mut counts = [u64::MAX; 3];
+    let refusal = face::salvage(case.octets(0), out.lent(), list.lent(), &mut counts);
+    let mut answer = values![u64::from(refusal), &out.back()[..], &list.back()[..]];
+    answer.extend(counts.map(Value::Number));
+    Some(answer)
 }
 
 fn aes3_import(case: &Case) -> Option<Answer> {
