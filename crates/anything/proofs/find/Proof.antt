@@ -17,10 +17,10 @@ loop-holds : tie.Need-loop-holds Inv-loop μ-loop
 loop-holds c = refl
 
 same-length : tie.Need-same-length Inv-loop μ-loop
-same-length c = ?
+same-length c = c .before .before .before .before .read .kept .1 .0 ∙ c .before .before .before .before .before .before .before .before .loop .inv
 
 same-length-2 : tie.Need-same-length-2 Inv-loop μ-loop
-same-length-2 c = ?
+same-length-2 c = c .before .before .before .before .before .before .before .before .read .kept .1 .0 ∙ c .before .before .before .before .before .before .before .before .before .before .before .before .loop .inv
 
 -- the way back from the end of a turn to the read
 abbrev at-read : tie.After-less Inv-loop μ-loop → tie.After-read Inv-loop μ-loop
@@ -36,7 +36,7 @@ loop-again : tie.Need-loop-again Inv-loop μ-loop
 loop-again c = at-read c .read .kept .1 .0 ∙ at-read c .before .before .before .before .loop .inv
 
 same-length-3 : tie.Need-same-length-3 Inv-loop μ-loop
-same-length-3 c = ?
+same-length-3 c = c .before .before .before .before .loop .inv
 
 pub find-spec : {M : Type 1} → statement M
 find-spec =

@@ -15,7 +15,7 @@ array-share-prefix-text c =
     omega (arith, writes-whole (c .before .put-line .ensures) (omega (arith, length-replicate {A = ℕ} 64 0)) .1, length-replicate {A = ℕ} 64 0)
 
 slice-aggregate-print : tie.Need-slice-aggregate-print
-slice-aggregate-print c = ?
+slice-aggregate-print c = sym (length-take-le _ _ (array-share-prefix-text (c .before)))
 
 print-requires : tie.Need-print-requires
 print-requires c κs = writes-whole (c .before .before .put-line .ensures) (omega (arith, length-replicate {A = ℕ} 64 0)) .0
