@@ -54,6 +54,12 @@ module _ (test : ℕ → Bool) where
   pub some-none : (n : ℕ) → some test n ≡ false → (i : ℕ) → i < n → test i ≡ false
   some-none n none i h = split (test i) (λ e. absurd (true≢false (sym (some-here n i h e) ∙ none))) (λ e. e)
 
+  pub some-fails : (n : ℕ) → ((i : ℕ) → i < n → test i ≡ false) → some test n ≡ false
+  some-fails n fails =
+      split (some test n)
+      (λ e. let at = some-where n e in absurd (true≢false (sym (at .passes) ∙ fails (at .place) (at .within))))
+      (λ e. e)
+
 -- a test passes below n where another does below m
 pub some-from : (f g : ℕ → Bool) (n m : ℕ) → ((i : ℕ) → i < n → f i ≡ true → some g m ≡ true) → some f n ≡ true → some g m ≡ true
 some-from f g n m to e = let at = some-where f n e in to (at .place) (at .within) (at .passes)
@@ -77,7 +83,7 @@ pub some-behind : (f g : ℕ → Bool) (m n : ℕ) → ((i : ℕ) → i < m → 
 unfolding some
 some-behind f g m zero before behind =
     let all : m + zero ≡ m = omega arith in
-    rw all (split (some f m) (λ e. let at = some-where f m e in absurd (true≢false (sym (at .passes) ∙ before (at .place) (at .within)))) (λ e. e))
+    rw all (some-fails f m before)
 some-behind f g m (suc n) before behind =
     let next : m + suc n ≡ suc (m + n) = omega arith in
     rw next

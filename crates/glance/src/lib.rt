@@ -2,6 +2,7 @@
 use formats::Format;
 use formats::Settled;
 use receiver::Receiver;
+ghost use mathlib.Core.Bool.{true, false};
 ghost use mathlib.Core.Path.{_≡_};
 ghost use Prim.Native.Nat.{ℕ, _+_, _^_, _≤_, _<_};
 ghost use lib.ListN.{length, take, drop};
@@ -13,7 +14,7 @@ ghost use Rattle.cells.specs.Cells.{subframeAt, sampleIn, ancillaryIn, markIn};
 ghost use Rattle.cells.specs.Placement.{slotOfEntry};
 ghost use Rattle.receiver.specs.Unpacking.{usedIn};
 ghost use Rattle.glance.specs.Glance.{some, soundsOf, markedOf};
-ghost use Rattle.glance.specs.Code.{soundIn, markedIn};
+ghost use Rattle.glance.specs.Code.{soundIn, markedIn, loudAt};
 
 // How many of a cell's own entries are marked 0, and how many 1.
 pub struct Marks {
@@ -134,12 +135,44 @@ fn damaged_in(set: Settled, used: usize, cell: &[u8]) -> usize
     count
 }
 
+// Whether one of the twelve samples of a cell of 56 hex isn't zero, whatever its mark. A subframe there has four octets, and the
+// sample stands above the last.
+fn loud(cell: &[u8]) -> bool
+    requires { ⌜ length (now cell) ≡ 48 ⌝ }
+    ensures { λ r. ⌜ r ≡ some (loudAt (now (cell .entry))) 12 ⌝ }
+{
+    let mut slot = 0;
+    while slot < 12 {
+        let subframe = number_in(cell, slot * 4, 4);
+        if subframe >= 256 {
+            return true;
+        }
+        slot += 1;
+    }
+    false
+}
+
+// A cell of 56 hex, the usual format, with no sample but zeros: silence there is told by few instructions.
+fn silent(state: Receiver, cell: &[u8]) -> bool
+    ensures { λ r. ⌜ (r ≡ true → false ≡ soundsOf state (now (cell .entry))) ⌝ }
+{
+    if state.format != 86 {
+        return false;
+    }
+    if cell.len() != 48 {
+        return false;
+    }
+    !loud(cell)
+}
+
 // Whether one of the cell's own samples is marked 0 and isn't zero. Not so where the state's settings are refused, or the cell
-// isn't
-// of 48 octets.
+// isn't of 48 octets.
 pub fn sounds(state: Receiver, cell: &[u8]) -> bool
     ensures { λ r. ⌜ r ≡ soundsOf state (now (cell .entry)) ⌝ }
 {
+    if silent(state, cell) {
+        return false;
+    }
     let set = formats::settings(
         state.format as u32,
         state.channels as u32,
@@ -156,8 +189,7 @@ pub fn sounds(state: Receiver, cell: &[u8]) -> bool
 }
 
 // How many of the cell's own entries are marked 0, and how many 1. Zeros where the state's settings are refused, or the cell
-// isn't of
-// 48 octets.
+// isn't of 48 octets.
 pub fn marked(state: Receiver, cell: &[u8]) -> Marks
     ensures { λ r. ⌜ r ≡ markedOf state (now (cell .entry)) ⌝ }
 {
