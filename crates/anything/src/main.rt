@@ -47,7 +47,8 @@ fn print(line: &[u8], whole: bool)
 
 // Hands the search just what a read delivered: the first octets of the buffer, as many as the read said.
 fn take_read(search: Search, held: &mut [u8; 49], buffer: &[u8], got: isize) -> Search
-    ensures { λ r. ⌜ Takes search (now (held .entry)) (take (clamped got (length (now (buffer .entry)))) (now (buffer .entry))) r (now (held .exit)) ⌝ }
+    ensures { λ r. ⌜ Takes search (now (held .entry)) (take (clamped got (length (now (buffer .entry)))) (now (buffer .entry)))
+        r (now (held .exit)) ⌝ }
 {
     let n = io::count(got, buffer);
     presence::take(search, held, &buffer[..n])

@@ -98,14 +98,17 @@ module _ {f : Format} (s : Sound f) (overhead : f .«overhead_bits» ≡ 4) (sub
 
   pub protected-bare : f .«ancillary_bits» ≡ 0 → (nine ≡ protectedIn) × (nine < 1024)
   unfolding protectedBits
-  protected-bare bare =
-      (nine-is ∙ sym (ap (protectedBits (nineOf (f .«sample_bits») (sampleIn f subframe))) (v-none _ bare)), omega (arith, nine-small))
+  protected-bare bare = (
+    nine-is ∙ sym (ap (protectedBits (nineOf (f .«sample_bits») (sampleIn f subframe))) (v-none _ bare)),
+    omega (arith, nine-small),
+  )
 
   v-is : (f .«ancillary_bits» ≡ 0 → ⊥) → subframe / 16 % 2 ≡ ancillaryIn f subframe % 2
   unfolding ancillaryIn
   v-is any = rw (four-ancillary s any, overhead) (omega arith)
 
-  pub protected-v : (f .«ancillary_bits» ≡ 0 → ⊥) → (nine * 2 + subframe / 16 % 2 ≡ protectedIn) × (nine * 2 + subframe / 16 % 2 < 1024)
+  pub protected-v : (f .«ancillary_bits» ≡ 0 → ⊥) → (nine * 2 + subframe / 16 % 2 ≡ protectedIn)
+      × (nine * 2 + subframe / 16 % 2 < 1024)
   unfolding protectedBits
   protected-v any = (
     ap₂ (λ (n v : ℕ). n * 2 + v) nine-is (v-is any)
@@ -119,7 +122,8 @@ unfolding markIn
 mark-plain f subframe none = (rw (eq-eqb _ _ none), omega arith)
 
 module _ (f : Format) (subframe : ℕ) (any : f .«overhead_bits» ≡ 0 → ⊥) {table : List ℕ} {ten : ℕ} (same : table ≡ sevenGuards)
-    (ten-is : ten ≡ protectedBits (nineOf (f .«sample_bits») (sampleIn f subframe)) (vOf (f .«ancillary_bits») (ancillaryIn f subframe)))
+    (ten-is : ten ≡ protectedBits (nineOf (f .«sample_bits») (sampleIn f subframe))
+    (vOf (f .«ancillary_bits») (ancillaryIn f subframe)))
     (less : ten < 1024)
   where
     abbrev found : ℕ
@@ -167,7 +171,8 @@ by-mark f cell slot is any mark-is =
 module _ (set : Settled) (limits : Limits set) (i : ℕ) {slot : ℕ}
     (slot-is : slot ≡ slotOfEntry (set .«by_channel») (set .channels) (set .times) i)
   where
-    pub next-straight : set .«by_channel» ≡ false → slot + 1 ≡ slotOfEntry (set .«by_channel») (set .channels) (set .times) (i + 1)
+    pub next-straight : set .«by_channel» ≡ false → slot + 1 ≡ slotOfEntry (set .«by_channel») (set .channels) (set .times)
+        (i + 1)
     next-straight e =
         ap (λ (n : ℕ). n + 1) (slot-is ∙ sym (slot-straight set [] e i)) ∙ slot-straight set [] e (i + 1)
 
@@ -210,7 +215,8 @@ count-both : (g : ℕ → ℕ) (n : ℕ) → ((i : ℕ) → g i < 2) → countOf
 unfolding tab totalOf
 count-both g zero small = refl
 count-both g (suc n) small =
-    ap₂ (λ (x y : ℕ). x + y) (total-more (λ m. cond (eqb m 0) 1 0) (tab g n) (g n)) (total-more (λ m. cond (eqb m 1) 1 0) (tab g n) (g n))
+    ap₂ (λ (x y : ℕ). x + y) (total-more (λ m. cond (eqb m 0) 1 0) (tab g n) (g n))
+    (total-more (λ m. cond (eqb m 1) 1 0) (tab g n) (g n))
     ∙ omega (arith, count-both g n small, either-one (small n))
 
 module _ (set : Settled) (cell : List ℕ) where
@@ -238,7 +244,8 @@ module _ (set : Settled) (cell : List ℕ) where
         → next ≡ slotOfEntry (set .«by_channel») (set .channels) (set .times) (i + 1) → Counts (count + mark) next (i + 1)
     unfolding tab
     counts-on {mark} {next} less mark-is small next-is =
-        let here : mark ≡ entry i = mark-is ∙ ap (λ (k : ℕ). markIn (set .format) (subframeAt (set .format) cell k)) (so-far .slot-is) in
+        let here : mark ≡ entry i = mark-is ∙ ap (λ (k : ℕ). markIn (set .format) (subframeAt (set .format) cell k))
+        (so-far .slot-is) in
         let weight : mark ≡ cond (eqb (entry i) 1) 1 0
         = sym (one-or-none small) ∙ ap (λ (m : ℕ). cond (eqb m 1) 1 0) here in
         record {
@@ -295,7 +302,8 @@ limits-of octet channels order {set} settles taken =
     settled-limits octet channels order (settles ∙ settled-of octet channels order none) none
 
 -- what a state settles
-module _ (st : Receiver) (cell : List ℕ) {set : Settled} (settles : set ≡ settingsOf (st .format) (st .channels) (st .order)) where
+module _ (st : Receiver) (cell : List ℕ) {set : Settled}
+    (settles : set ≡ settingsOf (st .format) (st .channels) (st .order)) where
   refusal-is : set .refusal ≡ settingsRefusal (st .format) (st .channels) (st .order)
   refusal-is = ap (λ (x : Settled). x .refusal) settles ∙ refusal-of (st .format) (st .channels) (st .order)
 

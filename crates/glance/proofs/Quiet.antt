@@ -61,7 +61,8 @@ slot-silent cell none slot h =
     sym (zero-silent usual cell slot {subframe = numberOf (take 4 (drop (slot * 4) cell))} refl gone)
 
 -- a cell of 56 hex with no sample but zeros
-module _ (st : Receiver) (cell : List ℕ) (is-86 : st .format ≡ 86) (whole : length cell ≡ 48) (none : some (loudAt cell) 12 ≡ false) where
+module _ (st : Receiver) (cell : List ℕ) (is-86 : st .format ≡ 86) (whole : length cell ≡ 48)
+    (none : some (loudAt cell) 12 ≡ false) where
   abbrev set : Settled
   set = settingsOf (st .format) (st .channels) (st .order)
 

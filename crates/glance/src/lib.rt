@@ -48,7 +48,8 @@ fn subframe_in(format: Format, cell: &[u8], slot: usize) -> u64
 // What is protected in a subframe, as one number: its nine top sample bits, and V after them where there is one.
 fn protected(format: Format, subframe: u64) -> u64
     requires { ⌜ Sound format × (format .«overhead_bits» ≡ 4) × (subframe < 2 ^ 48) ⌝ }
-    ensures { λ r. ⌜ (r ≡ protectedBits (nineOf (format .«sample_bits») (sampleIn format subframe)) (vOf (format .«ancillary_bits») (ancillaryIn format subframe))) × (r < 1024) ⌝ }
+    ensures { λ r. ⌜ (r ≡ protectedBits (nineOf (format .«sample_bits») (sampleIn format subframe))
+        (vOf (format .«ancillary_bits») (ancillaryIn format subframe))) × (r < 1024) ⌝ }
 {
     let sample = subframe >> (format.ancillary_bits + format.overhead_bits);
     let nine = ((sample * 2) >> (format.sample_bits - 8)) % 512;
@@ -106,7 +107,8 @@ fn among(format: Format, cell: &[u8], used: usize) -> bool
 // The slot of the entry after the one in this slot.
 fn next_slot(set: Settled, used: usize, slot: usize) -> usize
     requires { ⌜ Limits set × (used ≡ usedIn set) × (slot < used) ⌝ }
-    ensures { λ r. ⌜ ((i : ℕ) → i < usedIn set → slot ≡ slotOfEntry (set .«by_channel») (set .channels) (set .times) i → r ≡ slotOfEntry (set .«by_channel») (set .channels) (set .times) (i + 1)) ⌝ }
+    ensures { λ r. ⌜ ((i : ℕ) → i < usedIn set → slot ≡ slotOfEntry (set .«by_channel») (set .channels) (set .times) i
+        → r ≡ slotOfEntry (set .«by_channel») (set .channels) (set .times) (i + 1)) ⌝ }
 {
     if !set.by_channel {
         return slot + 1;

@@ -99,7 +99,8 @@ module _ (t : Sought) (f : Found) (held piece : List ℕ) (place : ℕ) where
       let not-2 : eqb (f .what) 2 ≡ false = ne-eqb (f .what) 2 (λ two. omega arith) in
       past-one {p = whole (frontOf held)} (rw (not-1, not-2, eq-eqb (f .what) 3 three)) e
 
-  pub past-header : {r : Sought} → f .what ≡ 1 → r ≡ freshSought (headerOf (take 3 held)) → r ≡ soughtOf t (foundParts f held piece place)
+  pub past-header : {r : Sought} → f .what ≡ 1 → r ≡ freshSought (headerOf (take 3 held))
+      → r ≡ soughtOf t (foundParts f held piece place)
   unfolding foundParts pastPart
   past-header one e = past-one {p = head (headerOf (take 3 held))} (rw (eq-eqb (f .what) 1 one)) e
 
@@ -137,7 +138,8 @@ module _ (t : Sought) (f : Found) (held piece : List ℕ) (place : ℕ) where
           )) refl
 
 -- along a piece: the parts so far, and what is known behind them
-pub record Going (from : Standing) (first : Sought) (lent piece : List ℕ) (s : Standing) (t : Sought) (held : List ℕ) (place : ℕ) : Type 0 where
+pub record Going (from : Standing) (first : Sought) (lent piece : List ℕ) (s : Standing) (t : Sought) (held : List ℕ)
+    (place : ℕ) : Type 0 where
   pub parts : List Part
   pub along : Along from lent piece place s held parts
   pub knows : t ≡ soughtOf first parts
@@ -147,7 +149,8 @@ module _ {from : Standing} {first : Sought} {lent piece : List ℕ} where
   unfolding soughtOf
   going-start size = record { parts = []; along = along-start from lent piece size; knows = refl }
 
-  module _ {s : Standing} {t : Sought} {held now : List ℕ} {place : ℕ} {f : Found} (g : Going from first lent piece s t held place)
+  module _ {s : Standing} {t : Sought} {held now : List ℕ} {place : ℕ} {f : Found}
+      (g : Going from first lent piece s t held place)
       (here : place < length piece) (step : Steps s held piece place f now)
     where
       pub going-turn : {next : Sought} → next ≡ soughtOf t (foundParts f now piece place)
@@ -163,7 +166,8 @@ module _ {from : Standing} {first : Sought} {lent piece : List ℕ} where
       pub going-on : (place < f .next) × (f .next ≤ length piece)
       going-on = turn-on (g .along) here step
 
-  pub going-end : {s : Standing} {t : Sought} {held : List ℕ} {place : ℕ} → Going from first lent piece s t held place → length piece ≤ place
+  pub going-end : {s : Standing} {t : Sought} {held : List ℕ} {place : ℕ} → Going from first lent piece s t held place
+      → length piece ≤ place
       → Takes (record { standing = from; sought = first }) lent piece (record { standing = s; sought = t }) held
   going-end g end =
       let ends = along-end (g .along) end in

@@ -1,6 +1,5 @@
 -- Laws of what one record says: what the receiver wrote into three runs of 720 entries is what it hands out, and a look at the
--- cell
--- says the same.
+-- cell says the same.
 -- Assumes nothing.
 use mathlib.Core.Bool.{Bool, false}
 use mathlib.Core.List.{List, _++_}
@@ -128,7 +127,8 @@ module _ (st : Receiver) (cell : List ℕ) (indication : Bool) {samples ancillar
           rw missing-is (sym (suc-mul (gapOf st cell - 1) (usedNow st)) ∙ ap (λ (gap : ℕ). gap * usedNow st) one-more)
 
 -- what is said by the judgement and a look at the cell
-module _ (st : Receiver) (cell : List ℕ) (indication : Bool) {answer : Received} (judged : answer ≡ judgedOf st cell indication) where
+module _ (st : Receiver) (cell : List ℕ) (indication : Bool) {answer : Received}
+    (judged : answer ≡ judgedOf st cell indication) where
   abbrev record-here : Whole
   record-here = record { indication = indication; cell = cell }
 
@@ -168,7 +168,8 @@ module _ (st : Receiver) (cell : List ℕ) (indication : Bool) {answer : Receive
         ≡ some (soundAt (ownSamples st cell) (ownMarks st cell)) (usedNow st)
     unfolding entriesNow soundAt isSound
     behind-gap =
-        some-behind (soundAt (samplesNow st cell) (marksNow st cell)) (soundAt (ownSamples st cell) (ownMarks st cell)) gap (usedNow st)
+        some-behind (soundAt (samplesNow st cell) (marksNow st cell)) (soundAt (ownSamples st cell) (ownMarks st cell)) gap
+        (usedNow st)
         (λ i h. rw (in-gap 0 (ownSamples st cell) i h))
         (λ i h.
         ap₂ (λ (sample mark : ℕ). isSound sample mark) (past-gap 0 (ownSamples st cell) i) (past-gap 2 (ownMarks st cell) i))

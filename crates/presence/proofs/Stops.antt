@@ -80,8 +80,8 @@ yes-whatever-follows log more found =
     absurd (true≢false (sym found
     ∙ ap (λ (p : Presence). p .found) (presence-refused log (eqb-false (headerOf log .refusal) 0 e)))))
 
--- "It should stop at the first one. The answer must equal that of reading every record": pieces taken up to a yes answer for the whole
--- log
+-- "It should stop at the first one. The answer must equal that of reading every record": pieces taken up to a yes answer for the
+-- whole log
 pub stop-at-yes : (held : List ℕ) (ps : List (List ℕ)) (more : List ℕ) → length held ≡ 49
     → length (joinedOf ps) ≤ 18446744073709551615 → answerOver searchStart held ps .found ≡ true
     → answerOver searchStart held ps ≡ presenceOf (joinedOf ps ++ more)

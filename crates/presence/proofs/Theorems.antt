@@ -34,8 +34,8 @@ use Rattle.presence.proofs.Laws.{
 use Rattle.presence.proofs.Said.{silent, length-samples, wrote-is, same-there}
 use Rattle.presence.proofs.Walks.{presence-refused, presence-taken}
 
--- "It should stop at the first one. The answer must equal that of reading every record": with the first such record found, what is
--- read behind it can't change the answer
+-- "It should stop at the first one. The answer must equal that of reading every record": with the first such record found, what
+-- is read behind it can't change the answer
 stop-from : (n : ℕ) (before : List Heard) (h : Heard) (more : List Heard) → someOf sounds before ≡ false → sounds h ≡ true
     → answerFrom n (before ++ (h ∷ more)) ≡ yesAt (n + length before)
 unfolding someOf
@@ -99,8 +99,10 @@ module _ {st : Receiver} {r : Whole} (call : Call st r) where
         written = omega (
           arith,
           where-it-is .within,
-          length-samples st (r .cell) (r .indication) (call .meets) (call .samples-lent) (call .ancillary-lent) (call .marks-lent) taken,
-          wrote-is st (r .cell) (r .indication) (call .meets) (call .samples-lent) (call .ancillary-lent) (call .marks-lent) taken,
+          length-samples st (r .cell) (r .indication) (call .meets) (call .samples-lent) (call .ancillary-lent)
+              (call .marks-lent) taken,
+          wrote-is st (r .cell) (r .indication) (call .meets) (call .samples-lent) (call .ancillary-lent)
+              (call .marks-lent) taken,
         );
         sample = eqb-false (getD (call .samples-after) (where-it-is .place) 0) 0 (not-true _ (both .0));
         mark = eqb-true (getD (call .marks-after) (where-it-is .place) 0) 0 (both .1);
@@ -112,11 +114,16 @@ module _ {st : Receiver} {r : Whole} (call : Call st r) where
       let within : out .place < length (h .samples) = omega (
         arith,
         out .written,
-        length-samples st (r .cell) (r .indication) (call .meets) (call .samples-lent) (call .ancillary-lent) (call .marks-lent) (out .taken),
-        wrote-is st (r .cell) (r .indication) (call .meets) (call .samples-lent) (call .ancillary-lent) (call .marks-lent) (out .taken),
+        length-samples st (r .cell) (r .indication) (call .meets) (call .samples-lent) (call .ancillary-lent) (call .marks-lent)
+            (out .taken),
+        wrote-is st (r .cell) (r .indication) (call .meets) (call .samples-lent) (call .ancillary-lent) (call .marks-lent)
+            (out .taken),
       ) in
       let there : soundAt (call .samples-after) (call .marks-after) (out .place) ≡ true =
-      rw (ne-eqb (getD (call .samples-after) (out .place) 0) 0 (out .sample), eq-eqb (getD (call .marks-after) (out .place) 0) 0 (out .mark)) in
+      rw (
+        ne-eqb (getD (call .samples-after) (out .place) 0) 0 (out .sample),
+        eq-eqb (getD (call .marks-after) (out .place) 0) 0 (out .mark),
+      ) in
       true≢false
       (sym (some-here (soundAt (h .samples) (h .marks)) (length (h .samples)) (out .place) within
       (sym (same (out .taken) (out .place) within) ∙ there)) ∙ f)
@@ -199,7 +206,8 @@ module _ (log : List ℕ) where
 
   -- "a no tells how many whole records were read": it hands out none in any of them
   pub no-is-silent : headerOf log .refusal ≡ 0 → presenceOf log .found ≡ false
-      → (presenceOf log .number ≡ length (recordsIn (behindHeader log))) × AllSilent (freshOf (headerOf log)) (recordsIn (behindHeader log))
+      → (presenceOf log .number ≡ length (recordsIn (behindHeader log)))
+      × AllSilent (freshOf (headerOf log)) (recordsIn (behindHeader log))
   no-is-silent none e =
       let is = presence-taken log none in
       let silent-all : someOf sounds heard ≡ false = sym (answer-found heard) ∙ sym (ap (λ (p : Presence). p .found) is) ∙ e in (

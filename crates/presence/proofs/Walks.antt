@@ -49,11 +49,13 @@ module _ (log : List ℕ) (st : Receiver) (place n : ℕ) where
   at-end none = ap (λ (w : Walk). answerFrom n (heardFrom st (w .records))) (stop-at log place none) ∙ from-none n
 
 -- the walk's first answer is the one behind the header
-pub begun : (header : Header) (log : List ℕ) {st : Receiver} → st ≡ freshOf header → answerAt log st (header .place) 0 ≡ readFrom header log
+pub begun : (header : Header) (log : List ℕ) {st : Receiver} → st ≡ freshOf header
+    → answerAt log st (header .place) 0 ≡ readFrom header log
 begun header log fresh = ap (λ (s : Receiver). answerAt log s (header .place) 0) fresh ∙ sym (from-start _)
 
 -- along the records: the answer is still the one from here on
-pub record Along (log : List ℕ) (st₀ : Receiver) (place₀ number₀ : ℕ) (st : Receiver) (place number : ℕ) (found : Record) : Type 0 where
+pub record Along (log : List ℕ) (st₀ : Receiver) (place₀ number₀ : ℕ) (st : Receiver) (place number : ℕ)
+    (found : Record) : Type 0 where
   pub read : found ≡ recordAt log place
   pub few : number ≤ place
   pub still : answerAt log st₀ place₀ number₀ ≡ answerAt log st place number
@@ -78,7 +80,8 @@ module _ {log : List ℕ} {st₀ st : Receiver} {place₀ number₀ place number
       pub inside : place + 49 ≤ length log
       inside = cell-facts log place there .0
 
-      module _ {said : Said} {cell : List ℕ} (cell-is : cell ≡ cellAt log place) (said-is : said ≡ saidOf st cell (found .indication)) where
+      module _ {said : Said} {cell : List ℕ} (cell-is : cell ≡ cellAt log place)
+          (said-is : said ≡ saidOf st cell (found .indication)) where
         says : said ≡ saidOf st (cellAt log place) (recordAt log place .indication)
         says = said-is ∙ ap₂ (λ (c : List ℕ) (r : Record). saidOf st c (r .indication)) cell-is (a .read)
 

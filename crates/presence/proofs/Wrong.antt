@@ -115,12 +115,14 @@ module _ (κs : Lfts 2) (p q : Place) where
 module _ (κs : Lfts 1) (p : Place) where
   abbrev Line : Presence → (Put → List ℕ → Type 0) → Type 0
   Line answer Wrong =
-      Never put-line-kinds.ps put-line-kinds.r put-line-reads.Post κs (answer, (lent p (zeros 100), tt)) (λ x v. Wrong x (v .1 .0))
+      Never put-line-kinds.ps put-line-kinds.r put-line-reads.Post κs (answer, (lent p (zeros 100), tt))
+      (λ x v. Wrong x (v .1 .0))
 
   -- a no written for a yes
   pub yes-isn't-no : Line (yesAt 7) (λ x run. run ≡ over (words "no 7\n") (zeros 100))
   unfolding search-unfolded over
-  yes-isn't-no x v wrong s = let letter : _≡_ {A = ℕ} 110 121 = ap (λ (l : List ℕ). getD l 0 0) (sym wrong ∙ s .wrote) in omega arith
+  yes-isn't-no x v wrong s =
+      let letter : _≡_ {A = ℕ} 110 121 = ap (λ (l : List ℕ). getD l 0 0) (sym wrong ∙ s .wrote) in omega arith
 
   -- nothing written
   pub line-isn't-empty : Line (yesAt 7) (λ x run. x .octets ≡ 0)

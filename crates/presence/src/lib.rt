@@ -73,8 +73,7 @@ pub fn anything(log: &[u8]) -> Presence
 }
 
 // What is known behind a part of a log: the receiver's state, and the answer so far. Until a record says yes its number is how
-// many
-// whole records were read.
+// many whole records were read.
 pub struct Sought {
     pub state: Receiver,
     pub refusal: u8,
@@ -145,7 +144,8 @@ pub fn end(search: Search, held: [u8; 49]) -> Presence
 
 // A line of words and a number.
 fn number_line(run: &mut [u8], begins: &[u8], n: usize) -> Put
-    ensures { λ r. ⌜ Puts (now (run .entry)) (record { octets = 0; whole = true }) (now (run .exit)) r (item (now (begins .entry)) n ++ words "\n") ⌝ }
+    ensures { λ r. ⌜ Puts (now (run .entry)) (record { octets = 0; whole = true }) (now (run .exit)) r
+        (item (now (begins .entry)) n ++ words "\n") ⌝ }
 {
     let start = Put {
         octets: 0,

@@ -10,8 +10,7 @@ pub(crate) struct Said {
 }
 
 // Judges a cell with room for all that one call can write, and looks at its own entries where it is taken. Those of missing cells
-// are
-// zero. Nothing is written.
+// are zero. Nothing is written.
 pub(crate) fn heard(state: Receiver, cell: &[u8], indication: bool) -> Said
     ensures { λ r. ⌜ r ≡ saidOf state (now (cell .entry)) indication ⌝ }
 {

@@ -17,10 +17,14 @@ loop-holds : tie.Need-loop-holds Inv-loop μ-loop
 loop-holds c = refl
 
 same-length : tie.Need-same-length Inv-loop μ-loop
-same-length c = c .before .before .before .before .read .kept .1 .0 ∙ c .before .before .before .before .before .before .before .before .loop .inv
+same-length c =
+    c .before .before .before .before .read .kept .1 .0
+    ∙ c .before .before .before .before .before .before .before .before .loop .inv
 
 same-length-2 : tie.Need-same-length-2 Inv-loop μ-loop
-same-length-2 c = c .before .before .before .before .before .before .before .before .read .kept .1 .0 ∙ c .before .before .before .before .before .before .before .before .before .before .before .before .loop .inv
+same-length-2 c =
+    c .before .before .before .before .before .before .before .before .read .kept .1 .0
+    ∙ c .before .before .before .before .before .before .before .before .before .before .before .before .loop .inv
 
 -- the way back from the end of a turn to the read
 abbrev at-read : tie.After-less Inv-loop μ-loop → tie.After-read Inv-loop μ-loop

@@ -12,7 +12,8 @@ use Rattle.anything.proofs.finish.Tie as tie
 
 array-share-prefix-text : tie.Need-array-share-prefix-text
 array-share-prefix-text c =
-    omega (arith, writes-whole (c .before .put-line .ensures) (omega (arith, length-replicate {A = ℕ} 64 0)) .1, length-replicate {A = ℕ} 64 0)
+    let long = length-replicate {A = ℕ} 64 0 in
+    omega (arith, writes-whole (c .before .put-line .ensures) (omega (arith, long)) .1, long)
 
 slice-aggregate-print : tie.Need-slice-aggregate-print
 slice-aggregate-print c = sym (length-take-le _ _ (array-share-prefix-text (c .before)))
@@ -23,4 +24,5 @@ print-requires c κs = writes-whole (c .before .before .put-line .ensures) (omeg
 pub finish-spec : {M : Type 1} → statement M
 finish-spec =
     tie.close
-    (tie.spec (search needs) (search needs) (search needs) array-share-prefix-text slice-aggregate-print print-requires (search needs))
+    (tie.spec (search needs) (search needs) (search needs) array-share-prefix-text slice-aggregate-print print-requires
+    (search needs))

@@ -14,7 +14,8 @@ returns : tie.Need-returns
 returns c =
     let at-count = c .before .before .before in
     let start = at-count .before .before in
-    let said = at-count .count .ensures .1 ∙ ap (λ (z : ℤ). clamped z (length (start .args .buffer .now))) (toZ-ofZ (start .fits .got)) in
+    let said = at-count .count .ensures .1 ∙ ap (λ (z : ℤ). clamped z (length (start .args .buffer .now)))
+    (toZ-ofZ (start .fits .got)) in
     handed-on (start .args .buffer .now) said (c .take .ensures)
 
 pub take-read-spec : {M : Type 1} → statement M

@@ -29,7 +29,8 @@ sounds-at-requires c κs =
 returns : tie.Need-returns Inv-loop μ-loop
 returns c =
     let l = c .before .before .before in
-    sym (some-here _ _ (l .loop .slot) (c .before .before .loop-test .taken) (sym (c .before .sounds-at .ensures) ∙ c .if1 .taken))
+    sym (some-here _ _ (l .loop .slot) (c .before .before .loop-test .taken)
+    (sym (c .before .sounds-at .ensures) ∙ c .if1 .taken))
 
 loop-again : tie.Need-loop-again Inv-loop μ-loop
 loop-again c =

@@ -33,9 +33,11 @@ returns c =
 
 loop-again : tie.Need-loop-again Inv-loop μ-loop
 loop-again c =
-    let l = c .before .before .before in
-    (search needs, some-more _ (l .loop .slot) (l .loop .inv .1)
-    (quiet-here _ (l .loop .slot) (c .before .number-in .ensures .0) (c .if1 .left)))
+    let l = c .before .before .before in (
+      search needs,
+      some-more _ (l .loop .slot) (l .loop .inv .1)
+          (quiet-here _ (l .loop .slot) (c .before .number-in .ensures .0) (c .if1 .left)),
+    )
 
 returns-2 : tie.Need-returns-2 Inv-loop μ-loop
 returns-2 c = some-all _ (c .before .loop .inv .0) (omega (arith, c .loop-test .left)) (c .before .loop .inv .1)
@@ -43,4 +45,5 @@ returns-2 c = some-all _ (c .before .loop .inv .0) (omega (arith, c .loop-test .
 pub loud-spec : {M : Type 1} → statement M
 loud-spec =
     tie.close
-    (tie.spec Inv-loop μ-loop loop-holds (search needs) number-in-requires returns (search needs) (search needs) loop-again returns-2)
+    (tie.spec Inv-loop μ-loop loop-holds (search needs) number-in-requires returns (search needs)
+    (search needs) loop-again returns-2)

@@ -39,5 +39,6 @@ returns-3 c =
 pub marked-spec : {M : Type 1} → statement M
 marked-spec =
     tie.close
-    (tie.spec (search needs) (search needs) (search needs) settings-requires returns returns-2 mul-used damaged-in-requires sub-t10
+    (tie.spec (search needs) (search needs)
+    (search needs) settings-requires returns returns-2 mul-used damaged-in-requires sub-t10
     returns-3)

@@ -21,4 +21,5 @@ returns-2 c =
 pub protected-spec : {M : Type 1} → statement M
 protected-spec =
     tie.close
-    (tie.spec (search needs) (search needs) mul-nine (search needs) (search needs) returns (search needs) (search needs) returns-2)
+    (tie.spec (search needs) (search needs) mul-nine (search needs) (search needs) returns (search needs)
+    (search needs) returns-2)

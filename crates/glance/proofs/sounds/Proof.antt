@@ -36,4 +36,5 @@ returns-4 c =
 pub sounds-spec : {M : Type 1} → statement M
 sounds-spec =
     tie.close
-    (tie.spec (search needs) returns (search needs) (search needs) (search needs) settings-requires returns-2 returns-3 mul-used among-requires returns-4)
+    (tie.spec (search needs) returns (search needs) (search needs)
+    (search needs) settings-requires returns-2 returns-3 mul-used among-requires returns-4)

@@ -7,7 +7,8 @@ use Rattle.presence.proofs.put_line.Tie as tie
 
 returns : tie.Need-returns
 returns c =
-    writes _ (line-refused _ (c .before .before .before .before .before .before .if1 .taken)) (c .before .before .number-line .ensures)
+    writes _ (line-refused _ (c .before .before .before .before .before .before .if1 .taken))
+    (c .before .before .number-line .ensures)
 
 returns-2 : tie.Need-returns-2
 returns-2 c =

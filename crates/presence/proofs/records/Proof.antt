@@ -35,7 +35,8 @@ returns : tie.Need-returns Inv-loop μ-loop
 returns c =
     let h = c .before in
     let l = at-loop h in
-    along-yes (l .loop .inv) (h .before .before .if1 .taken) (h .before .read-cell .ensures .0) (h .heard .ensures) (c .if2 .taken)
+    along-yes (l .loop .inv) (h .before .before .if1 .taken) (h .before .read-cell .ensures .0) (h .heard .ensures)
+    (c .if2 .taken)
     ∙ begun (start l .args .header) (start l .args .log .now) (ap (λ (r : Ready). r .state) (opened l .opened .ensures))
 
 add-number : tie.Need-add-number Inv-loop μ-loop
@@ -72,5 +73,6 @@ returns-2 c =
 pub records-spec : {M : Type 1} → statement M
 records-spec =
     tie.close
-    (tie.spec Inv-loop μ-loop (search needs) (search needs) loop-holds (search needs) (search needs) returns add-number (search needs)
+    (tie.spec Inv-loop μ-loop (search needs) (search needs) loop-holds (search needs) (search needs) returns add-number
+    (search needs)
     loop-less loop-again returns-2)

@@ -19,7 +19,8 @@ returns-2 c =
     past-yes _ _ (h .before .before .before .if1 .left)
     (h .heard .ensures
     ∙ (λ i.
-    saidOf (start .args .sought .state) (h .before .read-cell .ensures .0 i) (h .before .before .read-record .ensures i .indication)))
+    saidOf (start .args .sought .state) (h .before .read-cell .ensures .0 i)
+    (h .before .before .read-record .ensures i .indication)))
     (c .if2 .taken)
 
 returns-3 : tie.Need-returns-3
@@ -30,7 +31,8 @@ returns-3 c =
     past-no _ _ (h .before .before .before .if1 .left)
     (h .heard .ensures
     ∙ (λ i.
-    saidOf (start .args .sought .state) (h .before .read-cell .ensures .0 i) (h .before .before .read-record .ensures i .indication)))
+    saidOf (start .args .sought .state) (h .before .read-cell .ensures .0 i)
+    (h .before .before .read-record .ensures i .indication)))
     (c .before .if2 .left) (c .wrapping-add-usize .ensures)
 
 pub past-front-spec : {M : Type 1} → statement M

@@ -56,5 +56,6 @@ returns-6 c =
 pub step-spec : {M : Type 1} → statement M
 step-spec =
     tie.close
-    (tie.spec add-end (search needs) (search needs) part-past-front-end (search needs) returns (search needs) returns-2 (search needs)
+    (tie.spec add-end (search needs) (search needs) part-past-front-end (search needs) returns (search needs) returns-2
+    (search needs)
     returns-3 returns-4 (search needs) returns-5 returns-6)
