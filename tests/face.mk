@@ -16,6 +16,7 @@ ARCHIVE := $(RIME_LIB)/librimesatchel.a
 MANAGEMENT := $(RIME_LIB)/libmanagement.a
 COMPARE := target/compare/release/compare
 LINELIST := target/bin/linelist
+ANYTHING := target/bin/anything
 EXAMPLES := target/examples
 GATE_CALLS := 400000
 GATE_SEED := 1
@@ -28,7 +29,7 @@ WARNINGS := -Wall -Wextra
 BENCH_FLAGS := -O3 -std=gnu11 $(WARNINGS) -falign-functions=64 -falign-loops=32
 
 .PHONY: face-build face-test face-compare face-examples face-archive fuzz
-.PHONY: bench-build bench bench-count bench-table bench-keep bench-guard bench-list fuzz-list
+.PHONY: bench-build bench bench-count bench-table bench-keep bench-guard bench-list bench-anything fuzz-list
 
 # Proves again only what changed, so that nothing is measured or compared that isn't in the crates.
 face-archive:
@@ -123,7 +124,7 @@ bench-build: face-archive
 
 bench: bench-build
 	python3 bench/run.py target/bench/bench '$(ROWS)'
-	$(MAKE) --no-print-directory -f tests/face.mk bench-list
+	$(MAKE) --no-print-directory -f tests/face.mk bench-list bench-anything
 
 target/bench/plainlist: bench/plainlist.c
 	mkdir -p target/bench
@@ -131,6 +132,13 @@ target/bench/plainlist: bench/plainlist.c
 
 bench-list: target/bench/plainlist
 	python3 bench/list.py $(LINELIST) target/bench/plainlist
+
+target/bench/plainanything: bench/plainanything.c
+	mkdir -p target/bench
+	gcc $(BENCH_FLAGS) $< -o $@
+
+bench-anything: target/bench/plainanything
+	python3 bench/anything.py $(ANYTHING) target/bench/plainanything
 
 bench-count: bench-build
 	python3 bench/run.py --count target/bench/bench '$(ROWS)'

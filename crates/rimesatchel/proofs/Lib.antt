@@ -1,4 +1,6 @@
 pub mod BoxesOne
+pub mod ContentsOne
+pub mod ContentsWrong
 pub mod FramesOne
 pub mod FramesWrong
 pub mod Leaves

@@ -17,6 +17,7 @@ pub enum Kind {
     ReadRecord,
     Linelist,
     LinelistLimit,
+    Anything,
     Salvage,
     Aes3Import,
     Aes3Export,
@@ -35,7 +36,7 @@ impl Kind {
 }
 
 /// Kind, name, and the fields in and out: n a number, r a run of numbers or a state, o octets.
-const KINDS: [(Kind, &str, &str, &str); 20] = [
+const KINDS: [(Kind, &str, &str, &str); 21] = [
     (Kind::SenderOpen, "sender_open", "nnnnnn", "nr"),
     (Kind::ReceiverOpen, "receiver_open", "nnn", "nr"),
     (Kind::Send, "send", "rnrro", "nro"),
@@ -47,6 +48,7 @@ const KINDS: [(Kind, &str, &str, &str); 20] = [
     (Kind::ReadRecord, "read_record", "on", "nnnnn"),
     (Kind::Linelist, "linelist", "o", "o"),
     (Kind::LinelistLimit, "linelist_limit", "on", "o"),
+    (Kind::Anything, "anything", "o", "nnn"),
     (Kind::Salvage, "salvage", "oor", "nornnn"),
     (Kind::Aes3Import, "aes3_import", "or", "nrr"),
     (Kind::Aes3Export, "aes3_export", "rr", "nor"),
