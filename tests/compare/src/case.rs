@@ -16,6 +16,7 @@ pub enum Kind {
     ReadRecord,
     Linelist,
     LinelistLimit,
+    Sheet,
     Aes3Import,
     Aes3Export,
 }
@@ -27,7 +28,7 @@ impl Kind {
 }
 
 /// Kind, name, and the fields in and out: n a number, r a run of numbers or a state, o octets.
-const KINDS: [(Kind, &str, &str, &str); 12] = [
+const KINDS: [(Kind, &str, &str, &str); 13] = [
     (Kind::SenderOpen, "sender_open", "nnnnnn", "nr"),
     (Kind::ReceiverOpen, "receiver_open", "nnn", "nr"),
     (Kind::Send, "send", "rnrro", "nro"),
@@ -38,6 +39,7 @@ const KINDS: [(Kind, &str, &str, &str); 12] = [
     (Kind::ReadRecord, "read_record", "on", "nnnnn"),
     (Kind::Linelist, "linelist", "o", "o"),
     (Kind::LinelistLimit, "linelist_limit", "on", "o"),
+    (Kind::Sheet, "sheet", "orn", "nrr"),
     (Kind::Aes3Import, "aes3_import", "or", "nrr"),
     (Kind::Aes3Export, "aes3_export", "rr", "nor"),
 ];

@@ -8,12 +8,14 @@ mod boxes;
 mod cable;
 mod cells;
 mod log;
+mod sheet;
 mod status;
 
 pub use boxes::{Receiver, Sender};
 pub use cable::{export_frame, import_frame};
 pub use cells::Shape;
 pub use log::{header, listing, listing_to, record, Record};
+pub use sheet::sheet;
 pub use status::{check_character, step, Block, Character};
 
 /// The paper's number for a no.

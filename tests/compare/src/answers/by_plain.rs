@@ -16,6 +16,7 @@ pub fn by_plain(case: &Case) -> Answer {
         Kind::ReadRecord => read_record(case),
         Kind::Linelist => values![plain::listing(case.octets(0)).as_bytes()],
         Kind::LinelistLimit => values![plain::listing_to(case.octets(0), case.number(1)).as_bytes()],
+        Kind::Sheet => sheet(case),
         Kind::Aes3Import => aes3_import(case),
         Kind::Aes3Export => aes3_export(case),
     }
@@ -122,6 +123,14 @@ fn read_record(case: &Case) -> Answer {
         Ok(Record::Cell { indication, start, next }) => values![0, 1, indication, start as u64, next as u64],
         Ok(Record::End) => values![0, 0, 0, 0, place],
         Err(refusal) => values![u64::from(refusal), 0, 0, 0, 0],
+    }
+}
+
+/// No rows where it is refused: the run stays.
+fn sheet(case: &Case) -> Answer {
+    match plain::sheet(case.octets(0), case.run(1), case.number(2) as usize) {
+        Ok(sheet) => values![0, &sheet.rows.concat()[..], &sheet.totals[..]],
+        Err(refusal) => values![u64::from(refusal), &[0u64; 0][..], &[0u64; 10][..]],
     }
 }
 

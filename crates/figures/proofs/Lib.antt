@@ -1,0 +1,5 @@
+pub mod Adds
+pub mod Cells
+pub mod Laws
+pub mod Marks
+pub mod Walks
