@@ -1,5 +1,6 @@
 /*
- * The proved sender and receiver, and the AES3 cable's calls (frames.c), beside the baseline of plain.c, in one process.
+ * The proved sender and receiver, the AES3 cable's calls (frames.c) and the data units' calls (units.c), beside the baseline of
+ * plain.c, in one process.
  *
  *   bench rows                the rows' names, one a line
  *   bench times [ROWS]        ns per cell of each row: the least of many batches, the two taking turns
@@ -18,6 +19,7 @@
 #include "frames.h"
 #include "plain.h"
 #include "rimesatchel.h"
+#include "units.h"
 
 enum { CELLS = 16, BATCH = 10 * CELLS, REPEATS = 1000, MOST_ENTRIES = 15 * RIME_MOST_SLOTS };
 
@@ -63,6 +65,9 @@ static const struct format formats[] = {
     {0x43, 24, 12, true, false},
     {0x45, 16, 20, true, false},
     {0x47, 12, 28, true, false},
+    {0x13, 24, 12, false, true},
+    {0x15, 16, 20, false, true},
+    {0x17, 12, 28, false, true},
     {0x52, 24, 8, true, true},
     {0x54, 16, 16, true, true},
     {0x56, 12, 24, true, true},
@@ -263,5 +268,6 @@ int main(int argc, char **argv) {
         function(&rows[at]);
     }
     frames_rows(argv[1], &pattern);
+    units_rows(argv[1], &pattern);
     return 0;
 }

@@ -1,6 +1,7 @@
 /*
  * Packing and unpacking as a good embedded engineer writes them: one generic loop over the slots for every format, a
- * protection table of 512 octets, all of the refusals. The proved functions are measured against these.
+ * protection table of 512 octets with V and one without, all of the refusals. The proved functions are measured against
+ * these.
  */
 #include "plain.h"
 
@@ -11,7 +12,7 @@
 /* gcc would clone a function for the constants that its caller passes, and look faster than it is in use. */
 #define MEASURED __attribute__((noipa))
 
-/* What a subframe octet says; no slots where it is none of the eleven. */
+/* What a subframe octet says; no slots where it is none of the fourteen. */
 struct format {
     uint8_t sample_bits, slots;
     bool ancillary, overhead;
@@ -30,16 +31,20 @@ static const uint8_t number_words[16] = {
 
 static const uint8_t turned[16] = {0, 8, 4, 12, 2, 10, 6, 14, 1, 9, 5, 13, 3, 11, 7, 15};
 
-/* x^(4+k) modulo x^3 + x + 1 for the nine bits k of a sample's top, and x^3 for V. */
+/*
+ * x^(3+k) modulo x^3 + x + 1 for the ten bits k of the nine at a sample's top and V. The second table is for V = 0; where
+ * there is no V at all the nine stand one place lower, as in the first.
+ */
 #define BIT(n, k, remainder) ((n) >> (k) & 1 ? (remainder) : 0)
-#define P1(n)                                                                                                 \
-    (7 ^ BIT(n, 0, 6) ^ BIT(n, 1, 7) ^ BIT(n, 2, 5) ^ BIT(n, 3, 1) ^ BIT(n, 4, 2) ^ BIT(n, 5, 4) ^ BIT(n, 6, 3) ^ \
-     BIT(n, 7, 6) ^ BIT(n, 8, 7))
-#define P8(n) P1(n), P1(n + 1), P1(n + 2), P1(n + 3), P1(n + 4), P1(n + 5), P1(n + 6), P1(n + 7)
-#define P64(n) P8(n), P8(n + 8), P8(n + 16), P8(n + 24), P8(n + 32), P8(n + 40), P8(n + 48), P8(n + 56)
-static const uint8_t protections[512] = {
-    P64(0), P64(64), P64(128), P64(192), P64(256), P64(320), P64(384), P64(448),
-};
+#define P1(n)                                                                                                     \
+    (7 ^ BIT(n, 0, 3) ^ BIT(n, 1, 6) ^ BIT(n, 2, 7) ^ BIT(n, 3, 5) ^ BIT(n, 4, 1) ^ BIT(n, 5, 2) ^ BIT(n, 6, 4) ^ \
+     BIT(n, 7, 3) ^ BIT(n, 8, 6) ^ BIT(n, 9, 7))
+#define P4(n, step) P1(n), P1((n) + (step)), P1((n) + 2 * (step)), P1((n) + 3 * (step))
+#define P16(n, step) P4(n, step), P4((n) + 4 * (step), step), P4((n) + 8 * (step), step), P4((n) + 12 * (step), step)
+#define P64(n, step) P16(n, step), P16((n) + 16 * (step), step), P16((n) + 32 * (step), step), P16((n) + 48 * (step), step)
+#define P256(n, step) P64(n, step), P64((n) + 64 * (step), step), P64((n) + 128 * (step), step), P64((n) + 192 * (step), step)
+#define P512(step) P256(0, step), P256(256 * (step), step)
+static const uint8_t protections[2][512] = {{P512(1)}, {P512(2)}};
 #define REMAINDER_OF_V 3
 
 static struct format format_of(uint8_t octet) {
@@ -51,6 +56,9 @@ static struct format format_of(uint8_t octet) {
     case 0x43: return (struct format){12, 24, true, false};
     case 0x45: return (struct format){20, 16, true, false};
     case 0x47: return (struct format){28, 12, true, false};
+    case 0x13: return (struct format){12, 24, false, true};
+    case 0x15: return (struct format){20, 16, false, true};
+    case 0x17: return (struct format){28, 12, false, true};
     case 0x52: return (struct format){8, 24, true, true};
     case 0x54: return (struct format){16, 16, true, true};
     case 0x56: return (struct format){24, 12, true, true};
@@ -92,9 +100,9 @@ static inline void advance(struct cursor *cursor, const struct layout *layout) {
     }
 }
 
-static inline uint8_t protection(uint64_t sample, unsigned sample_bits, uint8_t ancillary) {
-    uint64_t nine = sample_bits == 8 ? sample << 1 : sample >> (sample_bits - 9);
-    return protections[nine] ^ (ancillary & 1 ? REMAINDER_OF_V : 0);
+static inline uint8_t protection(struct format format, uint64_t sample, uint8_t ancillary) {
+    uint64_t nine = format.sample_bits == 8 ? sample << 1 : sample >> (format.sample_bits - 9);
+    return protections[format.ancillary][nine] ^ (ancillary & 1 ? REMAINDER_OF_V : 0);
 }
 
 static uint8_t check_sender(const uint8_t *state, struct layout *layout) {
@@ -128,7 +136,7 @@ static void pack(const struct layout *layout, uint32_t sequencing, const uint64_
         uint8_t four = used ? ancillary[cursor.entry] : 0;
         uint64_t word = format.ancillary ? sample << 4 | four : sample;
         if (format.overhead) {
-            word = word << 4 | (sequencing >> 31) << 3 | protection(sample, format.sample_bits, four);
+            word = word << 4 | (sequencing >> 31) << 3 | protection(format, sample, four);
             sequencing <<= 1;
         }
         for (size_t octet = layout->octets; octet-- > 0;) *cell++ = (uint8_t)(word >> 8 * octet);
@@ -157,12 +165,19 @@ MEASURED uint8_t plain_send(uint8_t state[7], bool indication, const uint64_t *s
     return RIME_DONE;
 }
 
+/* Cells placed since the opening: four octets, least significant first. */
+static uint32_t count_of(const uint8_t *state) {
+    const uint8_t *octets = state + RIME_RECEIVER_COUNT;
+    return octets[0] | octets[1] << 8 | octets[2] << 16 | (uint32_t)octets[3] << 24;
+}
+
 static uint8_t check_receiver(const uint8_t *state, struct layout *layout) {
     uint8_t refusal = layout_of(state, layout);
     if (refusal != RIME_DONE) return refusal;
     uint8_t last = state[RIME_RECEIVER_LAST];
     bool may_count = state[RIME_RECEIVER_STARTED] != 0 && layout->format.overhead;
-    return last > (may_count ? 15 : 0) ? RIME_REFUSED_STATE : RIME_DONE;
+    if (last > (may_count ? 15 : 0)) return RIME_REFUSED_STATE;
+    return state[RIME_RECEIVER_STARTED] == 0 && count_of(state) != 0 ? RIME_REFUSED_STATE : RIME_DONE;
 }
 
 /* The first twelve sequencing bits, the first one on top; the cell has overhead. With S = 8 the last four are 0. */
@@ -186,12 +201,12 @@ static void unpack(const struct layout *layout, const uint8_t *cell, uint64_t *s
         uint64_t sample = format.ancillary ? word >> 4 : word;
         samples[cursor.entry] = sample;
         ancillary[cursor.entry] = four;
-        marks[cursor.entry] = format.overhead && received != protection(sample, format.sample_bits, four);
+        marks[cursor.entry] = format.overhead && received != protection(format, sample, four);
         advance(&cursor, layout);
     }
 }
 
-MEASURED uint8_t plain_receive(uint8_t state[5], const uint8_t *cell, size_t cell_len, bool indication,
+MEASURED uint8_t plain_receive(uint8_t state[9], const uint8_t *cell, size_t cell_len, bool indication,
                                uint64_t *samples, size_t samples_len, uint8_t *ancillary, size_t ancillary_len,
                                uint8_t *marks, size_t marks_len, uint8_t report[4]) {
     struct layout layout;
@@ -211,6 +226,8 @@ MEASURED uint8_t plain_receive(uint8_t state[5], const uint8_t *cell, size_t cel
     bool counts = layout.format.overhead && state[RIME_RECEIVER_STARTED] != 0;
     size_t steps = counts ? (size_t)(number - state[RIME_RECEIVER_LAST]) % 16 : 1;
     if (steps == 0) return RIME_REFUSED_REPEAT;
+    uint64_t count = count_of(state) + (uint64_t)steps;
+    if (count > UINT32_MAX) return RIME_REFUSED_COUNT;
     if (samples_len < steps * layout.entries) return RIME_REFUSED_ROOM;
     size_t missing = (steps - 1) * layout.entries;
     memset(samples, 0, missing * sizeof *samples);
@@ -219,6 +236,7 @@ MEASURED uint8_t plain_receive(uint8_t state[5], const uint8_t *cell, size_t cel
     unpack(&layout, cell, samples + missing, ancillary + missing, marks + missing);
     state[RIME_RECEIVER_STARTED] = true;
     state[RIME_RECEIVER_LAST] = number;
+    for (int octet = 0; octet < 4; octet++) state[RIME_RECEIVER_COUNT + octet] = (uint8_t)(count >> 8 * octet);
     report[RIME_REPORT_MISSING] = (uint8_t)(steps - 1);
     report[RIME_REPORT_NUMBER] = number;
     report[RIME_REPORT_SECOND] = second;
@@ -252,5 +270,55 @@ MEASURED uint8_t plain_aes3_export(const uint64_t samples[2], const uint8_t anci
         uint32_t word = (uint32_t)samples[half] << 4 | (uint32_t)(ancillary[half] & 7) << 28;
         subframes[half] = word | (uint32_t)__builtin_parity(word) << 31;
     }
+    return RIME_DONE;
+}
+
+/* A format by a number that may be no octet. */
+static struct format format_told(uint32_t octet) { return octet > UINT8_MAX ? format_of(0) : format_of((uint8_t)octet); }
+
+MEASURED uint8_t plain_units_export(uint32_t octet, uint32_t channels, size_t size, const uint64_t *samples,
+                                    size_t samples_len, const uint8_t *ancillary, size_t ancillary_len, uint8_t *out,
+                                    size_t out_len, uint64_t units[3]) {
+    const struct format format = format_told(octet);
+    memset(units, 0, 3 * sizeof *units);
+    if (format.slots == 0) return RIME_REFUSED_FORMAT;
+    if (channels == 0 || channels > format.slots) return RIME_REFUSED_CHANNELS;
+    if (samples_len != ancillary_len || samples_len % channels != 0) return RIME_REFUSED_LENGTH;
+    const struct layout layout = {.format = format, .entries = samples_len};
+    if (!fit(&layout, samples, ancillary)) return RIME_REFUSED_SAMPLE;
+    if (format.overhead) return RIME_REFUSED_OVERHEAD;
+    size_t octets = RIME_CELL_OCTETS / format.slots, frame = channels * octets;
+    if (size < frame) return RIME_REFUSED_UNIT_SIZE;
+    if (out_len < samples_len * octets) return RIME_REFUSED_UNIT_ROOM;
+    for (size_t entry = 0; entry < samples_len; entry++) {
+        uint64_t word = format.ancillary ? samples[entry] << 4 | ancillary[entry] : samples[entry];
+        for (size_t left = octets; left-- > 0;) *out++ = (uint8_t)(word >> 8 * left);
+    }
+    size_t frames = samples_len / channels, in_full = size / frame;
+    units[RIME_UNITS_OCTETS] = samples_len * octets;
+    units[RIME_UNITS_FULL] = in_full * frame;
+    units[RIME_UNITS_COUNT] = frames / in_full + (frames % in_full != 0);
+    return RIME_DONE;
+}
+
+MEASURED uint8_t plain_unit_read(uint32_t octet, uint32_t channels, const uint8_t *unit, size_t unit_len,
+                                 uint64_t *samples, size_t samples_len, uint8_t *ancillary, size_t ancillary_len,
+                                 uint64_t *entries) {
+    const struct format format = format_told(octet);
+    *entries = 0;
+    if (format.slots == 0) return RIME_REFUSED_FORMAT;
+    if (channels == 0 || channels > format.slots) return RIME_REFUSED_CHANNELS;
+    size_t octets = RIME_CELL_OCTETS / format.slots, frame = channels * octets;
+    if (samples_len != ancillary_len || unit_len == 0 || unit_len % frame != 0) return RIME_REFUSED_LENGTH;
+    if (format.overhead) return RIME_REFUSED_OVERHEAD;
+    size_t count = unit_len / octets;
+    if (samples_len < count) return RIME_REFUSED_UNIT_ROOM;
+    for (size_t entry = 0; entry < count; entry++) {
+        uint64_t word = 0;
+        for (size_t octet = 0; octet < octets; octet++) word = word << 8 | *unit++;
+        samples[entry] = format.ancillary ? word >> 4 : word;
+        ancillary[entry] = format.ancillary ? word & 15 : 0;
+    }
+    *entries = count;
     return RIME_DONE;
 }

@@ -5,11 +5,11 @@
  * marks. Nothing here allocates, keeps anything between two calls, or reads or writes anything but what it is lent:
  * all state is the caller's, in the arrays below, and may hold any octets whatever.
  *
- * Every function but rime_check_character returns a refusal number, RIME_DONE (0) where there is none. A call never
- * does half of its work. A refusal leaves every lent run and the state as they were, and fills `report`, `out`,
- * `header`, `record` or the two entries or halves of a frame with zeros; an opening that is refused fills `state` with
- * zeros, which is itself refused 1. Where several refusals apply, the first in the order of the list at each function is
- * given.
+ * Every function but rime_check_character and rime_receiver_placed returns a refusal number, RIME_DONE (0) where there
+ * is none. A call never does half of its work. A refusal leaves every lent run and the state as they were, and fills
+ * `report`, `out` of rime_status_step, `header`, `record`, `units`, `*entries`, `answer` or the two entries or halves of
+ * a frame with zeros; an opening that is refused fills `state` with zeros, which is itself refused 1. Where several
+ * refusals apply, the first in the order of the list at each function is given.
  *
  * Lent memory: a run is a pointer and the number of its entries. A pointer is never NULL (a run of no entries may
  * point anywhere else), and no two arguments of one call overlap.
@@ -29,13 +29,14 @@ extern "C" {
 enum {
     RIME_CELL_OCTETS = 48,
     RIME_SENDER_STATE = 7,
-    RIME_RECEIVER_STATE = 5,
+    RIME_RECEIVER_STATE = 9,
     RIME_REPORT = 4,
     RIME_BLOCK = 25,
     RIME_OUT = 25,
     RIME_STATUS_OCTETS = 24,
     RIME_HEADER = 4,
     RIME_RECORD = 4,
+    RIME_UNITS = 3,
     RIME_MOST_SLOTS = 48,
     RIME_MOST_MISSING = 14
 };
@@ -44,6 +45,7 @@ enum {
  * The formats, by their subframe octet: sample bits, and S, the slots in a cell.
  *   02, 04, 06, 08 hex   8, 16, 24, 32 bits   S = 48, 24, 16, 12   neither ancillary nor overhead
  *   43, 45, 47 hex       12, 20, 28 bits      S = 24, 16, 12       ancillary
+ *   13, 15, 17 hex       12, 20, 28 bits      S = 24, 16, 12       overhead
  *   52, 54, 56, 5A hex   8, 16, 24, 40 bits   S = 24, 16, 12, 8    ancillary and overhead
  *
  * C channels (1 to S) share a cell. T = S / C, rounded down, is the number of sample times in it, and C * T the
@@ -65,11 +67,11 @@ enum {
 /* Refusal numbers. */
 enum {
     RIME_DONE = 0,
-    RIME_REFUSED_FORMAT = 1,      /* the octet is none of the eleven */
+    RIME_REFUSED_FORMAT = 1,      /* the octet is none of the fourteen */
     RIME_REFUSED_CHANNELS = 2,    /* C is 0 or above S */
     RIME_REFUSED_ORDER = 3,       /* order above 1 */
     RIME_REFUSED_STATE = 4,       /* a number in a state, or a start number, that cannot be */
-    RIME_REFUSED_LENGTH = 5,      /* a cell not of 48 octets, or runs of a wrong length */
+    RIME_REFUSED_LENGTH = 5,      /* a cell not of 48 octets, or runs of a wrong or unequal length */
     RIME_REFUSED_SAMPLE = 6,      /* a sample or an ancillary number too large for the format */
     RIME_REFUSED_INDICATION = 7,  /* sending indication 1 where the number isn't a multiple of 8 */
     RIME_REFUSED_NUMBER = 8,      /* the cell's eight number bits are in no entry of Table A.1 */
@@ -82,7 +84,14 @@ enum {
     RIME_REFUSED_INDICATED = 15,  /* a cell that comes with indication 1 where its number isn't a multiple of 8 */
     RIME_REFUSED_PREAMBLES = 16,  /* the preambles of a frame aren't X then Y, or Z then Y */
     RIME_REFUSED_PARITY = 17,     /* odd parity over slots 4 to 31 in either half of a frame */
-    RIME_REFUSED_BLOCKS = 29      /* the B bits of a frame's halves differ */
+    RIME_REFUSED_COUNT = 20,      /* the count of cells placed would pass 4,294,967,295 */
+    RIME_REFUSED_PLAN = 22,       /* more than 64 circuits or 1,024 channels */
+    RIME_REFUSED_FREQUENCY = 23,  /* a sampling frequency of 0 or above 1,000,000 */
+    RIME_REFUSED_OVERHEAD = 26,   /* data units: a format with overhead */
+    RIME_REFUSED_UNIT_SIZE = 27,  /* data units: a size below one frame */
+    RIME_REFUSED_UNIT_ROOM = 28,  /* data units: too little room */
+    RIME_REFUSED_BLOCKS = 29,     /* the B bits of a frame's halves differ */
+    RIME_REFUSED_CIRCUITS = 30    /* S times the circuits is below the channels */
 };
 
 /* Places in a sender's state. The three yes-or-no octets here and below: 0 is no, any other octet is yes. */
@@ -102,7 +111,8 @@ enum {
     RIME_RECEIVER_CHANNELS = 1,
     RIME_RECEIVER_ORDER = 2,
     RIME_RECEIVER_STARTED = 3,    /* yes: a cell was accepted */
-    RIME_RECEIVER_LAST = 4        /* number of the last accepted cell, 0 before it and without overhead */
+    RIME_RECEIVER_LAST = 4,       /* number of the last accepted cell, 0 before it and without overhead */
+    RIME_RECEIVER_COUNT = 5       /* four octets, least significant first: cells placed since the opening */
 };
 
 /* Places in what rime_receive reports. */
@@ -119,12 +129,15 @@ enum { RIME_HEADER_PLACE = 0, RIME_HEADER_FORMAT = 1, RIME_HEADER_CHANNELS = 2, 
 enum { RIME_RECORD_WHAT = 0, RIME_RECORD_INDICATION = 1, RIME_RECORD_START = 2, RIME_RECORD_NEXT = 3 };
 enum { RIME_RECORD_IS_END = 0, RIME_RECORD_IS_CELL = 1 };
 
+/* Places in what rime_units_export tells. */
+enum { RIME_UNITS_OCTETS = 0, RIME_UNITS_FULL = 1, RIME_UNITS_COUNT = 2 };
+
 /*
  * Opens a sender. Its first cell will have `number`. With `wanted` it keeps second numbers: `second` goes out in the
  * first cell and in those after it, and each later cell with indication 1 adds 1 modulo 16. Without, it sends 0.
  * Leaves in `state` a sender that has sent no cell. All numbers are judged as they stand, never cut: 342 (156 hex)
  * is not 56 hex.
- * Refused: 1, the octet is none of the eleven; 2, `channels` is 0 or above S; 3, `order` is above 1; 4, `number` or
+ * Refused: 1, the octet is none of the fourteen; 2, `channels` is 0 or above S; 3, `order` is above 1; 4, `number` or
  * `second` is above 15, or second numbers are wanted without overhead or with S = 8, or `second` isn't 0 and they
  * aren't wanted.
  */
@@ -145,9 +158,9 @@ uint8_t rime_send(uint8_t state[RIME_SENDER_STATE], bool indication, const uint6
                   const uint8_t *ancillary, size_t ancillary_len, uint8_t *cell, size_t cell_len);
 
 /*
- * Opens a receiver: leaves in `state` one that is not started, with last number 0. The first cell that it accepts
- * starts it, whatever its number. Numbers are judged as they stand, never cut.
- * Refused: 1, the octet is none of the eleven; 2, `channels` is 0 or above S; 3, `order` is above 1.
+ * Opens a receiver: leaves in `state` one that is not started, with last number 0 and count 0. The first cell that it
+ * accepts starts it, whatever its number. Numbers are judged as they stand, never cut.
+ * Refused: 1, the octet is none of the fourteen; 2, `channels` is 0 or above S; 3, `order` is above 1.
  */
 uint8_t rime_receiver_open(uint32_t format, uint32_t channels, uint32_t order, uint8_t state[RIME_RECEIVER_STATE]);
 
@@ -156,13 +169,14 @@ uint8_t rime_receiver_open(uint32_t format, uint32_t channels, uint32_t order, u
  * the first cell, nor ever without overhead). Writes from the start of the three runs C * T entries of sample 0,
  * ancillary 0 and mark 2 for each missing cell, then the cell's own C * T entries with mark 0, or 1 where the three
  * protection bits disagree. Entries past these stay. 15 * C * T entries are always room enough. Leaves in `state` the
- * cell's number and started as 1; in `report` the missing count, the number, the second number (each 0 where the
- * format has none), and `indication` as it came.
+ * cell's number, started as 1 and the count greater by d (by 1 at the first cell and without overhead); in `report` the
+ * missing count, the number, the second number (each 0 where the format has none), and `indication` as it came.
  * Refused, with `state` and the runs untouched: 1, 2 and 3 of what stands in `state`; 4, a last number above 15, or not
- * 0 in a state not started or without overhead; 5, `cell` isn't 48 octets or the runs aren't equally long; 8, with
- * overhead, the eight number bits are in no entry of Table A.1; 15, with overhead, `indication` is true and the number
- * isn't a multiple of 8, at the first cell too; 9, d is 0; 10, the runs are shorter than d * C * T (C * T at the first
- * cell): the same cell may be given again with more room.
+ * 0 in a state not started or without overhead, or a count that isn't 0 in a state not started; 5, `cell` isn't 48
+ * octets or the runs aren't equally long; 8, with overhead, the eight number bits are in no entry of Table A.1; 15, with
+ * overhead, `indication` is true and the number isn't a multiple of 8, at the first cell too; 9, d is 0; 20, the count
+ * would pass 4,294,967,295, which itself is reached; 10, the runs are shorter than d * C * T (C * T at the first cell):
+ * the same cell may be given again with more room.
  *
  * Before you connect another maker's sender: by clause 4.5.3 of the standard it sets the indication in the last cell of
  * every block, which has number 7 or 15. This receiver refuses those cells, 15: every eighth cell of such a sender is
@@ -171,6 +185,13 @@ uint8_t rime_receiver_open(uint32_t format, uint32_t channels, uint32_t order, u
 uint8_t rime_receive(uint8_t state[RIME_RECEIVER_STATE], const uint8_t *cell, size_t cell_len, bool indication,
                      uint64_t *samples, size_t samples_len, uint8_t *ancillary, size_t ancillary_len,
                      uint8_t *marks, size_t marks_len, uint8_t report[RIME_REPORT]);
+
+/*
+ * Returns how many cells the receiver has placed since it was opened, sound and missing together: the sound cells plus
+ * the missing counts of the calls made since, as the count in `state` has it. A refused call doesn't move it. Any nine
+ * octets will do: nothing is refused, and nothing else of the state is looked at.
+ */
+uint32_t rime_receiver_placed(const uint8_t state[RIME_RECEIVER_STATE]);
 
 /*
  * Brings one channel's status block forward by one entry that the receiver wrote. `block` is the count of bits begun
@@ -233,6 +254,65 @@ uint8_t rime_aes3_import(const uint8_t preambles[2], const uint32_t subframes[2]
  */
 uint8_t rime_aes3_export(const uint64_t samples[2], const uint8_t ancillary[2], uint8_t preambles[2],
                          uint32_t subframes[2]);
+
+/*
+ * Writes entries that the receiver wrote as data units of IEC 62379-5-2 (7.3), with synchronisation information absent, for
+ * the seven formats without overhead. `samples` and `ancillary` hold time after time, channels side by side, in whole
+ * times. A frame is one subframe for each channel at one time, channel 0 first; a subframe is the sample, most
+ * significant bit first, then B, C, U and V where the format has them. A unit holds as many whole frames as fit `size`
+ * octets, the last one perhaps fewer. The units go end to end from the start of `out`; octets past them stay. Leaves in
+ * `units` the octets written, the octets of a full unit, and how many units there are. Without entries there are none.
+ *
+ * MARKS DON'T TRAVEL. An entry of a missing cell, mark 2, leaves as the zeros that it is: at the other end a gap is
+ * silence that looks like sound. Nor does a mark 1 leave. Who needs them must carry them beside the units.
+ *
+ * Refused, with `out` untouched and `units` zeros: 1, the octet is none of the fourteen; 2, `channels` is 0 or above S; 5,
+ * the runs aren't equally long, or their length isn't a multiple of `channels`; 6, a sample too large for its bits, an
+ * ancillary number above 15, or not 0 where the format has none; 26, the format has overhead; 27, `size` is below one
+ * frame; 28, `out` is shorter than all units together.
+ */
+uint8_t rime_units_export(uint32_t format, uint32_t channels, size_t size, const uint64_t *samples, size_t samples_len,
+                          const uint8_t *ancillary, size_t ancillary_len, uint8_t *out, size_t out_len,
+                          uint64_t units[RIME_UNITS]);
+
+/*
+ * Reads one data unit back. Writes its samples and ancillary numbers (0 where the format has none) from the start of the
+ * two runs; entries past them stay. Leaves in `entries` how many there were: the frames of the unit times `channels`. The
+ * units of an export, read one after the other, give back all that was exported. Nothing in a unit says its format or
+ * number of channels: both ends must be told the same.
+ * Refused, with the runs untouched and `*entries` 0: 1, the octet is none of the fourteen; 2, `channels` is 0 or above S; 5,
+ * the runs aren't equally long, the unit is empty, or it isn't whole frames; 26, the format has overhead; 28, the runs are
+ * shorter than the unit's entries.
+ */
+uint8_t rime_unit_read(uint32_t format, uint32_t channels, const uint8_t *unit, size_t unit_len, uint64_t *samples,
+                       size_t samples_len, uint8_t *ancillary, size_t ancillary_len, uint64_t *entries);
+
+/* Places in what rime_circuits_check answers, and its answers. */
+enum { RIME_PLAN_ANSWER = 0, RIME_PLAN_CIRCUIT = 1 };
+enum { RIME_PLAN_YES = 1, RIME_PLAN_SHARE = 2, RIME_PLAN_ALLOWANCE = 3, RIME_PLAN_SUM = 4 };
+
+/*
+ * Judges a plan, anyone's: `channels` channels in one format at a sampling `frequency`, shared out over circuits.
+ * `shares` is how many of them each circuit carries, `allowances` the cells per second that each circuit may carry. A
+ * circuit with a share of C needs `frequency` / T cells per second, rounded up, with T = S / C rounded down.
+ * Leaves in `answer` RIME_PLAN_YES and 0 exactly when each share is 1 to S, the shares add up to `channels`, and each
+ * circuit's cells per second are within its allowance. A no names the first fault, circuit by circuit the share, then
+ * the allowance: RIME_PLAN_SHARE or RIME_PLAN_ALLOWANCE and the circuit, counted from 0; last RIME_PLAN_SUM and 0. No
+ * circuits and no channels is a yes.
+ * Refused, with `answer` zeros: 1, the octet is none of the fourteen; 5, the two runs aren't equally long; 22, more than
+ * 64 circuits or 1,024 channels; 23, `frequency` is 0 or above 1,000,000.
+ */
+uint8_t rime_circuits_check(uint32_t format, uint32_t channels, uint32_t frequency, const uint32_t *shares,
+                            size_t shares_len, const uint32_t *allowances, size_t allowances_len, uint32_t answer[2]);
+
+/*
+ * A plain planner: fills circuits in the given order as far as S allows, allowances left aside. Writes all of `shares`,
+ * a number for each circuit: S for those that are full, the rest for one, and 0 for those left over, which the checker
+ * calls a fault: hand it the circuits that were filled.
+ * Refused, with `shares` untouched: 1, the octet is none of the fourteen; 22, more than 64 circuits or 1,024 channels; 30,
+ * S times the circuits is below `channels`: nobody's plan could carry them.
+ */
+uint8_t rime_circuits_plan(uint32_t format, uint32_t channels, uint32_t *shares, size_t shares_len);
 
 #ifdef __cplusplus
 }

@@ -1,18 +1,19 @@
 # The proved library in other languages: the comparison, the examples, the benchmark. The Makefile includes this file;
 # the gate runs it alone by `make -f tests/face.mk face-test`.
 #
-# RIME_LIB     the folder of librimesatchel.a
+# RIME_LIB     the folder of librimesatchel.a and libmanagement.a
 # RIME_PARTS   the parts of the library that the comparison links
 # N, SEED      how many calls `make fuzz` compares, and from which seed
 # ROWS         a pattern that picks the benchmark's rows
 
 RIME_LIB ?= $(CURDIR)/target/staticlib
-RIME_PARTS ?= boxes,status,log,cable
+RIME_PARTS ?= boxes,status,log,cable,units,circuits,management
 N ?= 1000000
 SEED ?= 2
 ROWS ?= .
 
 ARCHIVE := $(RIME_LIB)/librimesatchel.a
+MANAGEMENT := $(RIME_LIB)/libmanagement.a
 COMPARE := target/compare/release/compare
 LINELIST := target/bin/linelist
 EXAMPLES := target/examples
@@ -31,7 +32,7 @@ BENCH_FLAGS := -O3 -std=gnu11 $(WARNINGS) -falign-functions=64 -falign-loops=32
 
 # Proves again only what changed, so that nothing is measured or compared that isn't in the crates.
 face-archive:
-	@test "$(RIME_LIB)" != "$(CURDIR)/target/staticlib" || rt staticlib rimesatchel
+	@test "$(RIME_LIB)" != "$(CURDIR)/target/staticlib" || { rt staticlib rimesatchel && rt staticlib management; }
 
 face-compare:
 	RIMESATCHEL_LIB=$(RIME_LIB) cargo build --quiet --offline --locked --release --no-default-features \
@@ -49,24 +50,41 @@ $(EXAMPLES)/handover-rust: examples/rust/handover.rs examples/rust/rimesatchel.r
 	mkdir -p $(EXAMPLES)
 	rustc --edition 2021 -O -D warnings -L native=$(RIME_LIB) -l static=rimesatchel $< -o $@
 
+$(EXAMPLES)/cast-c: examples/c/cast.c include/rimesatchel.h $(ARCHIVE)
+	mkdir -p $(EXAMPLES)
+	gcc -O2 -std=c99 $(WARNINGS) -pedantic -Iinclude $< $(ARCHIVE) -o $@
+
 $(EXAMPLES)/librimesatchel.so: $(ARCHIVE)
 	mkdir -p $(EXAMPLES)
 	gcc -shared -Wl,--whole-archive $(ARCHIVE) -Wl,--no-whole-archive -o $@
 
+$(EXAMPLES)/management-c: examples/c/management.c include/rimesatchel.h include/rime_management.h $(ARCHIVE) $(MANAGEMENT)
+	mkdir -p $(EXAMPLES)
+	gcc -O2 -std=c99 $(WARNINGS) -pedantic -Iinclude $< $(ARCHIVE) $(MANAGEMENT) -o $@
+
+$(EXAMPLES)/management-c-asan: examples/c/management.c include/rimesatchel.h include/rime_management.h $(ARCHIVE) $(MANAGEMENT)
+	mkdir -p $(EXAMPLES)
+	gcc -g -O1 -std=c99 -fsanitize=address,undefined -fno-sanitize-recover=all $(WARNINGS) -Iinclude $< $(ARCHIVE) $(MANAGEMENT) -o $@
+
 # Not through a pipe, which would hide a program that prints the right words and then fails.
 define prints-expected
 $(1) > $(EXAMPLES)/printed
-diff examples/handover.expected $(EXAMPLES)/printed
+diff examples/$(2).expected $(EXAMPLES)/printed
 endef
 
-face-examples: $(EXAMPLES)/handover-c $(EXAMPLES)/handover-rust $(EXAMPLES)/librimesatchel.so
-	$(call prints-expected,$(EXAMPLES)/handover-c)
-	$(call prints-expected,$(EXAMPLES)/handover-rust)
-	$(call prints-expected,python3 examples/python/handover.py $(EXAMPLES)/librimesatchel.so)
+face-examples: $(EXAMPLES)/handover-c $(EXAMPLES)/handover-rust $(EXAMPLES)/librimesatchel.so $(EXAMPLES)/management-c \
+    $(EXAMPLES)/cast-c
+	$(call prints-expected,$(EXAMPLES)/handover-c,handover)
+	$(call prints-expected,$(EXAMPLES)/handover-rust,handover)
+	$(call prints-expected,python3 examples/python/handover.py $(EXAMPLES)/librimesatchel.so,handover)
+	$(call prints-expected,$(EXAMPLES)/management-c,management)
+	$(call prints-expected,$(EXAMPLES)/cast-c,cast)
+	$(call prints-expected,python3 examples/python/cast.py $(EXAMPLES)/librimesatchel.so,cast)
 	@echo "examples: C, Rust and Python print what is expected"
 
 # Everything that links the archive. The gate builds it while `rt ci` goes on.
-face-build: face-compare $(EXAMPLES)/handover-c $(EXAMPLES)/handover-rust $(EXAMPLES)/librimesatchel.so target/bench/bench
+face-build: face-compare $(EXAMPLES)/handover-c $(EXAMPLES)/handover-rust $(EXAMPLES)/librimesatchel.so $(EXAMPLES)/cast-c \
+    target/bench/bench
 
 face-test: face-compare face-examples
 	$(COMPARE) vectors tests/vectors $(LINELIST)
@@ -74,9 +92,12 @@ face-test: face-compare face-examples
 	$(COMPARE) fuzz $(GATE_CALLS) $(GATE_SEED) $(LINELIST)
 
 fuzz: face-archive
-	$(MAKE) -f tests/face.mk face-compare $(EXAMPLES)/handover-c $(EXAMPLES)/handover-c-asan
-	$(call prints-expected,$(MEMCHECK) $(EXAMPLES)/handover-c)
-	$(call prints-expected,$(EXAMPLES)/handover-c-asan)
+	$(MAKE) -f tests/face.mk face-compare $(EXAMPLES)/handover-c $(EXAMPLES)/handover-c-asan $(EXAMPLES)/management-c \
+	    $(EXAMPLES)/management-c-asan
+	$(call prints-expected,$(MEMCHECK) $(EXAMPLES)/handover-c,handover)
+	$(call prints-expected,$(EXAMPLES)/handover-c-asan,handover)
+	$(call prints-expected,$(MEMCHECK) $(EXAMPLES)/management-c,management)
+	$(call prints-expected,$(EXAMPLES)/management-c-asan,management)
 	$(MEMCHECK) $(COMPARE) fuzz $(MEMCHECK_CALLS) $(SEED)
 	$(COMPARE) fuzz $(N) $(SEED) $(LINELIST)
 	$(MAKE) -f tests/face.mk fuzz-list
@@ -91,9 +112,9 @@ fuzz-list:
 	rm target/long.log target/long.list
 	@echo "linelist: a log of $(LONG_OCTETS) octets is listed alike"
 
-BENCH_SOURCES := bench/bench.c bench/frames.c bench/plain.c
+BENCH_SOURCES := bench/bench.c bench/frames.c bench/plain.c bench/units.c
 
-target/bench/bench: $(BENCH_SOURCES) bench/frames.h bench/plain.h include/rimesatchel.h $(ARCHIVE)
+target/bench/bench: $(BENCH_SOURCES) bench/frames.h bench/plain.h bench/units.h include/rimesatchel.h $(ARCHIVE)
 	mkdir -p target/bench
 	gcc $(BENCH_FLAGS) -Iinclude -Ibench $(BENCH_SOURCES) $(ARCHIVE) -o $@
 

@@ -27,6 +27,11 @@ def marks(bits):
     return sum(1 << low for low in range(32) if low % 8 != bits ^ low // 16 * 3)
 
 
+def marks_without_v(bits):
+    """The same where there is no V: the five low bits begin with the sample's lowest, which isn't looked at."""
+    return sum(1 << low for low in range(32) if low % 8 != WITHOUT_V[bits])
+
+
 def arms():
     """Protection bits and nines of each arm but the last; and the last arm's protection bits."""
     order, found = [], {}
@@ -49,20 +54,24 @@ def arms():
 
 ARMS, LAST = arms()
 
-HEAD = '''// Two tables by the nine top bits of a sample: the protection bits, which the sender writes, and the marks, which the
-// receiver gives. tools/tables.py prints this file: change that, and not this.
+# The protection bits of nine sample bits without V, by those with V = 0: the one fixes the other.
+WITHOUT_V = {protection(nine * 2): protection(nine) for nine in range(512)}
+
+HEAD = '''// Three tables by the nine top bits of a sample: the protection bits, which the sender writes, and the marks with V and
+// without it, which the receiver gives. tools/tables.py prints this file: change that, and not this.
 //
 // A table is a `match` with constant arms. The compiler makes one load of it; a constant array it would copy to the stack first.
 // Two functions have the same table, because the compiler does so only where a function is called in one place of the program.
 // Where two loops call it, both make a call for every slot, which takes much longer. So each loop has its own.
 ghost use mathlib.Core.Path.{_≡_};
-ghost use Prim.Native.Nat.{_*_, _%_, _<_};
-ghost use Rattle.guards.specs.Guards.{tenGuard};
-ghost use Rattle.tables.specs.Marks.{MarksOf};
+ghost use Prim.Native.Nat.{_%_, _<_};
+ghost use Rattle.guards.specs.Guards.{withV, protectedBits, tenGuard};
+ghost use Rattle.tables.specs.Marks.{MarksOf, MarksWithoutV};
 '''
 
-GUARD = '⌜ r ≡ tenGuard (nine % 512 * 2) ⌝'
+GUARD = '⌜ r ≡ tenGuard (protectedBits (nine % 512) (withV 0)) ⌝'
 MARKS = '⌜ MarksOf (nine % 512) r × (r < 4294967296) ⌝'
+BARE = '⌜ MarksWithoutV (nine % 512) r × (r < 4294967296) ⌝'
 
 # name, what it answers, the name of its key, comment
 FUNCTIONS = [
@@ -71,18 +80,20 @@ FUNCTIONS = [
      'The marks of all subframes with these nine sample bits: bit n of the answer is the mark where the five low bits are n (V, the\n'
      "// sequencing bit, three protection bits). For the receiver's usual call."),
     ('marks_for_others', 'marks', 'top', 'The same, for all its other calls.'),
+    ('marks_without_v', 'bare', 'high',
+     "The same where there is no V: the five low bits are the sample's lowest, the sequencing bit and three protection bits."),
 ]
 
 
 def value(kind, bits):
-    return str(bits) if kind == 'guard' else '0x%08X' % marks(bits)
+    return {'guard': '%d' % bits, 'marks': '0x%08X' % marks(bits), 'bare': '0x%08X' % marks_without_v(bits)}[kind]
 
 
 def function(name, kind, key, comment):
     lines = [
         '// ' + comment,
         'pub fn %s(nine: u64) -> u64' % name,
-        '    ensures { λ r. %s }' % (GUARD if kind == 'guard' else MARKS),
+        '    ensures { λ r. %s }' % {'guard': GUARD, 'marks': MARKS, 'bare': BARE}[kind],
         '{',
         '    let %s = nine %% 512;' % key,
         '    match %s {' % key,
@@ -116,9 +127,9 @@ def proof(name, kind):
         each = ['(λ c. sym (of-nine %d _ (c .match .keys%d)))' % (i, i + 1) for i in range(len(ARMS))]
         last = '(λ c. sym (of-nine-last _ (mod-lt _ (omega arith)) (c .match .rest))))'
     else:
-        head += ['use Rattle.tables.proofs.Laws.{marks-in, marks-last}']
-        each = ['(λ c. marks-in %d _ (c .match .keys%d))' % (i, i + 1) for i in range(len(ARMS))]
-        last = '(λ c. marks-last _ (c .match .rest)))'
+        head += ['use Rattle.tables.proofs.Laws.{%s-in, %s-last}' % (kind, kind)]
+        each = ['(λ c. %s-in %d _ (c .match .keys%d))' % (kind, i, i + 1) for i in range(len(ARMS))]
+        last = '(λ c. %s-last _ (c .match .rest)))' % kind
     head += ['use Rattle.tables.proofs.%s.Statement.{statement}' % name, 'use Rattle.tables.proofs.%s.Tie as tie' % name, '']
     body = packed(['(tie.spec'] + each) + ['    ' + last]
     return '\n'.join(head + ['pub %s : {M : Type 1} → statement M' % spec, spec + ' =', '    tie.close'] + body) + '\n'

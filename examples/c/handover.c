@@ -13,7 +13,7 @@ enum { CELLS = 4, LOST = 1, SPOILED = 3 };
 /* What each refusal number means. */
 static const char *const reasons[] = {
     "done",
-    "the format is none of the eleven",
+    "the format is none of the fourteen",
     "there are no channels, or more than slots",
     "the order is above 1",
     "a state or start number cannot be",
@@ -28,6 +28,11 @@ static const char *const reasons[] = {
     "the log is too long",
     "a channel status input cannot be",
     "the cell came with indication 1, and its number isn't a multiple of 8",
+    "the preambles of a frame aren't X then Y, or Z then Y",
+    "the parity of a subframe is odd",
+    "not given here",
+    "not given here",
+    "the count of cells placed would pass 4,294,967,295",
 };
 
 /* What is answered of a channel status block, by RIME_STATUS_NONE, _DOES_NOT_FIT, _FITS and _NONE_CARRIED. */
@@ -109,6 +114,7 @@ int main(void) {
     }
     printf("The line delivers the last cell again.\n");
     receive(receiver, octets);
+    printf("Cells placed since the opening: %" PRIu32 ".\n", rime_receiver_placed(receiver));
     refusal = consumer_block();
     if (refusal != RIME_DONE) {
         say_refused("The block", refusal);

@@ -16,7 +16,7 @@ MARKS = ["sound", "doubtful", "missing"]
 ANSWERS = ["neither", "doesn't fit", "fits", "none carried"]  # of a channel status block
 REASONS = [
     "done",
-    "the format is none of the eleven",
+    "the format is none of the fourteen",
     "there are no channels, or more than slots",
     "the order is above 1",
     "a state or start number cannot be",
@@ -31,6 +31,11 @@ REASONS = [
     "the log is too long",
     "a channel status input cannot be",
     "the cell came with indication 1, and its number isn't a multiple of 8",
+    "the preambles of a frame aren't X then Y, or Z then Y",
+    "the parity of a subframe is odd",
+    "not given here",
+    "not given here",
+    "the count of cells placed would pass 4,294,967,295",
 ]
 
 OCTETS = POINTER(c_uint8)
@@ -43,6 +48,10 @@ ARGUMENTS = {
     "rime_aes3_import": [OCTETS, POINTER(c_uint32), POINTER(c_uint64), OCTETS],
     "rime_aes3_export": [POINTER(c_uint64), OCTETS, OCTETS, POINTER(c_uint32)],
     "rime_status_step": [OCTETS, c_uint8, c_uint8, OCTETS],
+    "rime_units_export": [c_uint32, c_uint32, c_size_t, POINTER(c_uint64), c_size_t, OCTETS, c_size_t, OCTETS, c_size_t,
+                          POINTER(c_uint64)],
+    "rime_unit_read": [c_uint32, c_uint32, OCTETS, c_size_t, POINTER(c_uint64), c_size_t, OCTETS, c_size_t,
+                       POINTER(c_uint64)],
 }
 
 
@@ -59,6 +68,8 @@ class Boxes:
         for name, arguments in ARGUMENTS.items():
             function = getattr(self.library, name)
             function.argtypes, function.restype = arguments, c_uint8
+        self.placed = self.library.rime_receiver_placed  # a number, and no refusal
+        self.placed.argtypes, self.placed.restype = [OCTETS], c_uint32
 
     def call(self, name, *arguments):
         refusal = getattr(self.library, name)(*arguments)
@@ -71,7 +82,7 @@ class Boxes:
         return state
 
     def receiver(self, channels):
-        state = (c_uint8 * 5)()
+        state = (c_uint8 * 9)()
         self.call("rime_receiver_open", FORMAT, channels, ORDER, state)
         return state
 
@@ -125,6 +136,7 @@ def reading(boxes):
         receive(boxes, receiver, octets)
     print("The line delivers the last cell again.")
     receive(boxes, receiver, octets)
+    print(f"Cells placed since the opening: {boxes.placed(receiver)}.")
 
 
 def main():

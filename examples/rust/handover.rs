@@ -57,6 +57,7 @@ fn reading() -> Result<(), Refusal> {
     }
     println!("The line delivers the last cell again.");
     receive(&mut receiver, &octets);
+    println!("Cells placed since the opening: {}.", receiver.placed());
     println!("A block of consumer use: {}.", rimesatchel::block(&[0; 192])?);
     Ok(())
 }

@@ -7,9 +7,9 @@ mod face;
 use std::fmt;
 
 /// What each refusal number means.
-const REASONS: [&str; 16] = [
+const REASONS: [&str; 21] = [
     "done",
-    "the format is none of the eleven",
+    "the format is none of the fourteen",
     "there are no channels, or more than slots",
     "the order is above 1",
     "a state or start number cannot be",
@@ -24,6 +24,11 @@ const REASONS: [&str; 16] = [
     "the log is too long",
     "a channel status input cannot be",
     "the cell came with indication 1, and its number isn't a multiple of 8",
+    "the preambles of a frame aren't X then Y, or Z then Y",
+    "the parity of a subframe is odd",
+    "not given here",
+    "not given here",
+    "the count of cells placed would pass 4,294,967,295",
 ];
 
 #[derive(Debug, Clone, Copy)]
@@ -92,9 +97,14 @@ pub struct Receiver {
 impl Receiver {
     /// `cell_entries` is C×T, for the room that a cell may need.
     pub fn open(setup: Setup, cell_entries: usize) -> Result<Receiver, Refusal> {
-        let mut state = [0; 5];
+        let mut state = [0; 9];
         let refusal = face::receiver_open(setup.numbers(), &mut state);
         unless_refused(refusal, Receiver { state, cell_entries })
+    }
+
+    /// Cells placed since the opening, sound and missing together.
+    pub fn placed(&self) -> u32 {
+        face::receiver_placed(&self.state)
     }
 
     pub fn receive(&mut self, cell: &[u8]) -> Result<Handed, Refusal> {

@@ -2,7 +2,9 @@
 # The proved library in other languages: vectors, story, comparison with a fixed seed, and the three examples.
 set -eu -o pipefail
 export LC_ALL=C
-[ -e "${RIME_LIB:-target/staticlib}/librimesatchel.a" ] || rt staticlib rimesatchel
+for archive in rimesatchel management; do
+    [ -e "${RIME_LIB:-target/staticlib}/lib$archive.a" ] || rt staticlib "$archive"
+done
 if [ -d crates/linelist ] && [ ! -x target/bin/linelist ]; then
     echo "face: crates/linelist stands but target/bin/linelist doesn't" >&2
     exit 1

@@ -22,6 +22,7 @@ fn taken(last: u8, next: u8) -> receiver::Received {
         order: 0,
         started: true,
         last,
+        count: 1,
     };
     let mut cell = [0u8; 48];
     sender::send(studio, false, &[0u64; 12], &[0u8; 12], &mut cell);

@@ -13,9 +13,8 @@ use Rattle.runs.proofs.Laws as runs
 use Rattle.runs.proofs.Laws.{split}
 use Rattle.formats.specs.declared.Format.{Format}
 use Rattle.formats.specs.Sound.{Sound}
-use Rattle.guards.specs.Guards.{guardOf}
-use Rattle.guards.proofs.Laws.{guard-le}
-use Rattle.cells.specs.Cells.{overheadOf, subframeOf, sampleIn, ancillaryIn, markIn}
+use Rattle.guards.proofs.Laws as guards
+use Rattle.cells.specs.Cells.{guardIn, overheadOf, subframeOf, sampleIn, ancillaryIn, markIn}
 
 pub octets-pow : (w : ℕ) → 2 ^ (8 * w) ≡ 256 ^ w
 octets-pow w = runs.octets-pow w
@@ -23,6 +22,13 @@ octets-pow w = runs.octets-pow w
 -- bits of a part are four or none
 four-of : (n : ℕ) → n % 4 ≡ 0 → n ≤ 4 → (n ≡ 0 → ⊥) → n ≡ 4
 four-of n e h some = omega arith
+
+pub guard-le : (f : Format) (sample ancillary : ℕ) → guardIn f sample ancillary ≤ 7
+guard-le f sample ancillary = guards.guard-le (f .«sample_bits») sample _
+
+-- "protection of sample 0 with V 0 is 111", and without V too
+pub guard-zero : (f : Format) → guardIn f 0 0 ≡ 7
+guard-zero f = guards.guard-zero (f .«sample_bits») (f .«ancillary_bits»)
 
 module _ {f : Format} (s : Sound f) where
   -- a slot lies within the cell
@@ -44,7 +50,7 @@ module _ {f : Format} (s : Sound f) where
       (λ e. rw e (pow-pos (f .«overhead_bits»)))
       (λ e.
       rw (e, four (eqb-false (f .«overhead_bits») 0 e))
-      (omega (arith, h, guard-le (f .«sample_bits») sample ancillary)))
+      (omega (arith, h, guard-le f sample ancillary)))
 
   module _ {sample ancillary bit : ℕ} (hs : sample < 2 ^ f .«sample_bits») (ha : ancillary < 2 ^ f .«ancillary_bits») (hb : bit < 2) where
     pub subframe-lt : subframeOf f sample ancillary bit < 256 ^ f .width
@@ -74,17 +80,17 @@ module _ {f : Format} (s : Sound f) where
         ∙ digits-mod sample ha
 
     module _ (some : f .«overhead_bits» ≡ 0 → ⊥) where
-      low-back : subframeOf f sample ancillary bit % 16 ≡ bit * 8 + guardOf (f .«sample_bits») sample ancillary
+      low-back : subframeOf f sample ancillary bit % 16 ≡ bit * 8 + guardIn f sample ancillary
       unfolding subframeOf overheadOf
       low-back =
           rw (ne-eqb (f .«overhead_bits») 0 some, four some)
-          (digits-mod (sample * 2 ^ f .«ancillary_bits» + ancillary) (omega (arith, hb, guard-le (f .«sample_bits») sample ancillary)))
+          (digits-mod (sample * 2 ^ f .«ancillary_bits» + ancillary) (omega (arith, hb, guard-le f sample ancillary)))
 
-      pub guard-back : subframeOf f sample ancillary bit % 8 ≡ guardOf (f .«sample_bits») sample ancillary
-      guard-back = omega (arith, low-back, guard-le (f .«sample_bits») sample ancillary)
+      pub guard-back : subframeOf f sample ancillary bit % 8 ≡ guardIn f sample ancillary
+      guard-back = omega (arith, low-back, guard-le f sample ancillary)
 
       pub bit-back : subframeOf f sample ancillary bit / 8 % 2 ≡ bit
-      bit-back = omega (arith, low-back, guard-le (f .«sample_bits») sample ancillary)
+      bit-back = omega (arith, low-back, guard-le f sample ancillary)
 
     pub mark-back : markIn f (subframeOf f sample ancillary bit) ≡ 0
     unfolding markIn

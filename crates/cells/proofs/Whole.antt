@@ -17,9 +17,8 @@ use Rattle.formats.specs.declared.Format.{Format}
 use Rattle.formats.specs.Sound.{Sound}
 use Rattle.numbers.specs.Numbers.{wordBit}
 use Rattle.numbers.proofs.Laws.{bit-lt, eight-back, second-back, gathered-same, second-bit, later-bit}
-use Rattle.guards.specs.Guards.{guardOf}
-use Rattle.guards.proofs.Laws.{guard-zero}
 use Rattle.cells.specs.Cells.{
+  guardIn,
   subframeOf,
   slotOctets,
   cellOf,
@@ -34,7 +33,7 @@ use Rattle.cells.specs.Cells.{
 }
 use Rattle.cells.specs.Placement.{slotOf, slotOfEntry, carried}
 use Rattle.cells.proofs.Placement.{slot-lt, carried-entry}
-use Rattle.cells.proofs.Subframes.{subframe-lt, sample-back, ancillary-back, mark-back, guard-back, bit-back}
+use Rattle.cells.proofs.Subframes.{subframe-lt, sample-back, ancillary-back, mark-back, guard-zero, guard-back, bit-back}
 
 either-lt : (test : Bool) {x bound : ℕ} → x < bound → zero < bound → cond test x 0 < bound
 either-lt true h some = h
@@ -166,16 +165,16 @@ module _ {f : Format} (s : Sound f) (byChannel : Bool) (channels times word seco
         -- the three last bits of every slot protect what stands there, and are 111 where nothing does
         pub protection-at : {k : ℕ} → k < f .slots
             → subframeAt f cell k % 8
-            ≡ guardOf (f .«sample_bits») (sampleIn f (subframeAt f cell k)) (ancillaryIn f (subframeAt f cell k))
+            ≡ guardIn f (sampleIn f (subframeAt f cell k)) (ancillaryIn f (subframeAt f cell k))
         protection-at {k} h =
             ap (λ (n : ℕ). n % 8) (subframe-there h)
             ∙ guard-back s (sample-lt k) (ancillary-lt k) (bit-lt word second k) over
-            ∙ sym (ap₂ (guardOf (f .«sample_bits»)) (sample-there h) (ancillary-there h))
+            ∙ sym (ap₂ (guardIn f) (sample-there h) (ancillary-there h))
 
         pub protection-unused : {k : ℕ} → channels * times ≤ k → k < f .slots → subframeAt f cell k % 8 ≡ 7
         protection-unused past h =
             let none = unused-zero past h in
-            protection-at h ∙ ap₂ (guardOf (f .«sample_bits»)) (none .0) (none .1) ∙ guard-zero (f .«sample_bits»)
+            protection-at h ∙ ap₂ (guardIn f) (none .0) (none .1) ∙ guard-zero f
 
         bit-there : {k : ℕ} → k < f .slots → bitIn f cell k ≡ wordBit word second k
         unfolding bitIn

@@ -8,12 +8,16 @@ use lib.ListN.{take, drop}
 use Rattle.runs.specs.Runs.{tab, joined, octetsOf, numberOf}
 use Rattle.formats.specs.declared.Format.{Format}
 use Rattle.numbers.specs.Numbers.{wordBit, eightOf, secondOf}
-use Rattle.guards.specs.Guards.{guardOf}
+use Rattle.guards.specs.Guards.{vOf, guardOf}
 use Rattle.cells.specs.Placement.{slotOfEntry, carried}
 
--- "then a sequencing bit and three protection bits", where the format has overhead; V is the ancillary number's lowest bit
+-- the protection bits of a sample and an ancillary number by the format's fields: V, or none where there are no ancillary bits
+abbrev pub guardIn : Format → ℕ → ℕ → ℕ
+guardIn f sample ancillary = guardOf (f .«sample_bits») sample (vOf (f .«ancillary_bits») ancillary)
+
+-- "then a sequencing bit and three protection bits", where the format has overhead
 unfoldable pub overheadOf : Format → ℕ → ℕ → ℕ → ℕ
-overheadOf f sample ancillary bit = cond (eqb (f .«overhead_bits») 0) 0 (bit * 8 + guardOf (f .«sample_bits») sample ancillary)
+overheadOf f sample ancillary bit = cond (eqb (f .«overhead_bits») 0) 0 (bit * 8 + guardIn f sample ancillary)
 
 -- "A subframe is: sample, most significant bit first; then B, C, U, V; then" the overhead
 unfoldable pub subframeOf : Format → ℕ → ℕ → ℕ → ℕ
@@ -49,7 +53,7 @@ ancillaryIn f subframe = subframe / 2 ^ f .«overhead_bits» % 2 ^ f .«ancillar
 unfoldable pub markIn : Format → ℕ → ℕ
 markIn f subframe =
     cond (eqb (f .«overhead_bits») 0) 0
-    (cond (eqb (subframe % 8) (guardOf (f .«sample_bits») (sampleIn f subframe) (ancillaryIn f subframe))) 0 1)
+    (cond (eqb (subframe % 8) (guardIn f (sampleIn f subframe) (ancillaryIn f subframe))) 0 1)
 
 -- the sequencing bit of slot k
 unfoldable pub bitIn : Format → List ℕ → ℕ → ℕ

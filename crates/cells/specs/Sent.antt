@@ -7,9 +7,8 @@ use Prim.Native.Nat.{ℕ, _+_, _*_, _/_, _%_, _^_, _≤_, _<_}
 use lib.ListN.{length, getD}
 use Rattle.formats.specs.declared.Format.{Format}
 use Rattle.numbers.specs.Numbers.{entryOf, dividedEntry}
-use Rattle.guards.specs.Guards.{guardOf}
 use Rattle.cells.specs.Placement.{slotOf}
-use Rattle.cells.specs.Cells.{subframeAt, sampleIn, ancillaryIn, bitIn, eightIn}
+use Rattle.cells.specs.Cells.{guardIn, subframeAt, sampleIn, ancillaryIn, bitIn, eightIn}
 
 -- cell number `number` with these samples and ancillary numbers of C channels at T times
 pub record SentCell (f : Format) (byChannel : Bool) (channels times number second : ℕ) (samples ancillary cell : List ℕ) : Type 0 where
@@ -23,10 +22,10 @@ pub record SentCell (f : Format) (byChannel : Bool) (channels times number secon
   -- "Unused slots have sample and ancillary 0"
   pub unused : (slot : ℕ) → channels * times ≤ slot → slot < f .slots
       → (sampleIn f (subframeAt f cell slot) ≡ 0) × (ancillaryIn f (subframeAt f cell slot) ≡ 0)
-  -- "three protection bits": of what stands in the slot, and "Writing protection 000 in an unused slot, where it is 111" is wrong
+  -- "three protection bits", by V or without it: of what stands in the slot, and "Writing protection 000 in an unused slot, where it is 111" is wrong
   pub protection : (f .«overhead_bits» ≡ 0 → ⊥) → (slot : ℕ) → slot < f .slots
       → subframeAt f cell slot % 8
-      ≡ guardOf (f .«sample_bits») (sampleIn f (subframeAt f cell slot)) (ancillaryIn f (subframeAt f cell slot))
+      ≡ guardIn f (sampleIn f (subframeAt f cell slot)) (ancillaryIn f (subframeAt f cell slot))
   pub protection-unused : (f .«overhead_bits» ≡ 0 → ⊥) → (slot : ℕ) → channels * times ≤ slot → slot < f .slots
       → subframeAt f cell slot % 8 ≡ 7
   -- "Table A.1": the first eight sequencing bits are the number's entry, which is what the division and the even count make of it

@@ -1,9 +1,8 @@
--- The rules of the paper's first paragraph and the rows of its table say the same of every number, but for 13, 15 and 17 hex, which the
--- rules take and the table doesn't have yet.
+-- The rules of the paper's first paragraph and the rows of the table say the same of every number.
 -- Assumes nothing.
-use mathlib.Core.Bool.{_||_, Bool·beq}
+use mathlib.Core.Bool.{Bool·beq}
 use mathlib.Core.List.{List, [], _∷_}
-use mathlib.Core.Path.{_≡_, refl, sym, ap₂}
+use mathlib.Core.Path.{_≡_, refl, sym}
 use Prim.Native.Nat.{ℕ, _<_, _≤_}
 use native.Mathlib.Omega.{arith}
 use borrow.Author.Tests.{le-ltb, ltb-true, ltb-false}
@@ -21,12 +20,11 @@ use Rattle.formats.specs.Formats.{
   slotsOf,
   FormatRow,
   row,
-  baseFormats,
-  eleven,
-  notYet,
-  isBase,
+  listedFormats,
+  listedOctets,
+  isListed,
 }
-use Rattle.formats.proofs.Laws.{beq-eq, among-below, below, beyond}
+use Rattle.formats.proofs.Laws.{beq-eq, beyond}
 
 -- a row of an octet by the rules
 abbrev ruledRows : List ℕ → List FormatRow
@@ -35,22 +33,21 @@ ruledRows (octet ∷ octets) =
     row octet (ancillaryBits octet) (overheadBits octet) (sampleBits octet) (slotsOf octet) ∷ ruledRows octets
 
 -- each row has the bits and the slots that the rules give its octet
-pub rows-by-the-rules : ruledRows eleven ≡ baseFormats
-unfolding eleven sampleBits lengthOf ancillaryBits overheadBits widthOf slotsOf
+pub rows-by-the-rules : ruledRows listedOctets ≡ listedFormats
+unfolding listedOctets sampleBits lengthOf ancillaryBits overheadBits widthOf slotsOf
 rows-by-the-rules = refl
 
-agree-low : {octet : ℕ} → octet < 256 → isValid octet ≡ isBase octet || isAmong octet notYet
-unfolding isValid isBase isAmong eleven sampleBits lengthOf ancillaryBits overheadBits every
+agree-low : {octet : ℕ} → octet < 256 → isValid octet ≡ isListed octet
+unfolding isValid isListed isAmong listedOctets sampleBits lengthOf ancillaryBits overheadBits every
 agree-low {octet} h =
-    beq-eq (isValid octet) (isBase octet || isAmong octet notYet)
-    (every-at (λ k. Bool·beq (isValid k) (isBase k || isAmong k notYet)) 256 tt octet h)
+    beq-eq (isValid octet) (isListed octet) (every-at (λ k. Bool·beq (isValid k) (isListed k)) 256 tt octet h)
 
-agree-high : {octet : ℕ} → 256 ≤ octet → isValid octet ≡ isBase octet || isAmong octet notYet
-unfolding isValid below
+agree-high : {octet : ℕ} → 256 ≤ octet → isValid octet ≡ isListed octet
+unfolding isValid
 agree-high {octet} h =
-    rw (le-ltb octet 256 h) (sym (ap₂ _||_ (beyond (omega arith)) (among-below 256 notYet tt h)))
+    rw (le-ltb octet 256 h) (sym (beyond (omega arith)))
 
--- the octets that are valid by the rules are those of the table, and the three
-pub rules-and-table : (octet : ℕ) → isValid octet ≡ isBase octet || isAmong octet notYet
+-- the octets that are valid by the rules are those of the table
+pub rules-and-table : (octet : ℕ) → isValid octet ≡ isListed octet
 rules-and-table octet =
     split (ltb octet 256) (λ t. agree-low (ltb-true octet 256 t)) (λ t. agree-high (ltb-false octet 256 t))

@@ -1,4 +1,4 @@
--- Laws of the subframe octet: what its length codes mean, and that the paper's rules give just the table's eleven octets.
+-- Laws of the subframe octet: what its length codes mean, and that the paper's rules give just the fourteen octets that are listed.
 -- Assumes nothing.
 use mathlib.Core.Bool.{Bool, true, false, false≢true, cond, not, _&&_, _||_, Bool·beq}
 use mathlib.Core.List.{List, [], _∷_}
@@ -28,9 +28,9 @@ use Rattle.formats.specs.Formats.{
   wholes,
   widthOf,
   slotsOf,
-  eleven,
+  listedOctets,
   isAmong,
-  isBase,
+  isListed,
   noFormat,
   formatOf,
   settingsRefusal,
@@ -60,13 +60,12 @@ sample-le octet =
 abbrev pub bitsOf : ℕ → ℕ → ℕ
 bitsOf sample octet = sample + 4 * (octet / 64) + 4 * (octet / 16 % 4)
 
--- the rules in the code's order for a number below 128, with overhead alone left out as not yet in the base
+-- the rules in the code's order for a number below 128
 pub ruled : ℕ → Bool
 ruled octet =
     cond (isReserved (octet / 16 % 4)) false
-    (cond (ltb (octet / 64) (octet / 16 % 4)) false
     (cond (eqb (sampleBits octet) 0) false
-    (isAmong (bitsOf (sampleBits octet) octet) wholes)))
+    (isAmong (bitsOf (sampleBits octet) octet) wholes))
 
 pub beq-eq : (a b : Bool) → T (Bool·beq a b) → a ≡ b
 beq-eq true true t = refl
@@ -74,11 +73,11 @@ beq-eq true false t = absurd t
 beq-eq false true t = absurd t
 beq-eq false false t = refl
 
--- the rules and the table say the same of each octet
-pub ruled-base : {octet : ℕ} → octet < 128 → ruled octet ≡ isBase octet
-unfolding ruled isBase isAmong eleven sampleBits lengthOf every
-ruled-base {octet} h =
-    beq-eq (ruled octet) (isBase octet) (every-at (λ k. Bool·beq (ruled k) (isBase k)) 128 tt octet h)
+-- the rules and the list say the same of each octet
+pub ruled-listed : {octet : ℕ} → octet < 128 → ruled octet ≡ isListed octet
+unfolding ruled isListed isAmong listedOctets sampleBits lengthOf every
+ruled-listed {octet} h =
+    beq-eq (ruled octet) (isListed octet) (every-at (λ k. Bool·beq (ruled k) (isListed k)) 128 tt octet h)
 
 -- a `match`'s arm is taken where the number is among its keys
 among-key : (keys : List ℕ) (n : ℕ) → hasKey keys n ≡ isAmong n keys
@@ -104,34 +103,34 @@ among-below bound (x ∷ xs) {n} t h =
     let apart : x ≡ n → ⊥ = λ e. omega (arith, ltb→lt x bound (both-left (ltb x bound) (below bound xs) t)) in
     rw (ne-eqb x n apart) (among-below bound xs (both-right (ltb x bound) (below bound xs) t) h)
 
--- a number with more ancillary bits, or beyond an octet, is none of the eleven
-pub above : {octet : ℕ} → 127 < octet → isBase octet ≡ false
-unfolding isBase eleven below
-above h = among-below 128 eleven tt h
+-- a number with more ancillary bits, or beyond an octet, is none of the fourteen
+pub above : {octet : ℕ} → 127 < octet → isListed octet ≡ false
+unfolding isListed listedOctets below
+above h = among-below 128 listedOctets tt h
 
-pub beyond : {octet : ℕ} → 255 < octet → isBase octet ≡ false
+pub beyond : {octet : ℕ} → 255 < octet → isListed octet ≡ false
 beyond h = above (omega arith)
 
-base-low : (octet : ℕ) → isBase octet ≡ true → octet < 128
-base-low octet h =
+listed-low : (octet : ℕ) → isListed octet ≡ true → octet < 128
+listed-low octet h =
     elim (decLt octet 128) [
       | yes less ↦ less
       | no more ↦ absurd (false≢true (sym (above (le-of-suc-le-suc (lt-of-not-le more))) ∙ h))
     ]
 
-pub base-octet : (octet : ℕ) → isBase octet ≡ true → octet < 256
-base-octet octet h = omega (arith, base-low octet h)
+pub listed-octet : (octet : ℕ) → isListed octet ≡ true → octet < 256
+listed-octet octet h = omega (arith, listed-low octet h)
 
 by-bool : (b x : Bool) → b ≡ true → T (not b || x) → T x
 by-bool true x h t = t
 by-bool false x h t = absurd (false≢true h)
 
--- what a test shows of each of the eleven octets
-of-base : (test : ℕ → Bool) → T (every (λ k. not (isBase k) || test k) 128) → (octet : ℕ) → isBase octet ≡ true → T (test octet)
-of-base test t octet h =
-    by-bool (isBase octet) (test octet) h (every-at (λ k. not (isBase k) || test k) 128 t octet (base-low octet h))
+-- what a test shows of each of the fourteen octets
+of-listed : (test : ℕ → Bool) → T (every (λ k. not (isListed k) || test k) 128) → (octet : ℕ) → isListed octet ≡ true → T (test octet)
+of-listed test t octet h =
+    by-bool (isListed octet) (test octet) h (every-at (λ k. not (isListed k) || test k) 128 t octet (listed-low octet h))
 
--- the format of an octet of the eleven
+-- the format of an octet of the fourteen
 abbrev pub fieldsOf : ℕ → Format
 fieldsOf octet =
     record {
@@ -142,61 +141,56 @@ fieldsOf octet =
       slots = slotsOf octet;
     }
 
-pub base-format : (octet : ℕ) → isBase octet ≡ true → formatOf octet ≡ fieldsOf octet
+pub listed-format : (octet : ℕ) → isListed octet ≡ true → formatOf octet ≡ fieldsOf octet
 unfolding formatOf
-base-format octet h = rw h
+listed-format octet h = rw h
 
-pub sound-fields : (octet : ℕ) → isBase octet ≡ true → Sound (fieldsOf octet)
-unfolding every isBase isAmong eleven sampleBits lengthOf ancillaryBits overheadBits widthOf slotsOf
+pub sound-fields : (octet : ℕ) → isListed octet ≡ true → Sound (fieldsOf octet)
+unfolding every isListed isAmong listedOctets sampleBits lengthOf ancillaryBits overheadBits widthOf slotsOf
 sound-fields octet h =
     record {
-      bits = eqb→eq _ _ (of-base (λ k. eqb (sampleBits k + ancillaryBits k + overheadBits k) (8 * widthOf k)) tt octet h);
-      cell = eqb→eq _ _ (of-base (λ k. eqb (slotsOf k * widthOf k) 48) tt octet h);
-      sample-from = leb→le _ _ (of-base (λ k. leb 8 (sampleBits k)) tt octet h);
-      sample-to = leb→le _ _ (of-base (λ k. leb (sampleBits k) 40) tt octet h);
-      ancillary-fours = eqb→eq _ _ (of-base (λ k. eqb (ancillaryBits k % 4) 0) tt octet h);
-      ancillary-to = leb→le _ _ (of-base (λ k. leb (ancillaryBits k) 4) tt octet h);
-      overhead-fours = eqb→eq _ _ (of-base (λ k. eqb (overheadBits k % 4) 0) tt octet h);
-      overhead-to = leb→le _ _ (of-base (λ k. leb (overheadBits k) 4) tt octet h);
-      width-from = leb→le _ _ (of-base (λ k. leb 1 (widthOf k)) tt octet h);
-      width-to = leb→le _ _ (of-base (λ k. leb (widthOf k) 6) tt octet h);
-      slots-from = leb→le _ _ (of-base (λ k. leb 8 (slotsOf k)) tt octet h);
-      slots-to = leb→le _ _ (of-base (λ k. leb (slotsOf k) 48) tt octet h);
+      bits = eqb→eq _ _ (of-listed (λ k. eqb (sampleBits k + ancillaryBits k + overheadBits k) (8 * widthOf k)) tt octet h);
+      cell = eqb→eq _ _ (of-listed (λ k. eqb (slotsOf k * widthOf k) 48) tt octet h);
+      sample-from = leb→le _ _ (of-listed (λ k. leb 8 (sampleBits k)) tt octet h);
+      sample-to = leb→le _ _ (of-listed (λ k. leb (sampleBits k) 40) tt octet h);
+      ancillary-fours = eqb→eq _ _ (of-listed (λ k. eqb (ancillaryBits k % 4) 0) tt octet h);
+      ancillary-to = leb→le _ _ (of-listed (λ k. leb (ancillaryBits k) 4) tt octet h);
+      overhead-fours = eqb→eq _ _ (of-listed (λ k. eqb (overheadBits k % 4) 0) tt octet h);
+      overhead-to = leb→le _ _ (of-listed (λ k. leb (overheadBits k) 4) tt octet h);
+      width-from = leb→le _ _ (of-listed (λ k. leb 1 (widthOf k)) tt octet h);
+      width-to = leb→le _ _ (of-listed (λ k. leb (widthOf k) 6) tt octet h);
+      slots-from = leb→le _ _ (of-listed (λ k. leb 8 (slotsOf k)) tt octet h);
+      slots-to = leb→le _ _ (of-listed (λ k. leb (slotsOf k) 48) tt octet h);
     }
 
-pub sound-format : (octet : ℕ) → isBase octet ≡ true → Sound (formatOf octet)
-sound-format octet h = rw (base-format octet h) (sound-fields octet h)
+pub sound-format : (octet : ℕ) → isListed octet ≡ true → Sound (formatOf octet)
+sound-format octet h = rw (listed-format octet h) (sound-fields octet h)
 
 -- S by the rules: what each refuses, and what the last one decides
-pub no-slots : (octet : ℕ) → isBase octet ≡ false → 0 ≡ formatOf octet .slots
+pub no-slots : (octet : ℕ) → isListed octet ≡ false → 0 ≡ formatOf octet .slots
 unfolding formatOf
 no-slots octet h = rw h
 
 module _ {octet : ℕ} (h : octet < 128) where
-  pub by-reserved : 1 < octet / 16 % 4 → isBase octet ≡ false
+  pub by-reserved : 1 < octet / 16 % 4 → isListed octet ≡ false
   unfolding ruled
-  by-reserved reserved = rw (← ruled-base h, lt-ltb _ _ reserved)
+  by-reserved reserved = rw (← ruled-listed h, lt-ltb _ _ reserved)
 
   module _ (known : octet / 16 % 4 ≤ 1) where
-    pub by-overhead : octet / 64 < octet / 16 % 4 → isBase octet ≡ false
+    pub by-length : sampleBits octet ≡ 0 → isListed octet ≡ false
     unfolding ruled
-    by-overhead alone = rw (← ruled-base h, le-ltb _ _ known, lt-ltb _ _ alone)
+    by-length reserved = rw (← ruled-listed h, le-ltb _ _ known, eq-eqb _ _ reserved)
 
-    module _ (with : octet / 16 % 4 ≤ octet / 64) where
-      pub by-length : sampleBits octet ≡ 0 → isBase octet ≡ false
-      unfolding ruled
-      by-length reserved = rw (← ruled-base h, le-ltb _ _ known, le-ltb _ _ with, eq-eqb _ _ reserved)
+    pub by-bits : (sampleBits octet ≡ 0 → ⊥) → isAmong (bitsOf (sampleBits octet) octet) wholes ≡ isListed octet
+    unfolding ruled
+    by-bits some = rw (← ruled-listed h, le-ltb _ _ known, ne-eqb _ _ some)
 
-      pub by-bits : (sampleBits octet ≡ 0 → ⊥) → isAmong (bitsOf (sampleBits octet) octet) wholes ≡ isBase octet
-      unfolding ruled
-      by-bits some = rw (← ruled-base h, le-ltb _ _ known, le-ltb _ _ with, ne-eqb _ _ some)
-
-pub slots-by-bits : (octet : ℕ) {bits : ℕ} → isBase octet ≡ true → bitsOf (sampleBits octet) octet ≡ bits
+pub slots-by-bits : (octet : ℕ) {bits : ℕ} → isListed octet ≡ true → bitsOf (sampleBits octet) octet ≡ bits
     → 48 / (bits / 8) ≡ formatOf octet .slots
 unfolding slotsOf widthOf ancillaryBits overheadBits
 slots-by-bits octet {bits} h e =
     let whole : bits ≡ sampleBits octet + octet / 64 * 4 + octet / 16 % 4 * 4 = omega (arith, e) in
-    ap (λ (n : ℕ). 48 / (n / 8)) whole ∙ ap (λ (f : Format). f .slots) (sym (base-format octet h))
+    ap (λ (n : ℕ). 48 / (n / 8)) whole ∙ ap (λ (f : Format). f .slots) (sym (listed-format octet h))
 
 -- the format that the octet's fields, these sample bits and these slots make
 abbrev pub made : ℕ → ℕ → ℕ → Format
@@ -209,30 +203,30 @@ made sample slots octet =
       slots = slots;
     }
 
-pub made-format : {sample slots : ℕ} (octet : ℕ) → sample ≡ sampleBits octet → slots ≡ formatOf octet .slots → isBase octet ≡ true
+pub made-format : {sample slots : ℕ} (octet : ℕ) → sample ≡ sampleBits octet → slots ≡ formatOf octet .slots → isListed octet ≡ true
     → made sample slots octet ≡ formatOf octet
 unfolding ancillaryBits overheadBits widthOf
 made-format octet e n h =
-    ap₂ (λ (s k : ℕ). made s k octet) e (n ∙ ap (λ (f : Format). f .slots) (base-format octet h)) ∙ sym (base-format octet h)
+    ap₂ (λ (s k : ℕ). made s k octet) e (n ∙ ap (λ (f : Format). f .slots) (listed-format octet h)) ∙ sym (listed-format octet h)
 
-base-or-not : (octet : ℕ) → (isBase octet ≡ true) ⊎ (isBase octet ≡ false)
-base-or-not octet = go (isBase octet)
+listed-or-not : (octet : ℕ) → (isListed octet ≡ true) ⊎ (isListed octet ≡ false)
+listed-or-not octet = go (isListed octet)
   where
     go : (b : Bool) → (b ≡ true) ⊎ (b ≡ false)
     go true = inl refl
     go false = inr refl
 
-pub not-base : (octet : ℕ) → formatOf octet .slots ≡ 0 → isBase octet ≡ false
-not-base octet e =
-    ⊎-elim (λ h. absurd (let l = sound-format octet h .slots-from in omega arith)) (λ h. h) (base-or-not octet)
+pub not-listed : (octet : ℕ) → formatOf octet .slots ≡ 0 → isListed octet ≡ false
+not-listed octet e =
+    ⊎-elim (λ h. absurd (let l = sound-format octet h .slots-from in omega arith)) (λ h. h) (listed-or-not octet)
 
 pub no-format : (octet : ℕ) → formatOf octet .slots ≡ 0 → noFormat ≡ formatOf octet
 unfolding formatOf
-no-format octet e = rw (not-base octet e)
+no-format octet e = rw (not-listed octet e)
 
-pub is-base : (octet : ℕ) → (formatOf octet .slots ≡ 0 → ⊥) → isBase octet ≡ true
+pub is-listed : (octet : ℕ) → (formatOf octet .slots ≡ 0 → ⊥) → isListed octet ≡ true
 unfolding formatOf
-is-base octet some = ⊎-elim (λ h. h) (λ h. absurd (some (rw h))) (base-or-not octet)
+is-listed octet some = ⊎-elim (λ h. h) (λ h. absurd (some (rw h))) (listed-or-not octet)
 
 -- checks 1 to 3 by S, one after the other
 module _ (slots channels order : ℕ) where
@@ -255,14 +249,14 @@ module _ (slots channels order : ℕ) where
         by-no within = rw (ne-eqb slots 0 some, ne-eqb channels 0 any, le-ltb slots channels fit, le-ltb 1 order within)
 
 -- and by the octet
-by-base : (octet channels order : ℕ) → isBase octet ≡ true
+by-listed : (octet channels order : ℕ) → isListed octet ≡ true
     → refusalBy (formatOf octet .slots) channels order ≡ settingsRefusal octet channels order
 unfolding settingsRefusal
-by-base octet channels order h =
+by-listed octet channels order h =
     let some : slotsOf octet ≡ 0 → ⊥ = λ e. omega (arith, e, sound-fields octet h .slots-from) in
-    rw (h, base-format octet h, ne-eqb _ _ some)
+    rw (h, listed-format octet h, ne-eqb _ _ some)
 
-by-none : (octet channels order : ℕ) → isBase octet ≡ false
+by-none : (octet channels order : ℕ) → isListed octet ≡ false
     → refusalBy (formatOf octet .slots) channels order ≡ settingsRefusal octet channels order
 unfolding settingsRefusal formatOf
 by-none octet channels order h = rw h
@@ -271,7 +265,7 @@ pub refusal-by : {slots : ℕ} (octet channels order : ℕ) → slots ≡ format
     → refusalBy slots channels order ≡ settingsRefusal octet channels order
 refusal-by octet channels order given =
     ap (λ (n : ℕ). refusalBy n channels order) given
-    ∙ ⊎-elim (by-base octet channels order) (by-none octet channels order) (base-or-not octet)
+    ∙ ⊎-elim (by-listed octet channels order) (by-none octet channels order) (listed-or-not octet)
 
 pub some-channels : (slots channels order : ℕ) → refusalBy slots channels order ≡ 0 → 1 ≤ channels
 some-channels slots channels order e =
@@ -311,7 +305,7 @@ module _ {f : Format} {n : ℕ} (octet channels order : ℕ) (given : f ≡ form
 
 -- checks 1 to 3 passed: what they leave
 pub record Settles (octet channels order : ℕ) : Type 0 where
-  pub base : isBase octet ≡ true
+  pub listed : isListed octet ≡ true
   pub channels-from : 1 ≤ channels
   pub channels-to : channels ≤ slotsOf octet
   pub order-to : order ≤ 1
@@ -319,19 +313,19 @@ pub record Settles (octet channels order : ℕ) : Type 0 where
 pub settles-all : (octet channels order : ℕ) → settingsRefusal octet channels order ≡ 0 → Settles octet channels order
 unfolding settingsRefusal
 settles-all octet channels order e =
-    let first = past (not (isBase octet)) 0 _ e in
+    let first = past (not (isListed octet)) 0 _ e in
     let second = past (eqb channels 0 || ltb (slotsOf octet) channels) 1 _ (first .1) in
     let third = past (ltb 1 order) 2 _ (second .1) in
     let count = neither (eqb channels 0) (ltb (slotsOf octet) channels) (second .0) in
     record {
-      base = Tests.not-false (isBase octet) (first .0);
+      listed = Tests.not-false (isListed octet) (first .0);
       channels-from = pos-of-ne-zero (eqb-false channels 0 (count .0));
       channels-to = ltb-false (slotsOf octet) channels (count .1);
       order-to = ltb-false 1 order (third .0);
     }
 
-pub slots-base : (octet : ℕ) → isBase octet ≡ true → slotsOf octet ≤ 48
-slots-base octet h = sound-fields octet h .slots-to
+pub slots-listed : (octet : ℕ) → isListed octet ≡ true → slotsOf octet ≤ 48
+slots-listed octet h = sound-fields octet h .slots-to
 
 -- the settings' refusal, and what they are where there is none
 pub refusal-of : (octet channels order : ℕ) → settingsOf octet channels order .refusal ≡ settingsRefusal octet channels order
@@ -352,10 +346,10 @@ settled-limits octet channels order is none = rw is limits
     passed = settles-all octet channels order none
 
     sound : Sound (formatOf octet)
-    sound = sound-format octet (passed .base)
+    sound = sound-format octet (passed .listed)
 
     fits : channels ≤ formatOf octet .slots
-    fits = rw (base-format octet (passed .base)) (passed .channels-to)
+    fits = rw (listed-format octet (passed .listed)) (passed .channels-to)
 
     used-in : channels * (formatOf octet .slots / channels) ≤ formatOf octet .slots
     used-in = mul-div-le (formatOf octet .slots) channels
@@ -392,11 +386,11 @@ module _ {set : Settled} (octet channels order later : ℕ) (given : set ≡ set
 
 -- 56 hex in order 0, with one channel and with two
 pub usual-one : usualWith 1 12 ≡ settingsOf 0x56 1 0
-unfolding settingsOf settingsRefusal formatOf isBase isAmong eleven sampleBits lengthOf ancillaryBits overheadBits widthOf slotsOf
+unfolding settingsOf settingsRefusal formatOf isListed isAmong listedOctets sampleBits lengthOf ancillaryBits overheadBits widthOf slotsOf
 usual-one = refl
 
 pub usual-two : usualWith 2 6 ≡ settingsOf 0x56 2 0
-unfolding settingsOf settingsRefusal formatOf isBase isAmong eleven sampleBits lengthOf ancillaryBits overheadBits widthOf slotsOf
+unfolding settingsOf settingsRefusal formatOf isListed isAmong listedOctets sampleBits lengthOf ancillaryBits overheadBits widthOf slotsOf
 usual-two = refl
 
 module _ {set : Settled} (channels : ℕ) (given : set ≡ settingsOf 0x56 (cond (eqb channels 2) 2 1) 0) where

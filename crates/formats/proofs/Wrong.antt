@@ -11,9 +11,9 @@ use Rattle.formats.specs.Formats.{
   sampleBits,
   ancillaryBits,
   overheadBits,
-  eleven,
+  listedOctets,
   isAmong,
-  isBase,
+  isListed,
   widthOf,
   slotsOf,
   formatOf,
@@ -30,7 +30,7 @@ use Rattle.formats.proofs.usual.Reads as usual-reads
 
 -- every definition on the way down to the numbers
 unfoldable pub unfolded : Unit {0}
-unfolding lengthOf sampleBits ancillaryBits overheadBits eleven isAmong isBase widthOf slotsOf formatOf settingsRefusal settingsOf isUsual
+unfolding lengthOf sampleBits ancillaryBits overheadBits listedOctets isAmong isListed widthOf slotsOf formatOf settingsRefusal settingsOf isUsual
 unfolded = tt
 
 module _ (κs : Lfts 0) where
@@ -43,6 +43,18 @@ module _ (κs : Lfts 0) where
   pub not-cut-to-an-octet : Never settings-kinds.ps settings-kinds.r settings-reads.Post κs (0x156, (2, (0, tt))) (λ x v. x .refusal ≡ 0)
   unfolding unfolded
   not-cut-to-an-octet x v wrong p = let right : x .refusal ≡ 1 = ap (λ (s : Settled). s .refusal) p in omega arith
+
+  -- overhead alone refused, as before request 4
+  pub overhead-alone-not-refused : Never settings-kinds.ps settings-kinds.r settings-reads.Post κs (0x15, (16, (0, tt))) (λ x v. x .refusal ≡ 1)
+  unfolding unfolded
+  overhead-alone-not-refused x v wrong p = let right : x .refusal ≡ 0 = ap (λ (s : Settled). s .refusal) p in omega arith
+
+  -- overhead alone taken for overhead with ancillary bits
+  pub overhead-alone-not-with-ancillary : Never settings-kinds.ps settings-kinds.r settings-reads.Post κs (0x17, (2, (0, tt)))
+      (λ x v. x .format .«ancillary_bits» ≡ 4)
+  unfolding unfolded
+  overhead-alone-not-with-ancillary x v wrong p =
+      let right : x .format .«ancillary_bits» ≡ 0 = ap (λ (s : Settled). s .format .«ancillary_bits») p in omega arith
 
   -- T rounded up: five channels in twelve slots
   pub times-not-rounded-up : Never settings-kinds.ps settings-kinds.r settings-reads.Post κs (0x56, (5, (0, tt))) (λ x v. x .times ≡ 3)

@@ -65,10 +65,12 @@ abbrev pub row : ℕ → ℕ → ℕ → ℕ → ℕ → FormatRow
 row octet ancillary overhead sample slots =
     record { octet = octet; ancillary = ancillary; overhead = overhead; sample = sample; slots = slots }
 
--- "Base formats, with S the slots in a cell": octet; ancillary, overhead and sample bits; S
-abbrev pub baseFormats : List FormatRow
-baseFormats =
+-- "Base formats, with S the slots in a cell", and with request 4 "13, 15 and 17 hex must be taken at both ends", "S is 24, 16 and 12":
+-- octet; ancillary, overhead and sample bits; S
+abbrev pub listedFormats : List FormatRow
+listedFormats =
     row 0x02 0 0 8 48 ∷ row 0x04 0 0 16 24 ∷ row 0x06 0 0 24 16 ∷ row 0x08 0 0 32 12
+    ∷ row 0x13 0 4 12 24 ∷ row 0x15 0 4 20 16 ∷ row 0x17 0 4 28 12
     ∷ row 0x43 4 0 12 24 ∷ row 0x45 4 0 20 16 ∷ row 0x47 4 0 28 12
     ∷ row 0x52 4 4 8 24 ∷ row 0x54 4 4 16 16 ∷ row 0x56 4 4 24 12 ∷ row 0x5A 4 4 40 8
     ∷ []
@@ -77,25 +79,21 @@ abbrev pub octetsIn : List FormatRow → List ℕ
 octetsIn [] = []
 octetsIn (r ∷ rs) = r .octet ∷ octetsIn rs
 
--- the table's octets: the eleven base formats
-unfoldable pub eleven : List ℕ
-eleven = octetsIn baseFormats
+-- the octets of the fourteen formats
+unfoldable pub listedOctets : List ℕ
+listedOctets = octetsIn listedFormats
 
--- "13, 15 and 17 hex (overhead alone) are valid in the standard but not yet in the base."
-abbrev pub notYet : List ℕ
-notYet = 0x13 ∷ 0x15 ∷ 0x17 ∷ []
+-- not refused 1, which "is now for an octet that is none of the fourteen"
+unfoldable pub isListed : ℕ → Bool
+isListed octet = isAmong octet listedOctets
 
--- not refused 1: "the octet is none of the eleven"
-unfoldable pub isBase : ℕ → Bool
-isBase octet = isAmong octet eleven
-
--- the format of an octet of the eleven, and all zeros for any other
+-- the format of an octet of the fourteen, and all zeros for any other
 abbrev pub noFormat : Format
 noFormat = record { «sample_bits» = 0; «ancillary_bits» = 0; «overhead_bits» = 0; width = 0; slots = 0 }
 
 unfoldable pub formatOf : ℕ → Format
 formatOf octet =
-    cond (isBase octet)
+    cond (isListed octet)
     (record {
       «sample_bits» = sampleBits octet;
       «ancillary_bits» = ancillaryBits octet;
@@ -109,7 +107,7 @@ formatOf octet =
 abbrev pub timesOf : ℕ → ℕ → ℕ
 timesOf slots channels = slots / channels
 
--- checks 1 to 3, in that order: "the octet is none of the eleven", "C is 0 or above S", "order above 1"; 0 where none is given
+-- checks 1 to 3, in that order: "an octet that is none of the fourteen", "C is 0 or above S", "order above 1"; 0 where none is given
 unfoldable pub settingsRefusal : ℕ → ℕ → ℕ → ℕ
 settingsRefusal octet channels order =
-    cond (not (isBase octet)) 1 (cond (eqb channels 0 || ltb (slotsOf octet) channels) 2 (cond (ltb 1 order) 3 0))
+    cond (not (isListed octet)) 1 (cond (eqb channels 0 || ltb (slotsOf octet) channels) 2 (cond (ltb 1 order) 3 0))

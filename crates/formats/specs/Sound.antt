@@ -1,4 +1,4 @@
--- Words of the code, which document 01 doesn't have: what all formats share, and what settings bound. That each of the eleven has it is
+-- Words of the code, which document 01 doesn't have: what all formats share, and what settings bound. That each of the fourteen has it is
 -- proved (formats/proofs/Laws). Laws of cells, sending and receiving are then proved once, for all formats.
 -- Assumes nothing.
 use mathlib.Core.Path.{_≡_}

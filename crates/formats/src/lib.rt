@@ -40,8 +40,8 @@ fn sample_bits(octet: u32) -> u32
     }
 }
 
-// S, the slots in a cell, for an octet with these sample bits: 0 where it is none of the eleven base formats. The number isn't cut
-// to an octet before. It goes by the rules of the paper's first paragraph and not by its table; the two are proved to agree.
+// S, the slots in a cell, for an octet with these sample bits: 0 where it is none of the fourteen formats. The number isn't cut
+// to an octet before. It goes by the rules of the paper's first paragraph and not by a table; the two are proved to agree.
 fn slots_of(octet: u32, sample: u32) -> usize
     requires { ⌜ sample ≡ sampleBits octet ⌝ }
     ensures { λ r. ⌜ r ≡ formatOf octet .slots ⌝ }
@@ -52,10 +52,6 @@ fn slots_of(octet: u32, sample: u32) -> usize
     }
     let overhead = octet / 16 % 4;
     if 1 < overhead {
-        return 0;
-    }
-    // overhead alone: not yet in the base
-    if ancillary < overhead {
         return 0;
     }
     if sample == 0 {
@@ -72,7 +68,7 @@ fn slots_of(octet: u32, sample: u32) -> usize
     }
 }
 
-// The format of one of the eleven octets, and all zeros for any other number.
+// The format of one of the fourteen octets, and all zeros for any other number.
 fn format_of(octet: u32) -> Format
     ensures { λ r. ⌜ r ≡ formatOf octet ⌝ }
 {

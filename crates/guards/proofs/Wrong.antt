@@ -9,14 +9,14 @@ use lib.ListN.{getD}
 use Rattle.runs.specs.Division.{coefficients, divided, takenDown}
 use Rattle.runs.proofs.Laws.{getD-tab}
 use Rattle.runs.proofs.Wrong.{Never}
-use Rattle.guards.specs.Guards.{nineOf, tenGuard, guardOf}
+use Rattle.guards.specs.Guards.{vOf, nineOf, protectedBits, tenGuard, guardOf}
 use Rattle.guards.specs.Code.{sevenGuards}
 use Rattle.guards.proofs.sevens.Kinds as sevens-kinds
 use Rattle.guards.proofs.sevens.Reads as sevens-reads
 
 -- every definition on the way down to the numbers
 unfoldable pub unfolded : Unit {0}
-unfolding coefficients divided takenDown nineOf tenGuard sevenGuards guardOf
+unfolding coefficients divided takenDown vOf nineOf protectedBits tenGuard sevenGuards guardOf
 unfolded = tt
 
 module _ (κs : Lfts 0) where

@@ -1,7 +1,7 @@
 -- The demands on one page: each statement beside the minutes' sentence, each proof a citation.
 -- Assumes nothing.
 use mathlib.Core.Bool.{Bool, cond, _||_}
-use mathlib.Core.List.{List, [], _∷_}
+use mathlib.Core.List.{List, [], _∷_, flatMap}
 use mathlib.Core.Path.{_≡_}
 use Prim.Native.Nat.{ℕ, _%_}
 use native.Mathlib.Nat.{le-trans}
@@ -31,6 +31,9 @@ use Rattle.listing.specs.Text.{listed}
 use Rattle.cable.specs.declared.Imported.{Imported}
 use Rattle.cable.specs.declared.Exported.{Exported}
 use Rattle.cable.specs.Frames.{importRefusal, exportRefusal}
+use Rattle.units.specs.Back.{ExportCall, exportTable, ExportedNothing, ReadCall, readTable, EnteredNothing}
+use Rattle.circuits.specs.declared.Verdict.{Verdict}
+use Rattle.circuits.specs.Circuits.{refusalOf, answerOf, circuitOf, octetRefusal, checkRefusal, planRefusalOf}
 use Rattle.line.specs.Contracts.{
   SendCall,
   MeetsSend,
@@ -38,6 +41,7 @@ use Rattle.line.specs.Contracts.{
   MeetsReceive,
   MeetsOpenSender,
   MeetsOpenReceiver,
+  MeetsPlaced,
   MeetsJudged,
   MeetsStep,
   MeetsReadNumber,
@@ -51,6 +55,10 @@ use Rattle.line.specs.Contracts.{
   MeetsEnd,
   MeetsImport,
   MeetsExport,
+  MeetsExportUnits,
+  MeetsReadUnit,
+  MeetsCheckCircuits,
+  MeetsPlanCircuits,
 }
 use Rattle.line.specs.Demands.{
   Refuses,
@@ -68,9 +76,10 @@ use Rattle.line.specs.Demands.{
   GivesBack,
   Tells,
 }
-use Rattle.line.specs.Line.{Demand3}
+use Rattle.line.specs.Line.{OverTheLine, Demand3, refusals, refusalsOf, CountsCells}
 use Rattle.line.proofs.Calls.{sends-or-nothing, receives-or-nothing, gives-back, tells}
 use Rattle.line.proofs.Cells.{is-document-01's}
+use Rattle.line.proofs.Counts.{counts-cells}
 use Rattle.line.proofs.Places.{longest-inside, demand-3-inside}
 use Rattle.line.proofs.Refused.{
   opens-sender,
@@ -86,6 +95,10 @@ use Rattle.line.proofs.Refused.{
   lists,
   imports,
   exports,
+  exports-units,
+  reads-unit,
+  checks-circuits,
+  plans-circuits,
 }
 
 -- 1. "Each public call takes arbitrary octets, numbers, run lengths and states, and ends with an answer. It refuses exactly where
@@ -104,6 +117,10 @@ demand-1-open-sender = opens-sender
 pub demand-1-open-receiver : (octet channels order : ℕ) (r : Ready) → MeetsOpenReceiver octet channels order r
     → Refuses (r .refusal) (settingsRefusal octet channels order) (r .state ≡ R.zeroState)
 demand-1-open-receiver = opens-receiver
+
+-- it refuses nothing
+pub demand-1-placed : (st : Receiver) (r : ℕ) → MeetsPlaced st r → r ≡ st .count
+demand-1-placed st r meets = meets
 
 pub demand-1-judged : (state : Receiver) (cell : List ℕ) (indication : Bool) (r : Received) → MeetsJudged state cell indication r
     → Refuses (r .refusal) (R.receiveRefusal state cell indication 720 720 720) (JudgedNothing state r)
@@ -161,6 +178,22 @@ pub demand-1-export : (samples ancillary : List ℕ) (r : Exported) → MeetsExp
     → Refuses (r .refusal) (exportRefusal samples ancillary) ((r .preambles ≡ 0 ∷ 0 ∷ []) × (r .subframes ≡ 0 ∷ 0 ∷ []))
 demand-1-export = exports
 
+pub demand-1-export-units : (e : ExportCall) → MeetsExportUnits e → Refuses (e .answer .refusal) (exportTable e) (ExportedNothing e)
+demand-1-export-units = exports-units
+
+pub demand-1-read-unit : (r : ReadCall) → MeetsReadUnit r → Refuses (r .answer .refusal) (readTable r) (EnteredNothing r)
+demand-1-read-unit = reads-unit
+
+pub demand-1-check-circuits : (octet channels frequency : ℕ) (shares allowances : List ℕ) (r : Verdict)
+    → MeetsCheckCircuits octet channels frequency shares allowances r
+    → Refuses (refusalOf r) (checkRefusal (octetRefusal octet) channels frequency (length shares) (length allowances))
+    ((answerOf r ≡ 0) × (circuitOf r ≡ 0))
+demand-1-check-circuits = checks-circuits
+
+pub demand-1-plan-circuits : (octet channels : ℕ) (shares : List ℕ) (r : ℕ) (after : List ℕ) → MeetsPlanCircuits octet channels shares r after
+    → Refuses r (planRefusalOf octet channels shares) (after ≡ shares)
+demand-1-plan-circuits = plans-circuits
+
 -- 2. "Cells, number protection, data protection and placement are document 01's for every format listed."
 pub demand-2-cell : (s : SendCall) → MeetsSend s → s .answer .refusal ≡ 0 → IsDocument01's s
 demand-2-cell = is-document-01's
@@ -180,7 +213,26 @@ demand-2-numbers = tells
 -- first eight sequencing bits and perhaps anything else), at most fourteen in a row, a fresh receiver in the sender's settings with
 -- room: from the first unaltered cell to the last each sample and its ancillary bits stand in their sent place, exact and marked
 -- sound; each place of a dropped or spoiled cell holds zero and is marked missing; nothing else is handed out."
-pub demand-3 : Demand3 3 14 MeetsSend MeetsReceive
+--
+-- Request 10: "Demand 3 also holds where a cell, as it first came, is delivered again any number of times before the next sent cell
+-- arrives." A cell's fate has that number.
+--
+-- Request 5: "Demand 3 then holds for at most 4,294,967,295 cells sent, and also says that this number is the last unaltered cell's
+-- place counted from the first unaltered one, plus 1, or 0 where no cell came unaltered."
+pub demand-3 : Demand3 3 14 4294967295 MeetsSend MeetsReceive
 unfolding Demand3
-demand-3 st sends trips receives with-overhead row these fair few =
-    demand-3-inside st sends trips receives with-overhead row these fair (le-trans (longest-inside trips) few)
+demand-3 st sends trips receives with-overhead row these within fair few meets came room =
+    demand-3-inside st sends trips receives with-overhead row these within fair (le-trans (longest-inside trips) few) meets came room
+    .comes-out
+
+-- "Extra copies of an unaltered cell are refused 9 and leave nothing behind": the latter is demand 1's. No call of the row gets 20.
+pub demand-3-copies : OverTheLine 3 14 4294967295 MeetsSend MeetsReceive
+    (λ fresh trips receives. refusals receives ≡ flatMap (λ t. refusalsOf (t .fate)) trips)
+demand-3-copies st sends trips receives with-overhead row these within fair few meets came room =
+    demand-3-inside st sends trips receives with-overhead row these within fair (le-trans (longest-inside trips) few) meets came room
+    .refused-so
+
+-- Request 5: "Keep it in the receiver's state, true after every call: it equals the sound cells plus the missing counts of the calls
+-- made since the state was opened, and a refused call doesn't move it."
+pub count-after-every-call : CountsCells MeetsReceive
+count-after-every-call = counts-cells

@@ -27,6 +27,8 @@ use Rattle.receiver.proofs.opened.Kinds as open-receiver-kinds
 use Rattle.receiver.proofs.opened.Reads as open-receiver-reads
 use Rattle.receiver.proofs.receive.Kinds as receive-kinds
 use Rattle.receiver.proofs.receive.Reads as receive-reads
+use Rattle.receiver.proofs.placed.Kinds as placed-kinds
+use Rattle.receiver.proofs.placed.Reads as placed-reads
 use Rattle.status.specs.declared.step.Handed.{Handed}
 use Rattle.status.proofs.step.step.Kinds as step-kinds
 use Rattle.status.proofs.step.step.Reads as step-reads
@@ -65,11 +67,20 @@ use Rattle.cable.proofs.import_frame.Kinds as import-kinds
 use Rattle.cable.proofs.import_frame.Reads as import-reads
 use Rattle.cable.proofs.export_frame.Kinds as export-kinds
 use Rattle.cable.proofs.export_frame.Reads as export-reads
+use Rattle.units.proofs.export_units.Kinds as export-units-kinds
+use Rattle.units.proofs.export_units.Reads as export-units-reads
+use Rattle.units.proofs.read_unit.Kinds as read-unit-kinds
+use Rattle.units.proofs.read_unit.Reads as read-unit-reads
+use Rattle.circuits.proofs.check.Kinds as check-circuits-kinds
+use Rattle.circuits.proofs.check.Reads as check-circuits-reads
+use Rattle.circuits.proofs.plan.Kinds as plan-circuits-kinds
+use Rattle.circuits.proofs.plan.Reads as plan-circuits-reads
 use Rattle.line.specs.Contracts.{
   MeetsSend,
   MeetsReceive,
   MeetsOpenSender,
   MeetsOpenReceiver,
+  MeetsPlaced,
   MeetsJudged,
   MeetsStep,
   MeetsReadNumber,
@@ -84,6 +95,10 @@ use Rattle.line.specs.Contracts.{
   MeetsTake,
   MeetsImport,
   MeetsExport,
+  MeetsExportUnits,
+  MeetsReadUnit,
+  MeetsCheckCircuits,
+  MeetsPlanCircuits,
 }
 
 -- Whatever a function is called with (a), answers (x) and leaves in what was lent to it (v): where its `ensures` holds, so does
@@ -129,6 +144,9 @@ pub receive-ensures : Ensured receive-kinds.ps receive-kinds.r receive-reads.Pos
       marks-after = v .1 .1 .1 .1 .1 .0;
     }))
 receive-ensures κs a x v p = p
+
+pub placed-ensures : Ensured placed-kinds.ps placed-kinds.r placed-reads.Post (λ κs a x v. MeetsPlaced (a .0) x)
+placed-ensures κs a x v p = p
 
 pub judged-ensures : Ensured judged-kinds.ps judged-kinds.r judged-reads.Post
     (λ κs a x v. MeetsJudged (a .0) (now (a .1 .0)) (a .1 .1 .0) x)
@@ -211,3 +229,37 @@ module _ {M : Type 1} (𝓤 : URA M) (H : Heap 𝓤) (A : Atoms 𝓤) (mem : Mem
   pub read-ensures : (a : Args read.signature κs) (x : Record)
       → ent 𝓤 (ReadEnsures 𝓤 H A mem run κs a x) (fact 𝓤 (MeetsReadRecord (now (a .0)) (a .1 .0) x))
   read-ensures a x = fact-mono 𝓤 _ _ (λ p. p)
+
+pub export-units-ensures : Ensured export-units-kinds.ps export-units-kinds.r export-units-reads.Post
+    (λ κs a x v. MeetsExportUnits (record {
+      octet = a .0;
+      channels = a .1 .0;
+      size = a .1 .1 .0;
+      samples = now (a .1 .1 .1 .0);
+      ancillary = now (a .1 .1 .1 .1 .0);
+      out = now (a .1 .1 .1 .1 .1 .0);
+      answer = x;
+      out-after = v .1 .1 .1 .1 .1 .0;
+    }))
+export-units-ensures κs a x v p = p
+
+pub read-unit-ensures : Ensured read-unit-kinds.ps read-unit-kinds.r read-unit-reads.Post
+    (λ κs a x v. MeetsReadUnit (record {
+      octet = a .0;
+      channels = a .1 .0;
+      unit = now (a .1 .1 .0);
+      samples = now (a .1 .1 .1 .0);
+      ancillary = now (a .1 .1 .1 .1 .0);
+      answer = x;
+      samples-after = v .1 .1 .1 .0;
+      ancillary-after = v .1 .1 .1 .1 .0;
+    }))
+read-unit-ensures κs a x v p = p
+
+pub check-circuits-ensures : Ensured check-circuits-kinds.ps check-circuits-kinds.r check-circuits-reads.Post
+    (λ κs a x v. MeetsCheckCircuits (a .0) (a .1 .0) (a .1 .1 .0) (now (a .1 .1 .1 .0)) (now (a .1 .1 .1 .1 .0)) x)
+check-circuits-ensures κs a x v p = p
+
+pub plan-circuits-ensures : Ensured plan-circuits-kinds.ps plan-circuits-kinds.r plan-circuits-reads.Post
+    (λ κs a x v. MeetsPlanCircuits (a .0) (a .1 .0) (now (a .1 .1 .0)) x (v .1 .1 .0))
+plan-circuits-ensures κs a x v p = p

@@ -10,7 +10,7 @@ use lib.Count.{ones, onesIn}
 use lib.Dec.{eqb}
 use lib.ListN.{replicate}
 use Rattle.runs.specs.Runs.{over, joined}
-use Rattle.formats.specs.Formats.{lengthOf, sampleBits, ancillaryBits, overheadBits, eleven, isAmong, isBase, widthOf, slotsOf, formatOf, timesOf}
+use Rattle.formats.specs.Formats.{lengthOf, sampleBits, ancillaryBits, overheadBits, listedOctets, isAmong, isListed, widthOf, slotsOf, formatOf, timesOf}
 use Rattle.cable.specs.Frames.{importOf, exportOf}
 use Rattle.cable.specs.Back.{Halves, SameFrame}
 use Rattle.cable.specs.Rows.{samplesOf, ancillaryOf, pairAt}
@@ -31,7 +31,7 @@ someSlots k = 0x30 ∷ 0x50 ∷ []
 
 -- two channels in a cell of 56 hex have six times
 six-times : 12 ≡ 2 * timesOf (formatOf 0x56 .slots) 2
-unfolding lengthOf sampleBits ancillaryBits overheadBits eleven isAmong isBase widthOf slotsOf formatOf
+unfolding lengthOf sampleBits ancillaryBits overheadBits listedOctets isAmong isListed widthOf slotsOf formatOf
 six-times = refl
 
 -- six frames, a call that sends what they bring and a call that receives its cell: frame k stands after the six times of each missing

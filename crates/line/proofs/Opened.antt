@@ -7,7 +7,7 @@ use Rattle.runs.specs.Refusals.{orElse}
 use Rattle.runs.specs.Runs.{tab, joined, octetsOf, readOn, over}
 use Rattle.formats.specs.Formats as F
 use Rattle.numbers.specs.Numbers as N
-use Rattle.guards.specs.Guards.{nineOf, tenGuard, guardOf}
+use Rattle.guards.specs.Guards.{vOf, nineOf, protectedBits, tenGuard, guardOf}
 use Rattle.cells.specs.Cells as C
 use Rattle.cells.specs.Placement.{slotOf, slotOfEntry, entryOfSlot, carried}
 use Rattle.sender.specs.Sender as S
@@ -19,11 +19,12 @@ unfolding flatMap zip zipWith ones onesIn coefficients divided takenDown orElse 
 runs = tt
 
 formats : Unit {0}
-unfolding F.lengthOf F.sampleBits F.ancillaryBits F.overheadBits F.eleven F.isAmong F.isBase F.widthOf F.slotsOf F.formatOf F.settingsRefusal
+unfolding F.lengthOf F.sampleBits F.ancillaryBits F.overheadBits F.listedOctets F.isAmong F.isListed F.widthOf F.slotsOf F.formatOf F.settingsRefusal
 formats = tt
 
 numbers : Unit {0}
-unfolding N.tableA1 N.turned N.protectionOf N.sevenOf N.dividedEntry N.wordBit N.gathered N.placeIn N.foundOf N.differenceOf nineOf tenGuard guardOf
+unfolding N.tableA1 N.turned N.protectionOf N.sevenOf N.dividedEntry N.wordBit N.gathered N.placeIn N.foundOf N.differenceOf
+    vOf nineOf protectedBits tenGuard guardOf
 numbers = tt
 
 found : Unit {0}
@@ -47,11 +48,12 @@ unfolding S.cellNow S.sentOf S.cellAfter
 sent = tt
 
 receiver : Unit {0}
-unfolding R.lastRefused R.stateRefusal R.lengthsRefused R.foundNow R.gapOf R.receiveRefusal R.entriesNow R.secondNow R.after R.receivedOf R.entriesGiven
+unfolding R.openedOf R.lastRefused R.countRefused R.stateRefusal R.lengthsRefused R.foundNow R.gapOf R.countAfter
+    R.receiveRefusal R.entriesNow R.secondNow R.after R.receivedOf R.entriesGiven
 receiver = tt
 
 line : Unit {0}
-unfolding L.Row L.wrote L.Each L.longest L.placesOf L.fromFirst L.allLost L.toLast L.Demand3
+unfolding L.Row L.wrote L.Each L.longest L.placesOf L.fromFirst L.allLost L.toLast L.pastLast L.leftBy L.total L.CountsCells L.Demand3
 line = tt
 
 unfoldable pub opened : Unit {0}

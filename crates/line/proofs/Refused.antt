@@ -37,6 +37,11 @@ use Rattle.cable.specs.declared.Imported.{Imported}
 use Rattle.cable.specs.declared.Exported.{Exported}
 use Rattle.cable.specs.Frames.{importRefusal, exportRefusal}
 use Rattle.cable.proofs.Demand1 as cable
+use Rattle.units.specs.Back.{ExportCall, exportTable, ExportedNothing, ReadCall, readTable, EnteredNothing}
+use Rattle.units.proofs.Demand1 as units
+use Rattle.circuits.specs.declared.Verdict.{Verdict}
+use Rattle.circuits.specs.Circuits.{refusalOf, answerOf, circuitOf, octetRefusal, checkRefusal, planRefusalOf}
+use Rattle.circuits.proofs.Demand1 as circuits
 use Rattle.line.specs.Contracts.{
   MeetsOpenSender,
   MeetsOpenReceiver,
@@ -50,6 +55,10 @@ use Rattle.line.specs.Contracts.{
   MeetsEnd,
   MeetsImport,
   MeetsExport,
+  MeetsExportUnits,
+  MeetsReadUnit,
+  MeetsCheckCircuits,
+  MeetsPlanCircuits,
 }
 use Rattle.line.specs.Demands.{Refuses, JudgedNothing, SteppedNothing, recordTable, ReadNothing}
 
@@ -186,3 +195,22 @@ exports samples ancillary r meets =
       then-nothing =
           λ some. (ap (λ (x : Exported). x .preambles) (one .1 some), ap (λ (x : Exported). x .subframes) (one .1 some));
     }
+
+pub exports-units : (e : ExportCall) → MeetsExportUnits e → Refuses (e .answer .refusal) (exportTable e) (ExportedNothing e)
+exports-units e meets = let one = units.demand-1-export e meets in record { by-the-table = one .0; then-nothing = one .1 }
+
+pub reads-unit : (r : ReadCall) → MeetsReadUnit r → Refuses (r .answer .refusal) (readTable r) (EnteredNothing r)
+reads-unit r meets = let one = units.demand-1-read r meets in record { by-the-table = one .0; then-nothing = one .1 }
+
+pub checks-circuits : (octet channels frequency : ℕ) (shares allowances : List ℕ) (r : Verdict)
+    → MeetsCheckCircuits octet channels frequency shares allowances r
+    → Refuses (refusalOf r) (checkRefusal (octetRefusal octet) channels frequency (length shares) (length allowances))
+    ((answerOf r ≡ 0) × (circuitOf r ≡ 0))
+checks-circuits octet channels frequency shares allowances r meets =
+    let one = circuits.demand-1-check octet channels frequency shares allowances r meets in
+    record { by-the-table = one .0; then-nothing = λ some. (ap answerOf (one .1 some), ap circuitOf (one .1 some)) }
+
+pub plans-circuits : (octet channels : ℕ) (shares : List ℕ) (r : ℕ) (after : List ℕ) → MeetsPlanCircuits octet channels shares r after
+    → Refuses r (planRefusalOf octet channels shares) (after ≡ shares)
+plans-circuits octet channels shares r after meets =
+    let one = circuits.demand-1-plan octet channels shares r after meets in record { by-the-table = one .0; then-nothing = one .1 }

@@ -1,13 +1,13 @@
 -- One cell on the line: an unaltered one is taken and gives back what was sent, a spoiled one is refused.
 -- Assumes nothing.
-use mathlib.Core.Bool.{true, false, cond}
+use mathlib.Core.Bool.{Bool, true, false, cond, not, _||_}
 use mathlib.Core.List.{List, [], _∷_, _++_, zip, zipWith}
 use mathlib.Core.Path.{_≡_, refl, sym, _∙_, ap, ap₂}
 use Prim.Native.Nat.{ℕ, zero, suc, _+_, _*_, _%_, _-_, _≤_, _<_}
 use native.Mathlib.Nat.{mod-add-mod, mod-eq-of-lt, add-mod-right, suc-mul, suc-ne-zero}
 use native.Mathlib.Numerals.{add-one}
 use native.Mathlib.Omega.{arith}
-use borrow.Author.Tests.{ne-eqb, eq-eqb, eqb-true, eqb-false}
+use borrow.Author.Tests.{ne-eqb, eq-eqb, le-ltb, eqb-true, eqb-false}
 use lib.Bits.{bitXor, xor-self}
 use lib.Count.{ones, onesIn}
 use lib.Dec.{eqb, ltb}
@@ -23,12 +23,12 @@ use Rattle.numbers.proofs.Laws.{table-apart, no-entry-refused}
 use Rattle.cells.specs.Cells.{eightIn}
 use Rattle.sender.specs.Sender as S
 use Rattle.receiver.specs.Receiver as R
-use Rattle.receiver.proofs.Laws as RL
 use Rattle.receiver.proofs.Indication.{never-15, bare-never-15}
 use Rattle.line.specs.Contracts.{SendCall, MeetsSend, ReceiveCall, MeetsReceive}
 use Rattle.line.specs.Demands.{receiveTable, InSettings, formatIn, GivesBack}
 use Rattle.line.specs.Line.{alteredIn, WithRoom, Place, places, handedBy}
 use Rattle.line.proofs.Calls.{gives-back}
+use Rattle.line.proofs.Repeats.{late}
 use Rattle.line.proofs.Cells.{
   received-refusal,
   settings-none,
@@ -79,9 +79,11 @@ number-after last k =
 -- a receiver that took an unaltered cell after a gap: it is in the settings of the sender that goes on, has the cell's number, and
 -- has handed out the places of the missing cells and of this one
 pub record Took (s : SendCall) (c : ReceiveCall) (gap : ℕ) : Type 0 where
+  pub refused-not : c .answer .refusal ≡ 0
   pub settings : InSettings (s .answer .state) (c .answer .state)
   pub started : c .answer .state .started ≡ true
   pub last : c .answer .state .last ≡ s .state .number
+  pub counted : c .answer .state .count ≡ c .state .count + suc gap
   pub hands : handedBy c
       ≡ replicate (gap * S.usedNow (s .state)) missing ++ places (s .samples) (s .ancillary) (replicate (S.usedNow (s .state)) 0)
 
@@ -95,6 +97,11 @@ honest-never-15 s r sends sent same arrived indicated receives fifteen =
     bare-never-15 (r .state) (r .cell) (r .indication) _ _ _
     (ap (λ (x : ℕ). formatOf x .«overhead_bits») (same .format) ∙ eqb-true _ 0 e) table)
     (λ e. never-15 (r .state) (r .cell) (r .indication) _ _ _ (rightly-there s sends sent (eqb-false _ 0 e) r same arrived indicated) table)
+
+-- check 5, then 8
+by-length : (whole : Bool) {found : ℕ} (later : ℕ) → found ≡ 8 → cond (not whole || false) 5 (orElse found later) ≡ cond whole 8 5
+by-length true later e = first-refuses _ (λ none. suc-ne-zero 7 (sym e ∙ none)) ∙ e
+by-length false later e = refl
 
 -- a cell with overhead that a call wrote
 module _ (s : SendCall) (sends : MeetsSend s) (sent : s .answer .refusal ≡ 0) (with-overhead : formatIn s .«overhead_bits» ≡ 0 → ⊥) where
@@ -119,6 +126,16 @@ module _ (s : SendCall) (sends : MeetsSend s) (sent : s .answer .refusal ≡ 0) 
 
   -- a call on it by a receiver in the sender's settings
   module _ (c : ReceiveCall) (receives : MeetsReceive c) (same : InSettings (s .state) (c .state)) where
+    -- checks 1 to 4 pass where the last number and the count do
+    state-none : R.lastRefused (c .state) || R.countRefused (c .state) ≡ false → R.stateRefusal (c .state) ≡ 0
+    unfolding R.stateRefusal
+    state-none fourth-passes =
+        (λ i.
+        orElse (settingsRefusal (same .format i) (same .channels i) (same .order i))
+        (cond (R.lastRefused (c .state) || R.countRefused (c .state)) 4 0))
+        ∙ then-later _ (settings-none s sends sent)
+        ∙ rw fourth-passes
+
     -- a spoiled cell
     module _ {came : List ℕ} (arrived : c .cell ≡ came) (some : 1 ≤ alteredIn s came) (few : alteredIn s came ≤ 3) where
       no-number : refusalOf (R.foundNow (c .state) (c .cell)) ≡ 8
@@ -130,53 +147,32 @@ module _ (s : SendCall) (sends : MeetsSend s) (sent : s .answer .refusal ≡ 0) 
           ∙ (rw (ne-eqb (formatIn s .«overhead_bits») 0 with-overhead))
           ∙ off-table came some few
 
-      -- it is refused
-      pub spoiled-refused : c .answer .refusal ≡ 0 → ⊥
-      spoiled-refused taken =
-          let passed = RL.passes (c .state) (c .cell) (c .indication) _ _ _ (sym (received-refusal c receives) ∙ taken) in
-          suc-ne-zero 7 (sym no-number ∙ passed .found)
-
-      -- one of 48 octets is refused 8, where checks 1 to 4 pass and the runs have room
-      pub spoiled-gets-8 : length came ≡ 48 → R.stateRefusal (c .state) ≡ 0 → WithRoom c → c .answer .refusal ≡ 8
+      -- it is refused 8, or 5 where it came with another number of octets, where check 4 passes and the runs have room
+      pub spoiled-gets : R.lastRefused (c .state) || R.countRefused (c .state) ≡ false → WithRoom c
+          → c .answer .refusal ≡ cond (eqb (length came) 48) 8 5
       unfolding R.receiveRefusal R.lengthsRefused
-      spoiled-gets-8 whole state-passes room =
+      spoiled-gets fourth-passes room =
           received-refusal c receives
-          ∙ then-later _ state-passes
-          ∙ rw (
-            eq-eqb _ _ (ap length arrived ∙ whole),
-            eq-eqb _ _ (room .ancillary-equal),
-            eq-eqb _ _ (room .marks-equal),
-          )
-          (first-refuses _ (λ e. suc-ne-zero 7 (sym no-number ∙ e)) ∙ no-number)
+          ∙ then-later _ (state-none fourth-passes)
+          ∙ rw (eq-eqb _ _ (room .ancillary-equal), eq-eqb _ _ (room .marks-equal))
+          (by-length (eqb (length (c .cell)) 48) _ no-number ∙ ap (λ (l : List ℕ). cond (eqb (length l) 48) 8 5) arrived)
 
     -- an unaltered one is taken where the state passes and the gap is some
     module _ (arrived : c .cell ≡ s .written) (indicated : c .indication ≡ s .indication) (room : WithRoom c)
-        (last-passes : R.lastRefused (c .state) ≡ false) {gap : ℕ} (gap-is : R.gapOf (c .state) (c .cell) ≡ suc gap)
+        (fourth-passes : R.lastRefused (c .state) || R.countRefused (c .state) ≡ false)
+        {gap : ℕ} (gap-is : R.gapOf (c .state) (c .cell) ≡ suc gap) (within : R.countAfter (c .state) (c .cell) ≤ 4294967295)
       where
-        -- checks 1 to 4 pass
-        state-none : R.stateRefusal (c .state) ≡ 0
-        unfolding R.stateRefusal
-        state-none =
-            (λ i. orElse (settingsRefusal (same .format i) (same .channels i) (same .order i)) (cond (R.lastRefused (c .state)) 4 0))
-            ∙ then-later _ (settings-none s sends sent)
-            ∙ rw last-passes
-
         found-here : R.foundNow (c .state) (c .cell) ≡ Number (s .state .number)
         found-here = found-there s sends sent with-overhead c same arrived
 
         pub unaltered-taken : c .answer .refusal ≡ 0
-        unfolding R.receiveRefusal R.lengthsRefused refusalOf
+        unfolding refusalOf
         unaltered-taken =
             let some : R.gapOf (c .state) (c .cell) ≡ 0 → ⊥ = λ e. suc-ne-zero gap (sym gap-is ∙ e) in
             let by-room : receiveTable c ≡ cond (ltb (length (c .samples)) (R.gapOf (c .state) (c .cell) * R.usedNow (c .state))) 10 0
-            = then-later _ state-none
-            ∙ rw (
-              eq-eqb _ _ (ap length arrived ∙ cell-48 s sends sent),
-              eq-eqb _ _ (room .ancillary-equal),
-              eq-eqb _ _ (room .marks-equal),
-            )
-            (then-later _ (ap refusalOf found-here)
-            ∙ rw (rightly-there s sends sent with-overhead c same arrived indicated, ne-eqb _ 0 some)) in
+            = late (c .state) (c .cell) (c .indication) _ _ _ (state-none fourth-passes) (ap length arrived ∙ cell-48 s sends sent)
+            (room .ancillary-equal) (room .marks-equal) (ap refusalOf found-here)
+            ∙ rw (rightly-there s sends sent with-overhead c same arrived indicated, ne-eqb _ 0 some, le-ltb 4294967295 _ within) in
             received-refusal c receives
             ∙ split (ltb (length (c .samples)) (R.gapOf (c .state) (c .cell) * R.usedNow (c .state)))
             (λ e. absurd (room .long-enough (by-room ∙ rw e)))
@@ -230,9 +226,10 @@ module _ (s : SendCall) (sends : MeetsSend s) (sent : s .answer .refusal ≡ 0) 
             ∙ row-zip (gap * used) 0 (0, 2) (s .samples) (zip (s .ancillary) (replicate used 0)))
 
         pub took : Took s c gap
-        unfolding R.after valueOf
+        unfolding R.after R.countAfter valueOf
         took =
             record {
+              refused-not = unaltered-taken;
               settings =
                   settings-on s sends sent
                   (record {
@@ -242,5 +239,6 @@ module _ (s : SendCall) (sends : MeetsSend s) (sent : s .answer .refusal ≡ 0) 
                   });
               started = ap (λ x. x .started) state-is;
               last = ap (λ x. x .last) state-is ∙ ap valueOf found-here;
+              counted = ap (λ x. x .count) state-is ∙ ap (λ (n : ℕ). c .state .count + n) gap-is;
               hands = hands-out;
             }

@@ -1,4 +1,5 @@
--- The cases of document 01 marked P, and one whole cell beside them: what the definitions give, and what is printed, row by row.
+-- The cases of document 01 marked P, two of request 4, and one whole cell beside them: what the definitions give, and what is
+-- printed, row by row.
 -- Assumes nothing.
 use mathlib.Core.Bool.{false, true}
 use mathlib.Core.List.{List, [], _∷_, map}
@@ -6,7 +7,7 @@ use Prim.Native.Nat.{ℕ, _^_}
 use lib.ListN.{replicate}
 use Rattle.formats.specs.Formats.{slotsOf, timesOf}
 use Rattle.numbers.specs.Numbers.{entryOf, dividedEntry}
-use Rattle.guards.specs.Guards.{guardOf}
+use Rattle.guards.specs.Guards.{noV, withV, guardOf}
 use Rattle.cells.specs.Placement.{slotOf}
 use Rattle.sender.specs.Sender.{openState, cellNow}
 
@@ -18,7 +19,9 @@ unfolding sixNumbers
 defined =
     map entryOf sixNumbers
     ∷ map dividedEntry sixNumbers
-    ∷ (guardOf 24 0 0 ∷ guardOf 24 0 1 ∷ guardOf 24 (2 ^ 15) 0 ∷ guardOf 24 (2 ^ 23) 0 ∷ guardOf 8 1 0 ∷ [])
+    ∷ (guardOf 24 0 (withV 0) ∷ guardOf 24 0 (withV 1) ∷ guardOf 24 (2 ^ 15) (withV 0) ∷ guardOf 24 (2 ^ 23) (withV 0)
+    ∷ guardOf 8 1 (withV 0) ∷ [])
+    ∷ (guardOf 20 0 noV ∷ guardOf 20 (2 ^ 11) noV ∷ [])
     ∷ (timesOf (slotsOf 0x56) 5 ∷ slotOf false 5 2 3 1 ∷ slotOf true 5 2 3 1 ∷ [])
     ∷ cellNow (openState 0x56 2 0 0 false 0) false (replicate 12 0) (replicate 12 0)
     -- five channels by order 1, number 5, second number 12; each run has time 0 and then time 1
@@ -34,6 +37,8 @@ printed =
     ∷ (0x0F ∷ 0x84 ∷ 0x41 ∷ 0xCA ∷ 0x22 ∷ 0x18 ∷ [])
     -- "sample 0 with V 0 is 111; V alone 100; the ninth bit alone 001; the top bit alone 000; 8-bit sample 1 gives 000"
     ∷ (0b111 ∷ 0b100 ∷ 0b001 ∷ 0b000 ∷ 0b000 ∷ [])
+    -- request 4, without V: sample 0 is 111, and the ninth bit alone 100, where with V = 0 it is 001
+    ∷ (0b111 ∷ 0b100 ∷ [])
     -- "56 hex with C = 5: T = 2; channel 3 at time 1 is slot 8 in order 0, slot 7 in order 1"
     ∷ (2 ∷ 8 ∷ 7 ∷ [])
     -- "00 00 00 07 four times, 00 00 00 0F four times, 00 00 00 07 four times"

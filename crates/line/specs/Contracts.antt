@@ -32,6 +32,10 @@ use Rattle.listing.specs.Taking.{Takes, Ends}
 use Rattle.cable.specs.declared.Imported.{Imported}
 use Rattle.cable.specs.declared.Exported.{Exported}
 use Rattle.cable.specs.Frames.{importOf, exportOf}
+use Rattle.units.specs.Back as U
+use Rattle.units.specs.Back.{ExportCall, ReadCall}
+use Rattle.circuits.specs.declared.Verdict.{Verdict}
+use Rattle.circuits.specs.Circuits.{checkedOf, Plans}
 
 -- a call of `send` and what it left
 pub record SendCall : Type 0 where
@@ -74,6 +78,10 @@ MeetsOpenSender octet channels order number wanted second r = r ≡ S.openedOf o
 
 abbrev pub MeetsOpenReceiver : ℕ → ℕ → ℕ → Ready → Type 0
 MeetsOpenReceiver octet channels order r = r ≡ R.openedOf octet channels order
+
+-- `receiver::placed`
+abbrev pub MeetsPlaced : Receiver → ℕ → Type 0
+MeetsPlaced st r = r ≡ st .count
 
 -- `status::step`, and the two calls that bring a block forward by it: `bring_forward`, where it is lent, and `brought_forward`
 abbrev pub MeetsStep : Block → ℕ → ℕ → Stepped → Type 0
@@ -120,3 +128,17 @@ MeetsImport preambles subframes r = r ≡ importOf preambles subframes
 
 abbrev pub MeetsExport : List ℕ → List ℕ → Exported → Type 0
 MeetsExport samples ancillary r = r ≡ exportOf samples ancillary
+
+-- `export_units` and `read_unit`
+abbrev pub MeetsExportUnits : ExportCall → Type 0
+MeetsExportUnits e = U.MeetsExport e
+
+abbrev pub MeetsReadUnit : ReadCall → Type 0
+MeetsReadUnit r = U.MeetsRead r
+
+-- `check` and `plan`, of channels shared out over circuits
+abbrev pub MeetsCheckCircuits : ℕ → ℕ → ℕ → List ℕ → List ℕ → Verdict → Type 0
+MeetsCheckCircuits octet channels frequency shares allowances r = r ≡ checkedOf octet channels frequency shares allowances
+
+abbrev pub MeetsPlanCircuits : ℕ → ℕ → List ℕ → ℕ → List ℕ → Type 0
+MeetsPlanCircuits octet channels shares r after = Plans octet channels shares r after

@@ -2,3 +2,4 @@ pub mod Cases
 pub mod Contracts
 pub mod Demands
 pub mod Line
+pub mod Units

@@ -13,8 +13,9 @@ use Rattle.cells.specs.Cells.{eightIn}
 use Rattle.sender.specs.declared.Sender.{Sender}
 use Rattle.sender.specs.Sender as S
 use Rattle.receiver.specs.declared.Receiver.{Receiver}
+use Rattle.receiver.specs.declared.Ready.{Ready}
 use Rattle.receiver.specs.Receiver as R
-use Rattle.line.specs.Contracts.{SendCall, ReceiveCall}
+use Rattle.line.specs.Contracts.{SendCall, ReceiveCall, MeetsOpenReceiver}
 use Rattle.line.specs.Demands.{receiveTable, formatIn}
 
 -- calls in a row: the first starts in this state, each later one in the state that the one before it answered, and each is as the
@@ -34,16 +35,18 @@ unfoldable pub wrote : List SendCall → List SendCall
 wrote [] = []
 wrote (s ∷ ss) = cond (eqb (s .answer .refusal) 0) (s ∷ wrote ss) (wrote ss)
 
--- what became of a cell: "a line that drops some and spoils others"; a spoiled one comes as these octets with this indication
+-- what became of a cell: "a line that drops some and spoils others"; a spoiled one comes as these octets with this indication. The
+-- number of a cell that came is how many more times it came: "a cell, as it first came, is delivered again any number of times before
+-- the next sent cell arrives"
 pub data Fate : Type 0 where
   dropped : Fate
-  spoiled : List ℕ → Bool → Fate
-  unaltered : Fate
+  spoiled : List ℕ → Bool → ℕ → Fate
+  unaltered : ℕ → Fate
 
 abbrev pub isLost : Fate → Bool
 isLost dropped = true
-isLost (spoiled came indication) = true
-isLost unaltered = false
+isLost (spoiled came indication again) = true
+isLost (unaltered again) = false
 
 -- one cell's trip: the call that wrote it, and its fate
 pub record Trip : Type 0 where
@@ -62,10 +65,10 @@ alteredIn s came = ones (bitXor (eightIn (formatIn s) (s .written)) (eightIn (fo
 -- "one, two or three of the first eight sequencing bits and perhaps anything else"; `most` is the three
 abbrev pub Fair : ℕ → SendCall → Fate → Type 0
 Fair most s dropped = Unit {0}
-Fair most s (spoiled came indication) = (1 ≤ alteredIn s came) × (alteredIn s came ≤ most)
-Fair most s unaltered = Unit {0}
+Fair most s (spoiled came indication again) = (1 ≤ alteredIn s came) × (alteredIn s came ≤ most)
+Fair most s (unaltered again) = Unit {0}
 
--- the longest row of lost cells, k being lost already
+-- the longest row of lost cells, k being lost already; "The limit of fourteen still counts sent cells"
 unfoldable pub longest : ℕ → List Trip → ℕ
 longest k [] = k
 longest k (t ∷ ts) = cond (isLost (t .fate)) (longest (suc k) ts) (max k (longest 0 ts))
@@ -77,8 +80,8 @@ pub record Arrival : Type 0 where
 
 abbrev pub arrivalOf : SendCall → Fate → List Arrival
 arrivalOf s dropped = []
-arrivalOf s (spoiled came indication) = record { cell = came; indication = indication } ∷ []
-arrivalOf s unaltered = record { cell = s .written; indication = s .indication } ∷ []
+arrivalOf s (spoiled came indication again) = replicate (suc again) (record { cell = came; indication = indication })
+arrivalOf s (unaltered again) = replicate (suc again) (record { cell = s .written; indication = s .indication })
 
 abbrev pub arrivals : List Trip → List Arrival
 arrivals trips = flatMap (λ t. arrivalOf (t .sent) (t .fate)) trips
@@ -131,16 +134,69 @@ unfoldable pub toLast : List Trip → List Trip
 toLast [] = []
 toLast (t ∷ ts) = cond (allLost (t ∷ ts)) [] (t ∷ toLast ts)
 
--- Demand 3 of two boxes: the line may alter `most` bits of a cell and lose `row` cells in a row
-unfoldable pub Demand3 : ℕ → ℕ → (SendCall → Type 0) → (ReceiveCall → Type 0) → Type 0
-Demand3 most row SendBox ReceiveBox =
+-- a place among cells is counted from 0: "the last unaltered cell's place .., plus 1, or 0 where no cell came unaltered"
+unfoldable pub pastLast : List Trip → ℕ
+pastLast [] = 0
+pastLast (t ∷ ts) = cond (allLost (t ∷ ts)) 0 (suc (pastLast ts))
+
+-- the state that calls in a row leave
+unfoldable pub leftBy : Receiver → List ReceiveCall → Receiver
+leftBy st [] = st
+leftBy st (c ∷ cs) = leftBy (c .answer .state) cs
+
+-- what holds between two boxes of whatever the line carries, the receiver being fresh; the line may alter `most` bits of a cell and
+-- lose `row` cells in a row, and at most `cells` are sent
+abbrev pub OverTheLine : ℕ → ℕ → ℕ → (SendCall → Type 0) → (ReceiveCall → Type 0)
+    → (Receiver → List Trip → List ReceiveCall → Type 0) → Type 0
+OverTheLine most row cells SendBox ReceiveBox Holds =
     (st : Sender) (sends : List SendCall) (trips : List Trip) (receives : List ReceiveCall)
     → (formatOf (st .format) .«overhead_bits» ≡ 0 → ⊥)
     → Sending SendBox st sends
     → map (λ t. t .sent) trips ≡ wrote sends
+    → length trips ≤ cells
     → Each (λ t. Fair most (t .sent) (t .fate)) trips
     → longest 0 trips ≤ row
     → Receiving ReceiveBox (R.openState (st .format) (st .channels) (st .order)) receives
     → map taken receives ≡ arrivals trips
     → Each WithRoom receives
-    → handed receives ≡ flatMap placesOf (toLast (fromFirst trips))
+    → Holds (R.openState (st .format) (st .channels) (st .order)) trips receives
+
+-- what demand 3 says of it. Request 5: "this number is the last unaltered cell's place counted from the first unaltered one, plus
+-- 1, or 0 where no cell came unaltered"
+pub record ComesOut (fresh : Receiver) (trips : List Trip) (receives : List ReceiveCall) : Type 0 where
+  pub handed-out : handed receives ≡ flatMap placesOf (toLast (fromFirst trips))
+  pub counted : leftBy fresh receives .count ≡ pastLast (fromFirst trips)
+
+-- Demand 3 of two boxes
+unfoldable pub Demand3 : ℕ → ℕ → ℕ → (SendCall → Type 0) → (ReceiveCall → Type 0) → Type 0
+Demand3 most row cells SendBox ReceiveBox = OverTheLine most row cells SendBox ReceiveBox ComesOut
+
+-- beside it: the refusals that calls answered, 0 where a cell was taken
+abbrev pub refusals : List ReceiveCall → List ℕ
+refusals calls = map (λ c. c .answer .refusal) calls
+
+-- those that one cell's deliveries get: "Extra copies of an unaltered cell are refused 9"; a spoiled cell is refused each time
+-- alike, 8, or 5 where it came with another number of octets than 48
+abbrev pub refusalsOf : Fate → List ℕ
+refusalsOf dropped = []
+refusalsOf (spoiled came indication again) = replicate (suc again) (cond (eqb (length came) 48) 8 5)
+refusalsOf (unaltered again) = 0 ∷ replicate again 9
+
+-- Request 5 of a receiver: "it equals the sound cells plus the missing counts of the calls made since the state was opened". A sum
+-- over calls, 1 for a call that took its cell, and the missing count that a call answered:
+unfoldable pub total : (ReceiveCall → ℕ) → List ReceiveCall → ℕ
+total number [] = 0
+total number (c ∷ cs) = number c + total number cs
+
+abbrev pub soundBy : ReceiveCall → ℕ
+soundBy c = cond (eqb (c .answer .refusal) 0) 1 0
+
+abbrev pub missingBy : ReceiveCall → ℕ
+missingBy c = c .answer .missing
+
+unfoldable pub CountsCells : (ReceiveCall → Type 0) → Type 0
+CountsCells Box =
+    (octet channels order : ℕ) (opening : Ready) (calls : List ReceiveCall)
+    → MeetsOpenReceiver octet channels order opening
+    → Receiving Box (opening .state) calls
+    → leftBy (opening .state) calls .count ≡ total soundBy calls + total missingBy calls

@@ -56,7 +56,7 @@ fn take_read(
 ) -> Printed
     requires { ⌜ (length (now buffer) ≤ 65536) × (131072 ≤ length (now text)) ⌝ }
     ensures { λ r. ⌜ Takes listing (now (held .entry)) (take (clamped got (length (now (buffer .entry)))) (now (buffer .entry)))
-            (now (text .entry)) r (now (held .exit)) (now (text .exit))
+        (now (text .entry)) r (now (held .exit)) (now (text .exit))
         × (r .listed .whole ≡ true) × (r .listed .octets ≤ length (now (text .exit))) ⌝ }
 {
     let n = io::count(got, buffer);

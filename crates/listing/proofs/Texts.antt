@@ -122,7 +122,8 @@ module _ (t : Tally) (f : Found) (held piece : List ℕ) (place : ℕ) where
       let n : place + 49 - place ≡ 49 = omega arith in
       let same : got ≡ judgedFront (t .state) (take 49 (drop place piece)) = rw n at is in
       let other : eqb (f .what) 1 ≡ false = ne-eqb (f .what) 1 (λ one. omega arith) in
-      tells {p = whole (frontOf (take 49 (drop place piece)))} (rw (other, eq-eqb (f .what) 2 two)) (ap (lineOf (t .records)) same) puts (counts ∙ ap (afterOf t) same)
+      tells {p = whole (frontOf (take 49 (drop place piece)))} (rw (other, eq-eqb (f .what) 2 two)) (ap (lineOf (t
+      .records)) same) puts (counts ∙ ap (afterOf t) same)
 
   pub tells-held : {before now : List ℕ} {at past : Listed} {tally : Tally} {got : Received} → f .what ≡ 3 → got ≡ judgedFront (t .state) held
       → Puts before at now past (lineOf (t .records) got) → tally ≡ afterOf t got → Tells before at now past tally
@@ -136,7 +137,8 @@ module _ (t : Tally) (f : Found) (held piece : List ℕ) (place : ℕ) where
       → Puts before at now past (formatLine (h .format) (h .channels) (h .order)) → tally ≡ freshTally h → Tells before at now past tally
   unfolding foundParts partText partTally
   tells-header one is puts counts =
-      tells {p = head (headerOf (take 3 held))} (rw (eq-eqb (f .what) 1 one)) (ap (λ (h : Header). formatLine (h .format) (h .channels) (h .order)) is) puts (counts ∙ ap freshTally is)
+      tells {p = head (headerOf (take 3 held))} (rw (eq-eqb (f .what) 1 one)) (ap (λ (h : Header). formatLine (h .format) (h
+      .channels) (h .order)) is) puts (counts ∙ ap freshTally is)
 
   module _ (not-1 : f .what ≡ 1 → ⊥) (not-2 : f .what ≡ 2 → ⊥) (not-3 : f .what ≡ 3 → ⊥) where
     pub tells-nothing : {before : List ℕ} {at : Listed} → (f .what ≡ 4 → ⊥) → Tells before at before at t

@@ -11,7 +11,7 @@ use lib.ListN.{length, set}
 use Rattle.runs.specs.Refusals.{orElse}
 use Rattle.runs.specs.Test.{every}
 use Rattle.runs.proofs.Laws.{every-at, split, past, past-both}
-use Rattle.formats.specs.Formats.{eleven, isAmong, isBase, settingsRefusal}
+use Rattle.formats.specs.Formats.{listedOctets, isAmong, isListed, settingsRefusal}
 use Rattle.formats.specs.Settings.{settingsOf}
 use Rattle.formats.proofs.Laws.{beyond, Settles, settles-all, sound-fields, refusal-of, given-refusal}
 use Rattle.formats.specs.declared.Settled.{Settled}
@@ -84,9 +84,9 @@ header-place log =
     (omega (arith, next-to log 0, next-to log (numberAt log 0 .next), next-to log (secondNumber log .next))))
     (λ e. rw e (omega arith))
 
--- an octet of the eleven is one group
+-- an octet of the fourteen is one group
 one-group : ℕ → Bool
-one-group octet = cond (isBase octet) (ltb octet 128) true
+one-group octet = cond (isListed octet) (ltb octet 128) true
 
 -- the octet, C and order of a header that is settled are one group each
 module _ (format channels order : ℕ) (ok : settingsRefusal format channels order ≡ 0) where
@@ -96,17 +96,17 @@ module _ (format channels order : ℕ) (ok : settingsRefusal format channels ord
   octet-to : format ≤ 255
   octet-to =
       split (ltb 255 format)
-      (λ e. let z : false ≡ true = sym (beyond (ltb-true 255 format e)) ∙ settles .base in absurd (subst T (sym z) tt))
+      (λ e. let z : false ≡ true = sym (beyond (ltb-true 255 format e)) ∙ settles .listed in absurd (subst T (sym z) tt))
       (λ e. ltb-false 255 format e)
 
   pub format-small : format < 128
-  unfolding one-group isBase isAmong eleven every
+  unfolding one-group isListed isAmong listedOctets every
   format-small =
       let t : T (one-group format) = every-at one-group 256 tt format (omega (arith, octet-to)) in
-      ltb→lt format 128 (subst (λ (b : Bool). T (cond b (ltb format 128) true)) (settles .base) t)
+      ltb→lt format 128 (subst (λ (b : Bool). T (cond b (ltb format 128) true)) (settles .listed) t)
 
   pub channels-small : channels < 128
-  channels-small = omega (arith, settles .channels-to, sound-fields format (settles .base) .slots-to)
+  channels-small = omega (arith, settles .channels-to, sound-fields format (settles .listed) .slots-to)
 
   pub order-small : order < 128
   order-small = omega (arith, settles .order-to)

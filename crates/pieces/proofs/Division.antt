@@ -315,7 +315,8 @@ module _ (f left records : ℕ) (part : List ℕ) (x : ℕ) (short : length part
         (to-header (eqb-true (length longer) 3 (both .0)) (eqb-true (headerOf longer .refusal) 0 (both .1))))
         (λ b.
         split (eqb (length longer) 9)
-        (λ e. goes-as {w = faulty h 2 (headerOf longer .refusal)} (rw (b, e)) (ended 2 (headerOf longer .refusal) left records refl refl) (to-refused (eqb-true (length longer) 9 e)))
+        (λ e. goes-as {w = faulty h 2 (headerOf longer .refusal)} (rw (b, e)) (ended 2 (headerOf longer .refusal) left
+        records refl refl) (to-refused (eqb-true (length longer) 9 e)))
         (λ e.
         goes-as
         {w = quietly (record { stage = 0; fault = f; left = left; records = records; part = longer })}

@@ -132,7 +132,12 @@ module _ (s : Standing) (held piece : List ℕ) (place : ℕ) where
       f : eqb (s .stage) 0 ≡ false
       f = ne-eqb (s .stage) 0 not-header
 
-      pub behind-fault : {answer : Found} → (s .stage ≡ 1 → ⊥) → answer ≡ record { what = 0; next = length piece; standing = s } → Steps s held piece place answer held
+      pub behind-fault : {answer : Found} → (s .stage ≡ 1 → ⊥) → answer ≡ record {
+        what = 0;
+        next = length piece;
+        standing =
+            s;
+      } → Steps s held piece place answer held
       unfolding nextOf heldNow
       behind-fault other e =
           let g : eqb (s .stage) 1 ≡ false = ne-eqb (s .stage) 1 other in

@@ -7,9 +7,20 @@ use Prim.Native.Nat.{ℕ, suc, _*_, _≤_}
 use native.Mathlib.Omega.{arith}
 use lib.Dec.{eqb}
 use lib.ListN.{length}
+use Rattle.runs.specs.Runs.{over}
 use Rattle.runs.proofs.Laws.{split}
 use Rattle.receiver.specs.declared.Receiver.{Receiver}
-use Rattle.receiver.specs.Receiver.{receiveRefusal, receivedOf, judgedOf, entriesGiven}
+use Rattle.receiver.specs.declared.Received.{Received}
+use Rattle.receiver.specs.Receiver.{
+  receiveRefusal,
+  receivedOf,
+  judgedOf,
+  entriesGiven,
+  samplesNow,
+  ancillaryNow,
+  marksNow,
+  Receives,
+}
 use Rattle.receiver.proofs.Laws.{answer-refusal, gap-to}
 use Rattle.reading.specs.Heard.{Heard, heardBy, endBy, given, hear, onward, heardFrom, endOf, isSound, missingIn, keptOf}
 use Rattle.reading.specs.Records.{Whole, Framed}
@@ -128,6 +139,27 @@ module _ (st : Receiver) (r : Whole) where
       split (eqb (receiveRefusal st (r .cell) (r .indication) 720 720 720) 0)
       (λ e. rw e (omega (arith, gap-to st (r .cell))))
       (λ e. rw e (omega arith))
+
+-- it is what a call of `receive` on three runs of 720 entries answers and leaves in them
+module _ {st : Receiver} {r : Whole} {samples ancillary marks samples₁ ancillary₁ marks₁ : List ℕ} {answer : Received}
+    (ls : length samples ≡ 720) (la : length ancillary ≡ 720) (lm : length marks ≡ 720)
+    (p : Receives st (r .cell) (r .indication) samples ancillary marks answer samples₁ ancillary₁ marks₁)
+  where
+    with-room : (entries run : List ℕ)
+        → over (entriesGiven st (r .cell) (r .indication) (length samples) (length ancillary) (length marks) entries) run
+        ≡ over (given st r entries) run
+    unfolding given
+    with-room entries run i = over (entriesGiven st (r .cell) (r .indication) (ls i) (la i) (lm i) entries) run
+
+    pub as-received : (answer ≡ hear st r .answer) × (samples₁ ≡ over (hear st r .samples) samples)
+        × (ancillary₁ ≡ over (hear st r .ancillary) ancillary) × (marks₁ ≡ over (hear st r .marks) marks)
+    unfolding hear judgedOf
+    as-received = (
+      p .answered ∙ (λ i. receivedOf st (r .cell) (r .indication) (ls i) (la i) (lm i)),
+      p .samples-after ∙ with-room (samplesNow st (r .cell)) samples,
+      p .ancillary-after ∙ with-room (ancillaryNow st (r .cell)) ancillary,
+      p .marks-after ∙ with-room (marksNow st (r .cell)) marks,
+    )
 
 -- so of a log's records as of any receiver's
 module _ (st : Receiver) (records : List Whole) where

@@ -1,4 +1,5 @@
 pub mod Computed
+pub mod Counts
 pub mod Heard
 pub mod Places
 pub mod Reading

@@ -172,8 +172,7 @@ records-framed =
     walking (λ octets w. Each Framed (w .records))
     (λ octets e. tt)
     (λ octets e w more.
-    let facts = whole-facts octets e in
-    (
+    let facts = whole-facts octets e in (
       rw (front-is octets (facts .0) (facts .1)) (length-take-le 48 (drop 1 octets) (omega (arith, facts .0, length-drop 1 octets))),
       more,
     ))

@@ -1,3 +1,4 @@
+pub mod Code
 pub mod Heard
 pub mod Reading
 pub mod Records

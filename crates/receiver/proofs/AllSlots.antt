@@ -86,11 +86,11 @@ module _ (cell : List ℕ) (at : ℕ) (samples₀ ancillary₀ marks₀ : List �
           samples-so-far =
               rw (new .samples-are)
               (fill-on samples₀ at _ (long (sampleIn fours)) (room .samples-room) (so-far .samples-so-far) less
-              (sample-over fours refl refl word ∙ ap (sampleIn fours) word-is ∙ entry-here (sampleIn fours) less));
+              (sample-over fours refl word refl ∙ ap (sampleIn fours) word-is ∙ entry-here (sampleIn fours) less));
           ancillary-so-far =
               rw (new .ancillary-is)
               (fill-on ancillary₀ at _ (long (ancillaryIn fours)) (room .ancillary-room) (so-far .ancillary-so-far) less
-              (ancillary-over fours refl refl word ∙ ap (ancillaryIn fours) word-is ∙ entry-here (ancillaryIn fours) less));
+              (ancillary-over fours refl word refl ∙ ap (ancillaryIn fours) word-is ∙ entry-here (ancillaryIn fours) less));
           marks-so-far =
               rw (new .marks-are)
               (fill-on marks₀ at _ (long (markIn fours)) (room .marks-room) (so-far .marks-so-far) less

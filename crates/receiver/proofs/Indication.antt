@@ -12,7 +12,7 @@ use Rattle.runs.specs.Refusals.{orElse}
 use Rattle.formats.specs.Formats.{formatOf}
 use Rattle.numbers.specs.Numbers.{refusalOf, valueOf, indicationRefused}
 use Rattle.receiver.specs.declared.Receiver.{Receiver}
-use Rattle.receiver.specs.Receiver.{gapOf, usedNow, foundNow, numberNow, lengthsRefused, stateRefusal, receiveRefusal}
+use Rattle.receiver.specs.Receiver.{gapOf, countAfter, usedNow, foundNow, numberNow, lengthsRefused, stateRefusal, receiveRefusal}
 use Rattle.receiver.proofs.Room.{not-so, state-to, found-to}
 
 -- an indication that the rule lets pass is not refused 15
@@ -25,7 +25,8 @@ never-15 st cell indication samples ancillary marks rightly =
     (not-so (lengthsRefused (length cell) samples ancillary marks) (λ e. omega arith)
     (not-so (eqb (refusalOf (foundNow st cell)) 0)
     (not-so (eqb (gapOf st cell) 0) (λ e. omega arith)
-    (not-so (ltb samples (gapOf st cell * usedNow st)) (λ e. omega arith) (λ e. omega arith)))
+    (not-so (ltb 4294967295 (countAfter st cell)) (λ e. omega arith)
+    (not-so (ltb samples (gapOf st cell * usedNow st)) (λ e. omega arith) (λ e. omega arith))))
     (λ e. omega (arith, found-to (foundNow st cell)))))
     (λ e. omega (arith, state-to st)))
 

@@ -1,8 +1,8 @@
 -- Laws of the receiver's answers: what each check gives in its turn, what is known where none refuses, and what a call leaves.
 -- Assumes nothing.
-use mathlib.Core.Bool.{Bool, true, false, true≢false, cond, not, _||_}
+use mathlib.Core.Bool.{Bool, true, false, cond, not, _||_}
 use mathlib.Core.List.{List, _++_}
-use mathlib.Core.Path.{_≡_, sym, _∙_, ap, ap₂, subst}
+use mathlib.Core.Path.{_≡_, sym, _∙_, ap, ap₂}
 use Prim.Native.Nat.{ℕ, suc, _+_, _*_, _-_, _%_, _≤_, _<_}
 use native.Mathlib.Nat.{suc-ne-zero, pos-of-ne-zero, suc-mul, mod-lt, le-of-suc-le-suc}
 use native.Mathlib.Omega.{arith}
@@ -11,37 +11,13 @@ use lib.Dec.{T, eqb, ltb, eqb→eq}
 use lib.ListN.{length, replicate}
 use Rattle.runs.specs.Refusals.{orElse}
 use Rattle.runs.specs.Runs.{over}
-use Rattle.runs.specs.Test.{every}
-use Rattle.runs.proofs.Laws.{every-at, first-refuses, then-later, past, past-both, neither, split}
+use Rattle.runs.proofs.Laws.{first-refuses, then-later, past, past-both, neither, split}
 use Rattle.formats.specs.declared.Format.{Format}
 use Rattle.formats.specs.declared.Settled.{Settled}
-use Rattle.formats.specs.Formats.{
-  lengthOf,
-  sampleBits,
-  ancillaryBits,
-  overheadBits,
-  eleven,
-  isAmong,
-  isBase,
-  widthOf,
-  slotsOf,
-  formatOf,
-  settingsRefusal,
-}
+use Rattle.formats.specs.Formats.{formatOf, settingsRefusal}
 use Rattle.formats.specs.Settings.{settingsOf, settled}
 use Rattle.formats.specs.Sound.{Limits}
-use Rattle.formats.proofs.Laws.{
-  base-octet,
-  base-format,
-  settles-all,
-  settled-of,
-  settled-limits,
-  given-refusal,
-  given-refuses,
-  given-none,
-  given-settled,
-  given-later,
-}
+use Rattle.formats.proofs.Laws.{settled-of, settled-limits, given-refusal, given-refuses, given-none, given-settled, given-later}
 use Rattle.numbers.specs.declared.Found.{Found}
 use Rattle.numbers.specs.declared.Found.the-variants.{Number, Nothing}
 use Rattle.numbers.specs.Numbers.{foundOf, refusalOf, valueOf, differenceOf, indicationRefused}
@@ -53,12 +29,14 @@ use Rattle.receiver.specs.Receiver.{
   openState,
   openedOf,
   lastRefused,
+  countRefused,
   stateRefusal,
   usedNow,
   lengthsRefused,
   foundNow,
   numberNow,
   gapOf,
+  countAfter,
   receiveRefusal,
   entriesNow,
   secondNow,
@@ -67,7 +45,7 @@ use Rattle.receiver.specs.Receiver.{
   entriesGiven,
   Receives,
 }
-use Rattle.receiver.specs.Unpacking.{usedIn, ownEntries, Fills, Room, Together, earlyRefusal, refusedBy, takenAs}
+use Rattle.receiver.specs.Unpacking.{usedIn, ownEntries, Fills, Room, earlyRefusal, lateRefusal, refusedBy, takenAs}
 
 -- an opening, refused and taken
 module _ {set : Settled} (octet channels order : ℕ) (settles : set ≡ settingsOf octet channels order) where
@@ -105,18 +83,18 @@ module _ {set : Settled} (st : Receiver) (settles : set ≡ settingsOf (st .form
     early-settings some = first some (given-refuses (st .format) (st .channels) (st .order) _ settles some)
 
     module _ (none : set .refusal ≡ 0) where
-      by-last : {b : Bool} → b ≡ lastRefused st → cond b 4 0 ≡ stateRefusal st
+      by-numbers : {b : Bool} → b ≡ (lastRefused st || countRefused st) → cond b 4 0 ≡ stateRefusal st
       unfolding stateRefusal
-      by-last e =
+      by-numbers e =
           ap (λ (b : Bool). cond b 4 0) e ∙ sym (given-later (st .format) (st .channels) (st .order) _ settles none)
 
-      pub early-4 : true ≡ lastRefused st → 4 ≡ earlyRefusal st cell samples ancillary marks
-      early-4 e = first (suc-ne-zero 3) (by-last e)
+      pub early-4 : true ≡ (lastRefused st || countRefused st) → 4 ≡ earlyRefusal st cell samples ancillary marks
+      early-4 e = first (suc-ne-zero 3) (by-numbers e)
 
-      pub early-5 : {b : Bool} → false ≡ lastRefused st → b ≡ lengthsRefused cell samples ancillary marks
+      pub early-5 : {b : Bool} → false ≡ (lastRefused st || countRefused st) → b ≡ lengthsRefused cell samples ancillary marks
           → cond b 5 0 ≡ earlyRefusal st cell samples ancillary marks
       unfolding earlyRefusal
-      early-5 fourth fifth = ap (λ (b : Bool). cond b 5 0) fifth ∙ sym (then-later _ (sym (by-last fourth)))
+      early-5 fourth fifth = ap (λ (b : Bool). cond b 5 0) fifth ∙ sym (then-later _ (sym (by-numbers fourth)))
 
 -- what is known where checks 1 to 5 refuse nothing
 pub record Whole (st : Receiver) (cell samples ancillary marks : ℕ) : Type 0 where
@@ -154,6 +132,7 @@ pub record Passes (st : Receiver) (cell : List ℕ) (samples ancillary marks : �
   pub early : Whole st (length cell) samples ancillary marks
   pub found : refusalOf (foundNow st cell) ≡ 0
   pub gap-from : 1 ≤ gapOf st cell
+  pub count-to : countAfter st cell ≤ 4294967295
   pub room : gapOf st cell * usedNow st ≤ samples
 
 pub passes : (st : Receiver) (cell : List ℕ) (indication : Bool) (samples ancillary marks : ℕ)
@@ -165,11 +144,13 @@ passes st cell indication samples ancillary marks e =
     let eighth = past-both (refusalOf (foundNow st cell)) _ (fifth .1) in
     let fifteenth = past (indicationRefused (numberNow st cell) indication) 14 _ (eighth .1) in
     let ninth = past (eqb (gapOf st cell) 0) 8 _ (fifteenth .1) in
-    let tenth = past (ltb samples (gapOf st cell * usedNow st)) 9 _ (ninth .1) in
+    let twentieth = past (ltb 4294967295 (countAfter st cell)) 19 _ (ninth .1) in
+    let tenth = past (ltb samples (gapOf st cell * usedNow st)) 9 _ (twentieth .1) in
     record {
       early = fits-lengths st (length cell) samples ancillary marks (state .0) (fifth .0);
       found = eighth .0;
       gap-from = pos-of-ne-zero (eqb-false (gapOf st cell) 0 (ninth .0));
+      count-to = ltb-false 4294967295 _ (twentieth .0);
       room = ltb-false samples _ (tenth .0);
     }
 
@@ -199,11 +180,12 @@ module _ (st : Receiver) (cell : List ℕ) (indication : Bool) (samples ancillar
       → refusedBy n st ≡ receivedOf st cell indication samples ancillary marks
   answer-early some e = answer-refused some (early-first st cell indication samples ancillary marks some e)
 
-  pub answer-taken : {missing number second : ℕ} → 0 ≡ receiveRefusal st cell indication samples ancillary marks
+  pub answer-taken : {missing number second count : ℕ} → 0 ≡ receiveRefusal st cell indication samples ancillary marks
       → missing ≡ gapOf st cell - 1 → number ≡ numberNow st cell → second ≡ secondNow st cell
-      → takenAs st missing number second indication ≡ receivedOf st cell indication samples ancillary marks
+      → count ≡ countAfter st cell
+      → takenAs st missing number second indication count ≡ receivedOf st cell indication samples ancillary marks
   unfolding receivedOf after
-  answer-taken none missing-is number-is second-is = rw (← none, missing-is, number-is, second-is)
+  answer-taken none missing-is number-is second-is count-is = rw (← none, missing-is, number-is, second-is, count-is)
 
   pub answer-refusal : receivedOf st cell indication samples ancillary marks .refusal
       ≡ receiveRefusal st cell indication samples ancillary marks
@@ -216,7 +198,15 @@ module _ (st : Receiver) (cell : List ℕ) (indication : Bool) (samples ancillar
   unfolding receivedOf
   answer-missing none = rw none
 
--- checks 8, 15, 9 and 10 in their turn, where the earlier ones refuse nothing; the runs are equally long
+-- what is known of d and the count where checks 9, 20 and 10 refuse nothing
+pub late-none : (gap count samples needed : ℕ) → lateRefusal gap count samples needed ≡ 0 → (1 ≤ gap) × (count + gap ≤ 4294967295)
+unfolding lateRefusal
+late-none gap count samples needed e =
+    let ninth = past (eqb gap 0) 8 _ e in
+    let twentieth = past (ltb 4294967295 (count + gap)) 19 _ (ninth .1) in
+    (pos-of-ne-zero (eqb-false gap 0 (ninth .0)), ltb-false 4294967295 (count + gap) (twentieth .0))
+
+-- checks 8, 15, and 9, 20 and 10 in their turn, where the earlier ones refuse nothing; the runs are equally long
 module _ {set : Settled} (st : Receiver) (cell : List ℕ) (indication : Bool) (samples : ℕ)
     (settles : set ≡ settingsOf (st .format) (st .channels) (st .order))
     (early : earlyRefusal st (length cell) samples samples samples ≡ 0)
@@ -244,10 +234,11 @@ module _ {set : Settled} (st : Receiver) (cell : List ℕ) (indication : Bool) (
     later-of found s =
         orElse (refusalOf found)
         (cond (indicationRefused (valueOf found) indication) 15
-        (cond (eqb (gapOf st cell) 0) 9 (cond (ltb samples (gapOf st cell * usedIn s)) 10 0)))
+        (cond (eqb (gapOf st cell) 0) 9
+        (cond (ltb 4294967295 (st .count + gapOf st cell)) 20 (cond (ltb samples (gapOf st cell * usedIn s)) 10 0))))
 
     later : (found : Found) → found ≡ foundNow st cell → receiveRefusal st cell indication samples samples samples ≡ later-of found set
-    unfolding receiveRefusal
+    unfolding receiveRefusal countAfter
     later found e =
         then-later _ (whole-call .state-none)
         ∙ rw (whole-call .lengths-none) (ap₂ (λ (x : Found) (s : Settled). later-of x s) (sym e) (sym is))
@@ -263,26 +254,20 @@ module _ {set : Settled} (st : Receiver) (cell : List ℕ) (indication : Bool) (
           answer-refused st cell indication samples samples samples (suc-ne-zero 14) (sym (later (Number number) found ∙ rw (← e)))
 
       module _ (rightly : false ≡ indicationRefused number indication) {gap : ℕ} (gap-is : gap ≡ gapOf st cell) where
-        from-9 : receiveRefusal st cell indication samples samples samples
-            ≡ cond (eqb gap 0) 9 (cond (ltb samples (gap * usedIn set)) 10 0)
-        unfolding orElse refusalOf valueOf
+        from-9 : receiveRefusal st cell indication samples samples samples ≡ lateRefusal gap (st .count) samples (gap * usedIn set)
+        unfolding orElse refusalOf valueOf lateRefusal
         from-9 = later (Number number) found ∙ rw (← rightly, ← gap-is)
 
-        pub judged-9 : gap ≡ 0 → refusedBy 9 st ≡ wanted
-        judged-9 e = answer-refused st cell indication samples samples samples (suc-ne-zero 8) (sym (from-9 ∙ rw (eq-eqb _ _ e)))
+        -- refused by 9, 20 or 10
+        pub judged-late : {n : ℕ} → (n ≡ 0 → ⊥) → n ≡ lateRefusal gap (st .count) samples (gap * usedIn set) → refusedBy n st ≡ wanted
+        judged-late some e = answer-refused st cell indication samples samples samples some (e ∙ sym from-9)
 
-        module _ (some : gap ≡ 0 → ⊥) where
-          pub judged-10 : samples < gap * usedIn set → refusedBy 10 st ≡ wanted
-          judged-10 short =
-              answer-refused st cell indication samples samples samples (suc-ne-zero 9)
-              (sym (from-9 ∙ rw (ne-eqb _ _ some, lt-ltb _ _ short)))
-
-          pub judged-0 : gap * usedIn set ≤ samples → {second : ℕ} → second ≡ secondNow st cell
-              → takenAs st (gap - 1) number second indication ≡ wanted
-          unfolding valueOf
-          judged-0 room second-is =
-              answer-taken st cell indication samples samples samples
-              (sym (from-9 ∙ rw (ne-eqb _ _ some, le-ltb _ _ room))) (ap (λ (n : ℕ). n - 1) gap-is) (ap valueOf found) second-is
+        pub judged-0 : 0 ≡ lateRefusal gap (st .count) samples (gap * usedIn set) → {second : ℕ} → second ≡ secondNow st cell
+            → takenAs st (gap - 1) number second indication (st .count + gap) ≡ wanted
+        unfolding valueOf countAfter
+        judged-0 none second-is =
+            answer-taken st cell indication samples samples samples (none ∙ sym from-9) (ap (λ (n : ℕ). n - 1) gap-is)
+            (ap valueOf found) second-is (ap (λ (n : ℕ). st .count + n) gap-is)
 
 -- what is found and the second number where the format has overhead
 module _ {f : Format} (st : Receiver) (cell : List ℕ) (is : formatOf (st .format) ≡ f) (over : f .«overhead_bits» ≡ 0 → ⊥) where
@@ -307,21 +292,6 @@ found-passes st cell found = ap refusalOf found
 pub number-found : (st : Receiver) (cell : List ℕ) {number : ℕ} → Number number ≡ foundNow st cell → number ≡ numberNow st cell
 unfolding valueOf
 number-found st cell found = ap valueOf found
-
--- overhead comes with ancillary bits in each of the eleven
-base-together : (octet : ℕ) → isBase octet ≡ true → Together (formatOf octet)
-unfolding every isBase isAmong eleven sampleBits lengthOf ancillaryBits overheadBits widthOf slotsOf
-base-together octet h some =
-    ap (λ (f : Format). f .«ancillary_bits») (base-format octet h)
-    ∙ eqb→eq _ _
-    (third (isBase octet) (eqb (overheadBits octet) 0) (eqb (ancillaryBits octet) 4) h
-    (ne-eqb _ _ (λ e. some (ap (λ (f : Format). f .«overhead_bits») (base-format octet h) ∙ e)))
-    (every-at (λ k. not (isBase k) || (eqb (overheadBits k) 0 || eqb (ancillaryBits k) 4)) 256 tt octet (base-octet octet h)))
-  where
-    third : (a b c : Bool) → a ≡ true → b ≡ false → T (not a || (b || c)) → T c
-    third true true c ha hb t = absurd (true≢false hb)
-    third true false c ha hb t = t
-    third false b c ha hb t = absurd (true≢false (sym ha))
 
 -- a call of `receive`
 pub record Call : Type 0 where
@@ -404,12 +374,6 @@ module _ (k : Call) where
 
             pub set-limits : Limits set
             set-limits = settled-limits (k .state .format) (k .state .channels) (k .state .order) set-is (fits .settings)
-
-            pub set-together : Together (set .format)
-            set-together =
-                subst (λ (x : Settled). Together (x .format)) (sym set-is)
-                (base-together (k .state .format)
-                (settles-all (k .state .format) (k .state .channels) (k .state .order) (fits .settings) .base))
 
             pub cell-whole : length (k .cell) ≡ 48
             cell-whole = fits .whole

@@ -1,4 +1,5 @@
 pub mod AllSlots
+pub mod Count
 pub mod Indication
 pub mod Laws
 pub mod Marking

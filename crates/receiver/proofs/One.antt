@@ -7,11 +7,16 @@ use Rattle.receiver.proofs.judged.Kinds as judged-kinds
 use Rattle.receiver.proofs.judged.Reads as judged-reads
 use Rattle.receiver.proofs.opened.Kinds as opened-kinds
 use Rattle.receiver.proofs.opened.Reads as opened-reads
+use Rattle.receiver.proofs.placed.Kinds as placed-kinds
+use Rattle.receiver.proofs.placed.Reads as placed-reads
 use Rattle.receiver.proofs.receive.Kinds as receive-kinds
 use Rattle.receiver.proofs.receive.Reads as receive-reads
 
 pub opened-one : One opened-kinds.ps opened-kinds.r opened-reads.Pre opened-reads.Post
 opened-one κs a x y v w pre p q = (p ∙ sym q, refl)
+
+pub placed-one : One placed-kinds.ps placed-kinds.r placed-reads.Pre placed-reads.Post
+placed-one κs a x y v w pre p q = (p ∙ sym q, refl)
 
 pub judged-one : One judged-kinds.ps judged-kinds.r judged-reads.Pre judged-reads.Post
 judged-one κs a x y v w pre p q = (p ∙ sym q, refl)

@@ -1,10 +1,10 @@
--- Laws of reading a cell: octets read into a number, its last bits, bits gathered, and the first slot in order 1.
+-- Laws of reading a cell: octets read into a number, its last bits, bits gathered, and where the first and the last entry are.
 -- Assumes nothing.
-use mathlib.Core.Bool.{true}
+use mathlib.Core.Bool.{Bool, true, false}
 use mathlib.Core.List.{List}
 use mathlib.Core.Path.{_≡_, refl, sym, _∙_, ap, ap₂, subst}
 use Prim.Native.Nat.{ℕ, zero, suc, _+_, _*_, _/_, _%_, _-_, _^_, _≤_, _<_}
-use native.Mathlib.Nat.{pow-suc, mod-eq-of-lt, div-eq-of-lt, add-zero, zero-add, zero-mul, le-of-suc-le-suc}
+use native.Mathlib.Nat.{pow-suc, mod-eq-of-lt, div-eq-of-lt, add-zero, zero-add, zero-mul, suc-mul, div-add-mod', le-of-suc-le-suc}
 use native.Mathlib.Numerals.{add-one}
 use native.Mathlib.Omega.{arith}
 use lib.Arith.{digits-lt, digits-div, digits-mod}
@@ -18,9 +18,10 @@ use Rattle.formats.specs.declared.Format.{Format}
 use Rattle.formats.specs.Sound.{Sound}
 use Rattle.cells.proofs.Subframes.{slot-room}
 use Rattle.cells.specs.Cells.{subframeAt}
-use Rattle.cells.specs.Placement.{slotOf, slotOfEntry}
+use Rattle.cells.specs.Placement.{slotOf, slotOfEntry, entryOfSlot}
 use Rattle.cells.specs.Code.{turnedTwo, turnedFour}
 use Rattle.cells.proofs.Places.{turned-halves}
+use Rattle.cells.proofs.Placement.{slot-lt, entry-of-slot}
 use Rattle.receiver.specs.Unpacking.{twoAt}
 
 -- the number of the octets from `at` on, one octet more at a time
@@ -134,6 +135,37 @@ module _ (bit : ℕ → ℕ) where
         is = low ∙ ap₂ (λ (x y : ℕ). x * 2 + y) (so-far .is) e ∙ ap (gathered bit) (sym (add-one n));
         below = rw (low, add-one n, pow-suc) (digits-lt (so-far .below) small);
       }
+
+-- the last entry is in the last used slot, and the others in the slots before it
+module _ (byChannel : Bool) (channels times : ℕ) (some : 1 ≤ channels) (any : 1 ≤ times) where
+  last-by : (b : Bool) → slotOfEntry b channels times (channels * times - 1) ≡ channels * times - 1
+  unfolding slotOfEntry slotOf
+  last-by true =
+      let rows : suc (times - 1) * channels ≡ times * channels
+      = ap (λ (n : ℕ). n * channels) (let e : suc (times - 1) ≡ times = omega arith in e) in
+      let columns : suc (channels - 1) * times ≡ channels * times
+      = ap (λ (n : ℕ). n * times) (let e : suc (channels - 1) ≡ channels = omega arith in e) in
+      let whole : channels * times - 1 ≡ (times - 1) * channels + (channels - 1)
+      = omega (arith, rows, suc-mul (times - 1) channels) in
+      let inside : channels - 1 < channels = omega arith in
+      rw (whole, digits-mod (times - 1) inside, digits-div (times - 1) inside)
+      (omega (arith, rows, columns, suc-mul (times - 1) channels, suc-mul (channels - 1) times))
+  last-by false = div-add-mod' (channels * times - 1) channels
+
+  pub slot-last : slotOfEntry byChannel channels times (channels * times - 1) ≡ channels * times - 1
+  slot-last = last-by byChannel
+
+  pub slot-before : {entry : ℕ} → entry < channels * times - 1 → slotOfEntry byChannel channels times entry < channels * times - 1
+  slot-before {entry} less =
+      let within = slot-lt channels times some byChannel {entry = entry} (omega arith) in
+      let apart : slotOfEntry byChannel channels times entry ≡ channels * times - 1 → ⊥
+      = λ e.
+      let same : entry ≡ channels * times - 1
+      = sym (entry-of-slot channels times some byChannel (omega arith))
+      ∙ ap (entryOfSlot byChannel channels times) (e ∙ sym slot-last)
+      ∙ entry-of-slot channels times some byChannel (omega arith) in
+      omega (arith, same, less) in
+      omega (arith, within, apart)
 
 -- the first slot in order 1
 pub walk-begun : (channels times : ℕ) → zero < channels → 0 ≡ slotOfEntry true channels times 0

@@ -11,7 +11,7 @@ use lib.Dec.{eqb, ltb}
 use lib.ListN.{length}
 use Rattle.runs.specs.Refusals.{orElse}
 use Rattle.runs.proofs.Laws.{split}
-use Rattle.formats.specs.Formats.{formatOf, isBase, slotsOf, settingsRefusal}
+use Rattle.formats.specs.Formats.{formatOf, isListed, slotsOf, settingsRefusal}
 use Rattle.formats.proofs.Laws.{sound-format}
 use Rattle.numbers.specs.declared.Found.{Found}
 use Rattle.numbers.specs.declared.Found.the-variants.{Number, Nothing}
@@ -19,10 +19,12 @@ use Rattle.numbers.specs.Numbers.{refusalOf, indicationRefused}
 use Rattle.receiver.specs.declared.Receiver.{Receiver}
 use Rattle.receiver.specs.Receiver.{
   gapOf,
+  countAfter,
   usedNow,
   foundNow,
   numberNow,
   lastRefused,
+  countRefused,
   lengthsRefused,
   stateRefusal,
   receiveRefusal,
@@ -43,14 +45,14 @@ at-most false here there = there
 settings-to : (octet channels order : ℕ) → settingsRefusal octet channels order ≤ 3
 unfolding settingsRefusal
 settings-to octet channels order =
-    at-most (not (isBase octet)) (omega arith)
+    at-most (not (isListed octet)) (omega arith)
     (at-most (eqb channels 0 || ltb (slotsOf octet) channels) (omega arith) (at-most (ltb 1 order) (omega arith) (omega arith)))
 
 pub state-to : (st : Receiver) → stateRefusal st ≤ 4
 unfolding stateRefusal orElse
 state-to st =
     at-most (eqb (settingsRefusal (st .format) (st .channels) (st .order)) 0)
-    (at-most (lastRefused st) (omega arith) (omega arith))
+    (at-most (lastRefused st || countRefused st) (omega arith) (omega arith))
     (omega (arith, settings-to (st .format) (st .channels) (st .order)))
 
 pub found-to : (found : Found) → refusalOf found ≤ 8
@@ -69,13 +71,14 @@ always-room st cell indication samples ancillary marks enough =
     (not-so (lengthsRefused (length cell) samples ancillary marks) (λ e. omega arith)
     (not-so (eqb (refusalOf (foundNow st cell)) 0)
     (not-so (indicationRefused (numberNow st cell) indication) (λ e. omega arith)
-    (not-so (eqb (gapOf st cell) 0) (λ e. omega arith) (λ e. omega arith)))
+    (not-so (eqb (gapOf st cell) 0) (λ e. omega arith)
+    (not-so (ltb 4294967295 (countAfter st cell)) (λ e. omega arith) (λ e. omega arith))))
     (λ e. omega (arith, found-to (foundNow st cell)))))
     (λ e. omega (arith, state-to st)))
 
 slots-few : (octet : ℕ) → formatOf octet .slots ≤ 48
 unfolding formatOf
-slots-few octet = split (isBase octet) (λ e. sound-format octet e .slots-to) (λ e. rw e (omega arith))
+slots-few octet = split (isListed octet) (λ e. sound-format octet e .slots-to) (λ e. rw e (omega arith))
 
 used-few : (st : Receiver) → usedNow st ≤ 48
 used-few st = omega (arith, mul-div-le (formatOf (st .format) .slots) (st .channels), slots-few (st .format))

@@ -2,25 +2,39 @@
 -- Assumes nothing.
 use mathlib.Core.Bool.{false}
 use mathlib.Core.List.{List, _++_}
-use mathlib.Core.Path.{_≡_, sym, _∙_, ap, ap₂, subst}
-use Prim.Native.Nat.{ℕ, _+_, _-_, _/_, _%_, _≤_, _<_}
-use native.Mathlib.Nat.{div-add-mod', zero-add, add-zero}
+use mathlib.Core.Logic.{_⊎_, inl, inr, ⊎-elim}
+use mathlib.Core.Path.{_≡_, refl, sym, _∙_, ap, ap₂, subst}
+use Prim.Native.Nat.{ℕ, _+_, _*_, _-_, _/_, _%_, _≤_, _<_}
+use native.Mathlib.Nat.{div-add-mod', zero-add, add-zero, mod-one, one-mul, mul-le-mul, mul-le-mul-right}
 use native.Mathlib.Omega.{arith}
 use borrow.Author.Tests.{eq-eqb}
+use lib.Dec.{eqb}
 use lib.ListN as L
-use lib.ListN.{length, getD, take, drop, replicate, length-drop, length-append, length-replicate, getD-replicate, List·getD-append, take-append-drop}
+use lib.ListN.{
+  length,
+  getD,
+  take,
+  drop,
+  replicate,
+  length-drop,
+  length-append,
+  length-replicate,
+  getD-replicate,
+  replicate-append-replicate,
+  List·getD-append,
+  take-append-drop,
+}
 use lib.Seq.{take-at, drop-at, drop-append-add, drop-drop, take-append-le, take-add, length-take-le, getD-drop, getD-take, getD-append-add, drop-paste}
 use Rattle.runs.specs.Runs.{over, written}
 use Rattle.runs.proofs.Filling.{Filled, begun, turned, done}
-use Rattle.runs.proofs.Laws.{length-tab, getD-tab, tab-is}
+use Rattle.runs.proofs.Laws.{length-tab, getD-tab, tab-is, split}
 use Rattle.formats.specs.declared.Format.{Format}
 use Rattle.formats.specs.declared.Settled.{Settled}
 use Rattle.formats.specs.Sound.{Limits}
 use Rattle.cells.specs.Cells.{subframeAt, sampleIn, ancillaryIn, markIn, entriesOf}
 use Rattle.cells.specs.Placement.{slotOf, slotOfEntry}
 use Rattle.cells.proofs.Placement.{slot-lt}
-use Rattle.receiver.proofs.Marking.{sample-over, ancillary-over}
-use Rattle.receiver.specs.Unpacking.{usedIn, ownEntries, Unpacks, Fills, Room, Misses, held, Splits}
+use Rattle.receiver.specs.Unpacking.{usedIn, ownEntries, Unpacks, Fills, Room, Misses, blankEnd, Blank, held, Splits}
 
 -- a run that a loop fills with as many entries as it counts
 module _ (d₀ : List ℕ) (at : ℕ) (vs : List ℕ) {used : ℕ} (long : length vs ≡ used) (room : at + used ≤ length d₀) where
@@ -75,80 +89,70 @@ module _ (read : ℕ → ℕ) (run d₀ : List ℕ) (at used : ℕ) (room : at +
   pub held-ahead : {d : List ℕ} {i : ℕ} → Filled d d₀ at (held read run at used) i → getD d (at + i) 0 ≡ getD d₀ (at + i) 0
   held-ahead so-far = fill-ahead d₀ at _ (held-length read run at used) room so-far
 
--- subframes with ancillary bits and overhead, taken apart in place by a loop that counts from `at` on
-pub record Parted (f : Format) (at used : ℕ) (samples₀ ancillary₀ marks₀ samples ancillary marks : List ℕ) (i : ℕ) : Type 0 where
+-- the same by a loop that counts from `at` on
+module _ (read : ℕ → ℕ) (run d₀ : List ℕ) (at used : ℕ) (room : at + used ≤ length d₀) where
+  abbrev new : List ℕ
+  new = held read run at used
+
+  pub part-begun : Filled d₀ d₀ at new (at - at)
+  part-begun = subst (Filled d₀ d₀ at new) (let none : 0 ≡ at - at = omega arith in none) (begun d₀ at new)
+
+  pub part-done : {d : List ℕ} {i : ℕ} → Filled d d₀ at new (i - at) → at + used ≤ i → d ≡ written d₀ at new
+  part-done so-far all = held-done read run d₀ at used room so-far (omega arith)
+
+  module _ {d : List ℕ} {i : ℕ} (so-far : Filled d d₀ at new (i - at)) (from : at ≤ i) where
+    here : at + (i - at) ≡ i
+    here = omega arith
+
+    pub part-ahead : getD d i 0 ≡ getD d₀ i 0
+    part-ahead = subst (λ (k : ℕ). getD d k 0 ≡ getD d₀ k 0) here (held-ahead read run d₀ at used room so-far)
+
+    pub part-on : {v : ℕ} → i < at + used → v ≡ read (getD run i 0) → Filled (L.set d i v) d₀ at new (i + 1 - at)
+    part-on {v} less e =
+        subst (Filled (L.set d i v) d₀ at new) (let next : i - at + 1 ≡ i + 1 - at = omega arith in next)
+        (subst (λ (k : ℕ). Filled (L.set d k v) d₀ at new (i - at + 1)) here
+        (held-on read run d₀ at used room so-far (omega arith) (e ∙ ap (λ (k : ℕ). read (getD run k 0)) (sym here))))
+
+-- subframes with overhead, taken apart in place by such a loop: the first run and another
+pub record Parted (f : Format) (at used : ℕ) (samples₀ samples : List ℕ) (i : ℕ) : Type 0 where
   pub from : at ≤ i
-  pub samples-so-far : Filled samples samples₀ at (held (sampleIn f) samples₀ at used) (i - at)
-  pub ancillary-so-far : Filled ancillary ancillary₀ at (held (ancillaryIn f) samples₀ at used) (i - at)
-  pub marks-so-far : Filled marks marks₀ at (held (markIn f) samples₀ at used) (i - at)
+  pub so-far : Filled samples samples₀ at (held (sampleIn f) samples₀ at used) (i - at)
 
-module _ (f : Format) (four-a : f .«ancillary_bits» ≡ 4) (four-o : f .«overhead_bits» ≡ 4) (at used : ℕ)
-    (samples₀ ancillary₀ marks₀ : List ℕ) (room : Room at used samples₀ ancillary₀ marks₀)
-  where
-    abbrev vs : (ℕ → ℕ) → List ℕ
-    vs read = held read samples₀ at used
+pub record PartedBeside (read : ℕ → ℕ) (at used : ℕ) (samples₀ run₀ run : List ℕ) (i : ℕ) : Type 0 where
+  pub so-far : Filled run run₀ at (held read samples₀ at used) (i - at)
 
-    long : (read : ℕ → ℕ) → length (vs read) ≡ used
-    long read = held-length read samples₀ at used
+module _ (f : Format) (at used : ℕ) (samples₀ : List ℕ) (room : at + used ≤ length samples₀) where
+  pub parted-begun : Parted f at used samples₀ samples₀ at
+  parted-begun = record { from = omega arith; so-far = part-begun (sampleIn f) samples₀ samples₀ at used room }
 
-    pub parted-begun : Parted f at used samples₀ ancillary₀ marks₀ samples₀ ancillary₀ marks₀ at
-    parted-begun =
-        let none : 0 ≡ at - at = omega arith in
-        record {
-          from = omega arith;
-          samples-so-far = subst (Filled samples₀ samples₀ at (vs (sampleIn f))) none (begun samples₀ at _);
-          ancillary-so-far = subst (Filled ancillary₀ ancillary₀ at (vs (ancillaryIn f))) none (begun ancillary₀ at _);
-          marks-so-far = subst (Filled marks₀ marks₀ at (vs (markIn f))) none (begun marks₀ at _);
-        }
+  module _ {samples : List ℕ} {i : ℕ} (parted : Parted f at used samples₀ samples i) where
+    was : getD samples i 0 ≡ getD samples₀ i 0
+    was = part-ahead (sampleIn f) samples₀ samples₀ at used room (parted .so-far) (parted .from)
 
-    module _ {samples ancillary marks : List ℕ} {i : ℕ} (so-far : Parted f at used samples₀ ancillary₀ marks₀ samples ancillary marks i) where
-      pub parted-on : {mark : ℕ} → i < at + used → mark ≡ markIn f (getD samples i 0)
-          → Parted f at used samples₀ ancillary₀ marks₀ (L.set samples i (getD samples i 0 / 256))
-          (L.set ancillary i (getD samples i 0 / 16 % 16)) (L.set marks i mark) (i + 1)
-      parted-on less mark-is =
+    pub parted-done : at + used ≤ i → samples ≡ written samples₀ at (held (sampleIn f) samples₀ at used)
+    parted-done all = part-done (sampleIn f) samples₀ samples₀ at used room (parted .so-far) all
+
+    module _ (less : i < at + used) {v : ℕ} where
+      pub parted-on : v ≡ sampleIn f (getD samples i 0) → Parted f at used samples₀ (L.set samples i v) (i + 1)
+      parted-on e =
           record {
-            from = omega (arith, so-far .from);
-            samples-so-far =
-                on (long (sampleIn f)) (room .samples-room) (so-far .samples-so-far)
-                (sample-over f four-a four-o (getD samples i 0) ∙ was (sampleIn f));
-            ancillary-so-far =
-                on (long (ancillaryIn f)) (room .ancillary-room) (so-far .ancillary-so-far)
-                (ancillary-over f four-a four-o (getD samples i 0) ∙ was (ancillaryIn f));
-            marks-so-far = on (long (markIn f)) (room .marks-room) (so-far .marks-so-far) (mark-is ∙ was (markIn f));
+            from = omega (arith, parted .from);
+            so-far = part-on (sampleIn f) samples₀ samples₀ at used room (parted .so-far) (parted .from) less (e ∙ ap (sampleIn f) was);
           }
-        where
-          here : at + (i - at) ≡ i
-          here = omega (arith, so-far .from)
 
-          ahead : i - at < used
-          ahead = omega (arith, so-far .from, less)
+      pub beside-on : (read : ℕ → ℕ) (run₀ : List ℕ) {run : List ℕ} → at + used ≤ length run₀
+          → PartedBeside read at used samples₀ run₀ run i → v ≡ read (getD samples i 0)
+          → PartedBeside read at used samples₀ run₀ (L.set run i v) (i + 1)
+      beside-on read run₀ fit beside e =
+          record { so-far = part-on read samples₀ run₀ at used fit (beside .so-far) (parted .from) less (e ∙ ap read was) }
 
-          next : i - at + 1 ≡ i + 1 - at
-          next = omega (arith, so-far .from)
+module _ (read : ℕ → ℕ) (at used : ℕ) (samples₀ run₀ : List ℕ) (room : at + used ≤ length run₀) where
+  pub beside-begun : PartedBeside read at used samples₀ run₀ run₀ at
+  beside-begun = record { so-far = part-begun read samples₀ run₀ at used room }
 
-          on : {d d₀ new : List ℕ} {v : ℕ} → length new ≡ used → at + used ≤ length d₀ → Filled d d₀ at new (i - at)
-              → v ≡ getD new (i - at) 0 → Filled (L.set d i v) d₀ at new (i + 1 - at)
-          on {d} {d₀} {new} {v} long-new fit done-yet v-is =
-              subst (λ (k : ℕ). Filled (L.set d i v) d₀ at new k) next
-              (subst (λ (k : ℕ). Filled (L.set d k v) d₀ at new (i - at + 1)) here
-              (fill-on d₀ at new long-new fit done-yet ahead v-is))
-
-          was : (read : ℕ → ℕ) → read (getD samples i 0) ≡ getD (vs read) (i - at) 0
-          was read =
-              ap read
-              (subst (λ (k : ℕ). getD samples k 0 ≡ getD samples₀ k 0) here
-              (fill-ahead samples₀ at (vs (sampleIn f)) (long (sampleIn f)) (room .samples-room) (so-far .samples-so-far)))
-              ∙ ap (λ (k : ℕ). read (getD samples₀ k 0)) (sym here)
-              ∙ held-at read samples₀ at used ahead
-
-      pub parted-done : at + used ≤ i → Splits f at used samples₀ ancillary₀ marks₀ samples ancillary marks
-      parted-done all =
-          let over-all : used ≤ i - at = omega arith in
-          record {
-            samples-are = fill-done samples₀ at _ (long (sampleIn f)) (room .samples-room) (so-far .samples-so-far) over-all;
-            ancillary-is = fill-done ancillary₀ at _ (long (ancillaryIn f)) (room .ancillary-room) (so-far .ancillary-so-far) over-all;
-            marks-are = fill-done marks₀ at _ (long (markIn f)) (room .marks-room) (so-far .marks-so-far) over-all;
-          }
+  pub beside-done : {run : List ℕ} {i : ℕ} → PartedBeside read at used samples₀ run₀ run i → at + used ≤ i
+      → run ≡ written run₀ at (held read samples₀ at used)
+  beside-done beside all = part-done read samples₀ run₀ at used room (beside .so-far) all
 
 -- entries written stand in the run, and others written over them take their place
 module _ (run : List ℕ) (at : ℕ) (ws : List ℕ) (room : at + length ws ≤ length run) where
@@ -185,20 +189,35 @@ written-again read run at used each room =
     (take-add at used run ∙ ap (λ (l : List ℕ). take at run ++ l) (sym part))
     (ap (λ (n : ℕ). drop (at + n) run) (sym (held-length read run at used)))
 
+-- formats without ancillary bits: the ancillary run is zero already
+module _ (f : Format) (bare : f .«ancillary_bits» ≡ 0) (at used : ℕ) (samples ancillary : List ℕ) (room : at + used ≤ length ancillary)
+    (blank : Blank f at used ancillary)
+  where
+    ancillary-bare : (x : ℕ) → ancillaryIn f x ≡ 0
+    unfolding ancillaryIn
+    ancillary-bare x = rw bare (mod-one _)
+
+    pub blank-is : ancillary ≡ written ancillary at (held (ancillaryIn f) samples at used)
+    blank-is =
+        written-again (λ x. x) ancillary at used (λ x. refl) room
+        ∙ ap (written ancillary at)
+        (held-is (λ x. x) ancillary at used (held-length (ancillaryIn f) samples at used)
+        (λ i h.
+        blank bare i h ∙ sym (ancillary-bare (getD samples (at + i) 0)) ∙ held-at (ancillaryIn f) samples at used h))
+
+    pub splits-alone : {marks samples₁ marks₁ : List ℕ} → samples₁ ≡ written samples at (held (sampleIn f) samples at used)
+        → marks₁ ≡ written marks at (held (markIn f) samples at used) → Splits f at used samples ancillary marks samples₁ ancillary marks₁
+    splits-alone s m = record { samples-are = s; ancillary-is = blank-is; marks-are = m }
+
 -- formats without overhead: the parts of a subframe
 module _ (f : Format) (none : f .«overhead_bits» ≡ 0) where
   mark-none : (x : ℕ) → markIn f x ≡ 0
   unfolding markIn
   mark-none x = rw (eq-eqb _ _ none)
 
-  module _ (bare : f .«ancillary_bits» ≡ 0) where
-    sample-bare : (x : ℕ) → sampleIn f x ≡ x
-    unfolding sampleIn
-    sample-bare x = rw (none, bare) (omega arith)
-
-    ancillary-bare : (x : ℕ) → ancillaryIn f x ≡ 0
-    unfolding ancillaryIn
-    ancillary-bare x = rw (none, bare) (omega arith)
+  sample-bare : f .«ancillary_bits» ≡ 0 → (x : ℕ) → sampleIn f x ≡ x
+  unfolding sampleIn
+  sample-bare bare x = rw (none, bare) (omega arith)
 
   module _ (bits : f .«ancillary_bits» ≡ 4) where
     sample-four : (x : ℕ) → sampleIn f x ≡ x / 16
@@ -215,12 +234,12 @@ module _ (f : Format) (none : f .«overhead_bits» ≡ 0) where
       marks-none : marks₁ ≡ written marks at (held (markIn f) samples at used)
       marks-none = marks-zero ∙ ap (written marks at) (sym (held-all (markIn f) samples at used mark-none))
 
-      pub splits-plain : f .«ancillary_bits» ≡ 0 → {ancillary₁ : List ℕ} → ancillary₁ ≡ written ancillary at (replicate used 0)
-          → Splits f at used samples ancillary marks samples ancillary₁ marks₁
-      splits-plain bare e =
+      pub splits-plain : f .«ancillary_bits» ≡ 0 → Blank f at used ancillary
+          → Splits f at used samples ancillary marks samples ancillary marks₁
+      splits-plain bare blank =
           record {
             samples-are = written-again (sampleIn f) samples at used (sample-bare bare) (room .samples-room);
-            ancillary-is = e ∙ ap (written ancillary at) (sym (held-all (ancillaryIn f) samples at used (ancillary-bare bare)));
+            ancillary-is = blank-is f bare at used samples ancillary (room .ancillary-room) blank;
             marks-are = marks-none;
           }
 
@@ -234,6 +253,9 @@ module _ (f : Format) (none : f .«overhead_bits» ≡ 0) where
             ancillary-is = a ∙ ap (written ancillary at) (sym (held-same (ancillaryIn f) samples at used (ancillary-four four)));
             marks-are = marks-none;
           }
+
+pub times-few : (channels times : ℕ) → 1 ≤ channels → channels * times ≤ 48 → times ≤ 48
+times-few channels times some few = omega (arith, mul-le-mul-right {m = 1} {n = channels} times some, one-mul times)
 
 -- a cell's own entries
 module _ (set : Settled) (cell : List ℕ) where
@@ -258,6 +280,9 @@ module _ (set : Settled) (cell : List ℕ) where
   pub slot-straight : set .«by_channel» ≡ false → (i : ℕ) → i ≡ slotOfEntry (set .«by_channel») (set .channels) (set .times) i
   unfolding slotOfEntry slotOf
   slot-straight e i = rw e (sym (div-add-mod' i (set .channels)))
+
+  pub used-from : Limits set → 1 ≤ usedIn set
+  used-from limits = mul-le-mul (limits .channels-from) (limits .times-from)
 
   -- a run that is filled with the subframes
   module _ (run₀ : List ℕ) (at : ℕ) (room : at + usedIn set ≤ length run₀) where
@@ -315,21 +340,71 @@ pub from-front : (run new : List ℕ) → written run 0 new ≡ over new run
 unfolding over
 from-front run new = rw (zero-add (length new))
 
+length-over-zeros : (missing : ℕ) (run : List ℕ) → missing ≤ length run → length (over (replicate missing 0) run) ≡ length run
+unfolding over
+length-over-zeros missing run room =
+    let first : List ℕ = replicate missing 0 in
+    let long : length first ≡ missing = length-replicate missing 0 in
+    length-append first (drop (length first) run) ∙ omega (arith, length-drop (length first) run, long)
+
+-- entries of zero for missing cells, or for the cell's own too, and then those
+lost-and-own : (missing blank used : ℕ) (next run : List ℕ) {run₁ run₂ : List ℕ} → (blank ≡ missing) ⊎ (blank ≡ missing + used)
+    → length next ≡ used → missing + used ≤ length run → run₁ ≡ written run 0 (replicate blank 0)
+    → run₂ ≡ written run₁ missing next → run₂ ≡ over (replicate missing 0 ++ next) run
+lost-and-own missing blank used next run {run₁} {run₂} which long room e₁ e₂ = ⊎-elim short further which
+  where
+    short : blank ≡ missing → run₂ ≡ over (replicate missing 0 ++ next) run
+    short is =
+        over-then (replicate missing 0) next run (length-replicate missing 0) (omega arith)
+        (e₁ ∙ from-front run _ ∙ ap (λ (n : ℕ). over (replicate n 0) run) is) e₂
+
+    further : blank ≡ missing + used → run₂ ≡ over (replicate missing 0 ++ next) run
+    further is =
+        over-then (replicate missing 0) next run {run₁ = over (replicate missing 0) run} (length-replicate missing 0) (omega arith) refl
+        (e₂
+        ∙ ap (λ (l : List ℕ). written l missing next)
+        (e₁
+        ∙ from-front run _
+        ∙ ap (λ (n : ℕ). over (replicate n 0) run) is
+        ∙ ap (λ (l : List ℕ). over l run) (sym (replicate-append-replicate missing used 0))
+        ∙ sym
+        (over-then (replicate missing 0) (replicate used 0) run {run₁ = over (replicate missing 0) run} (length-replicate missing 0)
+        (omega arith) refl refl))
+        ∙ written-over (over (replicate missing 0) run) missing (replicate used 0) fits next (long ∙ sym (length-replicate used 0)))
+      where
+        fits : missing + length {A = ℕ} (replicate used 0) ≤ length (over (replicate missing 0) run)
+        fits = omega (arith, length-over-zeros missing run (omega arith), length-replicate {A = ℕ} used 0)
+
+pub blank-either : (f : Format) (missing used : ℕ) → (blankEnd f missing used ≡ missing) ⊎ (blankEnd f missing used ≡ missing + used)
+unfolding blankEnd
+blank-either f missing used = split (eqb (f .«ancillary_bits») 0) (λ e. inr (rw e)) (λ e. inl (rw e))
+
+-- the ancillary run is blank where it has to be
+pub blank-there : (f : Format) (missing used : ℕ) (run : List ℕ) {run₁ : List ℕ} → missing + used ≤ length run
+    → run₁ ≡ written run 0 (replicate (blankEnd f missing used) 0) → Blank f missing used run₁
+unfolding blankEnd over
+blank-there f missing used run {run₁} room e bare i less =
+    let whole : blankEnd f missing used ≡ missing + used = rw (eq-eqb _ _ bare) in
+    ap (λ (l : List ℕ). getD l (missing + i) 0) (e ∙ from-front run (replicate (blankEnd f missing used) 0) ∙ ap (λ (n : ℕ). over (replicate n 0) run) whole)
+    ∙ List·getD-append (replicate (missing + used) 0) _ 0 (missing + i) (omega (arith, length-replicate {A = ℕ} (missing + used) 0))
+    ∙ getD-replicate (missing + used) (missing + i) 0 0 (omega arith)
+
 -- missing entries and then the cell's own
-pub fills : (set : Settled) (cell : List ℕ) (missing : ℕ) (samples ancillary marks : List ℕ)
+pub fills : (set : Settled) (cell : List ℕ) (missing blank : ℕ) (samples ancillary marks : List ℕ)
     {samples₁ ancillary₁ marks₁ samples₂ ancillary₂ marks₂ : List ℕ}
+    → (blank ≡ missing) ⊎ (blank ≡ missing + usedIn set)
     → Room missing (usedIn set) samples ancillary marks
-    → Misses missing samples ancillary marks samples₁ ancillary₁ marks₁
+    → Misses missing blank samples ancillary marks samples₁ ancillary₁ marks₁
     → Unpacks set cell missing samples₁ ancillary₁ marks₁ samples₂ ancillary₂ marks₂
     → Fills set cell missing samples ancillary marks samples₂ ancillary₂ marks₂
-fills set cell missing samples ancillary marks roomy lost own =
+fills set cell missing blank samples ancillary marks which roomy lost own =
     record {
       samples-are =
           over-then (replicate missing 0) _ samples (length-replicate missing 0) (omega (arith, roomy .samples-room)) (lost .samples-are)
           (own .samples-are);
       ancillary-is =
-          over-then (replicate missing 0) _ ancillary (length-replicate missing 0) (omega (arith, roomy .ancillary-room))
-          (lost .ancillary-is ∙ from-front ancillary _) (own .ancillary-is);
+          lost-and-own missing blank (usedIn set) _ ancillary which (own-length set cell (ancillaryIn (set .format)))
+          (roomy .ancillary-room) (lost .ancillary-is) (own .ancillary-is);
       marks-are =
           over-then (replicate missing 2) _ marks (length-replicate missing 2) (omega (arith, roomy .marks-room))
           (lost .marks-are ∙ from-front marks _) (own .marks-are);

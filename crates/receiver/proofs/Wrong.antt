@@ -3,7 +3,7 @@
 use mathlib.Core.Bool.{Bool, true, false, true≢false}
 use mathlib.Core.List.{List, [], _∷_}
 use mathlib.Core.Path.{_≡_, sym, _∙_, ap}
-use Prim.Native.Nat.{ℕ}
+use Prim.Native.Nat.{ℕ, _^_}
 use native.Mathlib.Omega.{arith}
 use contract.Lifetimes.{Lfts}
 use lib.ListN.{getD, set, replicate}
@@ -36,10 +36,12 @@ use Rattle.receiver.specs.declared.Received.{Received}
 use Rattle.receiver.specs.Receiver.{
   openedOf,
   lastRefused,
+  countRefused,
   stateRefusal,
   lengthsRefused,
   foundNow,
   gapOf,
+  countAfter,
   receiveRefusal,
   entriesNow,
   secondNow,
@@ -52,6 +54,8 @@ use Rattle.receiver.proofs.judged.Kinds as judged-kinds
 use Rattle.receiver.proofs.judged.Reads as judged-reads
 use Rattle.receiver.proofs.opened.Kinds as opened-kinds
 use Rattle.receiver.proofs.opened.Reads as opened-reads
+use Rattle.receiver.proofs.placed.Kinds as placed-kinds
+use Rattle.receiver.proofs.placed.Reads as placed-reads
 use Rattle.receiver.proofs.receive.Kinds as receive-kinds
 use Rattle.receiver.proofs.receive.Reads as receive-reads
 
@@ -61,11 +65,12 @@ unfolding tab joined octetsOf readOn overheadOf subframeOf slotOctets cellOf sub
 cells-unfolded = tt
 
 unfoldable placed-unfolded : Unit {0}
-unfolding entriesOf slotOf slotOfEntry entryOfSlot carried over orElse refusalOf valueOf openedOf lastRefused stateRefusal lengthsRefused after
+unfolding entriesOf slotOf slotOfEntry entryOfSlot carried over orElse refusalOf valueOf openedOf lastRefused countRefused stateRefusal lengthsRefused after
 placed-unfolded = tt
 
 unfoldable pub unfolded : Unit {0}
-unfolding formats.unfolded numbers.unfolded guards.unfolded cells-unfolded placed-unfolded foundNow gapOf receiveRefusal entriesNow secondNow receivedOf judgedOf entriesGiven
+unfolding formats.unfolded numbers.unfolded guards.unfolded cells-unfolded placed-unfolded foundNow gapOf countAfter
+    receiveRefusal entriesNow secondNow receivedOf judgedOf entriesGiven
 unfolded = tt
 
 -- openings: format, C, order
@@ -85,9 +90,31 @@ module _ (κs : Lfts 0) where
   unfolding unfolded
   opening-not-started x v wrong p = true≢false (sym wrong ∙ ap (λ (s : Ready). s .state .started) p)
 
--- a receiver of one channel in 5A hex, eight samples of forty bits in a cell, that last took the cell of this number
+  -- one that has placed a cell already
+  pub opening-not-counted : Never opened-kinds.ps opened-kinds.r opened-reads.Post κs (0x56, (2, (1, tt))) (λ x v. x .state .count ≡ 1)
+  unfolding unfolded
+  opening-not-counted x v wrong p = let right : x .state .count ≡ 0 = ap (λ (s : Ready). s .state .count) p in omega arith
+
+-- a receiver of one channel in 5A hex, eight samples of forty bits in a cell, that last took the cell of this number and has placed
+-- so many
+abbrev counting : ℕ → ℕ → Receiver
+counting last count = record { format = 0x5A; channels = 1; order = 0; started = true; last = last; count = count }
+
 abbrev archive : ℕ → Receiver
-archive last = record { format = 0x5A; channels = 1; order = 0; started = true; last = last }
+archive last = counting last 1
+
+-- the same receiver before its first cell, with this count
+abbrev unstarted : ℕ → Receiver
+unstarted count = record { format = 0x5A; channels = 1; order = 0; started = false; last = 0; count = count }
+
+module _ (κs : Lfts 0) where
+  -- the last number told for the count
+  pub placed-not-last : Never placed-kinds.ps placed-kinds.r placed-reads.Post κs (counting 3 300, tt) (λ x v. x ≡ 3)
+  placed-not-last x v wrong p = let right : x ≡ 300 = p in omega arith
+
+  -- the count told modulo 256
+  pub placed-not-cut : Never placed-kinds.ps placed-kinds.r placed-reads.Post κs (counting 3 300, tt) (λ x v. x ≡ 44)
+  placed-not-cut x v wrong p = let right : x ≡ 300 = p in omega arith
 
 abbrev eight : List ℕ
 eight = 1 ∷ 2 ∷ 3 ∷ 4 ∷ 5 ∷ 6 ∷ 7 ∷ 8 ∷ []
@@ -101,7 +128,14 @@ third = cellNumbered 3
 
 -- a receiver of 32-bit samples without overhead
 abbrev bare : Receiver
-bare = record { format = 0x08; channels = 12; order = 0; started = true; last = 0 }
+bare = record { format = 0x08; channels = 12; order = 0; started = true; last = 0; count = 1 }
+
+-- a receiver of one channel in 17 hex, which has overhead and no ancillary field, and a cell with the ninth bit alone in each sample
+abbrev abroad : Receiver
+abroad = record { format = 0x17; channels = 1; order = 0; started = true; last = 2; count = 3 }
+
+abbrev ninths : List ℕ
+ninths = cellOf (formatOf 0x17) false 1 12 (entryOf 3) 0 (replicate 12 (2 ^ 19)) (replicate 12 0)
 
 module _ (κs : Lfts 4) (c s a m : Place) where
   -- a call with this cell and this indication, on three runs of so many sevens
@@ -157,6 +191,18 @@ module _ (κs : Lfts 4) (c s a m : Place) where
   spoiled-not-marked-sound x v wrong p =
       let right : getD (v .1 .1 .1 .1 .1 .0) 0 0 ≡ 1 = ap (λ (l : List ℕ). getD l 0 0) (p .marks-after) in omega arith
 
+  -- protection judged as if V were 0: the ninth bit alone has 100 without V, and 001 with it
+  pub no-v-not-judged-as-v-0 : Receiving abroad ninths 12 (λ x samples ancillary marks. getD marks 0 0 ≡ 1)
+  unfolding unfolded
+  no-v-not-judged-as-v-0 x v wrong p =
+      let right : getD (v .1 .1 .1 .1 .1 .0) 0 0 ≡ 0 = ap (λ (l : List ℕ). getD l 0 0) (p .marks-after) in omega arith
+
+  -- the ancillary run left where the format has no ancillary bits
+  pub no-field-not-left : Receiving abroad ninths 12 (λ x samples ancillary marks. ancillary ≡ replicate 12 7)
+  unfolding unfolded
+  no-field-not-left x v wrong p =
+      let first : _≡_ {A = ℕ} 7 0 = ap (λ (l : List ℕ). getD l 0 0) (sym wrong ∙ p .ancillary-after) in omega arith
+
   -- a spoiled number taken: the first sequencing bit is altered
   pub spoiled-number-not-taken : Receiving (archive 2) (set third 5 7) 9 (λ x samples ancillary marks. x .refusal ≡ 0)
   unfolding unfolded
@@ -204,10 +250,73 @@ module _ (κs : Lfts 4) (c s a m : Place) where
       let right : x .refusal ≡ 0 = ap (λ (r : Received). r .refusal) (p .answered) in omega arith
 
   -- a first cell refused 15 that starts the receiver all the same
-  pub wrongly-indicated-not-counted : Indicated true (record { format = 0x5A; channels = 1; order = 0; started = false; last = 0 }) (cellNumbered 5) 9
+  pub wrongly-indicated-not-counted : Indicated true (unstarted 0) (cellNumbered 5) 9
       (λ x samples ancillary marks. x .state .started ≡ true)
   unfolding unfolded
   wrongly-indicated-not-counted x v wrong p = true≢false (sym wrong ∙ ap (λ (r : Received). r .state .started) (p .answered))
+
+  -- the count of sound cells alone: one was missing before this one
+  pub missing-not-uncounted : Receiving (archive 1) third 16 (λ x samples ancillary marks. x .state .count ≡ 2)
+  unfolding unfolded
+  missing-not-uncounted x v wrong p =
+      let right : x .state .count ≡ 3 = ap (λ (r : Received). r .state .count) (p .answered) in omega arith
+
+  -- a refused call counted: a repeat as a cell, and what there was no room for
+  pub repeat-not-counted : Receiving (archive 3) third 9 (λ x samples ancillary marks. x .state .count ≡ 2)
+  unfolding unfolded
+  repeat-not-counted x v wrong p =
+      let right : x .state .count ≡ 1 = ap (λ (r : Received). r .state .count) (p .answered) in omega arith
+
+  pub without-room-not-counted : Receiving (archive 1) third 9 (λ x samples ancillary marks. x .state .count ≡ 3)
+  unfolding unfolded
+  without-room-not-counted x v wrong p =
+      let right : x .state .count ≡ 1 = ap (λ (r : Received). r .state .count) (p .answered) in omega arith
+
+  -- cells without overhead not counted
+  pub bare-not-uncounted : Receiving bare (cellNumbered 5) 12 (λ x samples ancillary marks. x .state .count ≡ 1)
+  unfolding unfolded
+  bare-not-uncounted x v wrong p =
+      let right : x .state .count ≡ 2 = ap (λ (r : Received). r .state .count) (p .answered) in omega arith
+
+  -- a state not started taken with a count
+  pub unstarted-not-with-a-count : Receiving (unstarted 1) third 9 (λ x samples ancillary marks. x .refusal ≡ 0)
+  unfolding unfolded
+  unstarted-not-with-a-count x v wrong p =
+      let right : x .refusal ≡ 4 = ap (λ (r : Received). r .refusal) (p .answered) in omega arith
+
+  -- a started one refused without
+  pub started-not-refused-for-0 : Receiving (counting 2 0) third 9 (λ x samples ancillary marks. x .refusal ≡ 4)
+  unfolding unfolded
+  started-not-refused-for-0 x v wrong p =
+      let right : x .refusal ≡ 0 = ap (λ (r : Received). r .refusal) (p .answered) in omega arith
+
+  -- the bound is sharp: 20 one cell too early, and one cell more taken
+  pub most-not-refused : Receiving (counting 2 4294967294) third 9 (λ x samples ancillary marks. x .refusal ≡ 20)
+  unfolding unfolded
+  most-not-refused x v wrong p = let right : x .refusal ≡ 0 = ap (λ (r : Received). r .refusal) (p .answered) in omega arith
+
+  pub most-reached : Receiving (counting 2 4294967294) third 9 (λ x samples ancillary marks. x .state .count ≡ 4294967295 → ⊥)
+  unfolding unfolded
+  most-reached x v wrong p = wrong (ap (λ (r : Received). r .state .count) (p .answered))
+
+  pub most-not-passed : Receiving (counting 2 4294967295) third 9 (λ x samples ancillary marks. x .refusal ≡ 20 → ⊥)
+  unfolding unfolded
+  most-not-passed x v wrong p = wrong (ap (λ (r : Received). r .refusal) (p .answered))
+
+  -- 20 looked for by the sound cell alone: it and the missing one pass the bound
+  pub missing-not-past-the-most : Receiving (counting 1 4294967294) third 16 (λ x samples ancillary marks. x .refusal ≡ 0)
+  unfolding unfolded
+  missing-not-past-the-most x v wrong p =
+      let right : x .refusal ≡ 20 = ap (λ (r : Received). r .refusal) (p .answered) in omega arith
+
+  -- 20 before 9, and 10 before 20
+  pub count-not-before-9 : Receiving (counting 3 4294967295) third 9 (λ x samples ancillary marks. x .refusal ≡ 20)
+  unfolding unfolded
+  count-not-before-9 x v wrong p = let right : x .refusal ≡ 9 = ap (λ (r : Received). r .refusal) (p .answered) in omega arith
+
+  pub count-not-after-10 : Receiving (counting 2 4294967295) third 0 (λ x samples ancillary marks. x .refusal ≡ 10)
+  unfolding unfolded
+  count-not-after-10 x v wrong p = let right : x .refusal ≡ 20 = ap (λ (r : Received). r .refusal) (p .answered) in omega arith
 
 -- judged without runs
 module _ (κs : Lfts 1) (c : Place) where

@@ -3,7 +3,7 @@
 use mathlib.Core.Bool.{Bool, true, false, cond, not, _&&_, _||_}
 use mathlib.Core.List.{List, [], _++_}
 use mathlib.Core.Path.{_≡_}
-use Prim.Native.Nat.{ℕ, _*_, _-_}
+use Prim.Native.Nat.{ℕ, _+_, _*_, _-_}
 use lib.Dec.{eqb, ltb}
 use lib.ListN.{length, replicate}
 use Rattle.runs.specs.Refusals.{orElse}
@@ -18,12 +18,15 @@ use Rattle.receiver.specs.declared.Receiver.{Receiver}
 use Rattle.receiver.specs.declared.Ready.{Ready}
 use Rattle.receiver.specs.declared.Received.{Received}
 
--- "State: format, C, order, started or not, last number. Not started means last number 0."; "zeros from an opening" that is refused
+-- "State: format, C, order, started or not, last number. Not started means last number 0."; "zeros from an opening" that is refused.
+-- Request 5: "the number of cells placed since the start, sound and missing together. Keep it in the receiver's state"; "A state not
+-- started must have 0"
 abbrev pub zeroState : Receiver
-zeroState = record { format = 0; channels = 0; order = 0; started = false; last = 0 }
+zeroState = record { format = 0; channels = 0; order = 0; started = false; last = 0; count = 0 }
 
 abbrev pub openState : ℕ → ℕ → ℕ → Receiver
-openState octet channels order = record { format = octet; channels = channels; order = order; started = false; last = 0 }
+openState octet channels order =
+    record { format = octet; channels = channels; order = order; started = false; last = 0; count = 0 }
 
 unfoldable pub openedOf : ℕ → ℕ → ℕ → Ready
 openedOf octet channels order =
@@ -37,9 +40,14 @@ lastRefused st =
     ltb 15 (st .last)
     || (not (eqb (st .last) 0) && (not (st .started) || eqb (formatOf (st .format) .«overhead_bits») 0))
 
+-- "4 also for a non-zero count in a state not started"
+unfoldable pub countRefused : Receiver → Bool
+countRefused st = not (st .started) && not (eqb (st .count) 0)
+
 -- checks 1 to 4 of a state
 unfoldable pub stateRefusal : Receiver → ℕ
-stateRefusal st = orElse (settingsRefusal (st .format) (st .channels) (st .order)) (cond (lastRefused st) 4 0)
+stateRefusal st =
+    orElse (settingsRefusal (st .format) (st .channels) (st .order)) (cond (lastRefused st || countRefused st) 4 0)
 
 -- T and C×T, as the state has them
 abbrev pub timesNow : Receiver → ℕ
@@ -67,8 +75,13 @@ unfoldable pub gapOf : Receiver → List ℕ → ℕ
 gapOf st cell =
     cond (not (st .started) || eqb (formatOf (st .format) .«overhead_bits») 0) 1 (differenceOf (numberNow st cell) (st .last))
 
--- checks 1 to 4, then 5, then 8, 15, 9, 10; the runs are told by their lengths. 15 is "for indication 1 with a number not a multiple
--- of 8", and only "where the format carries overhead": without overhead the number is 0, a multiple of 8
+-- the count after a cell that is taken: itself and d - 1 missing ones are placed by it
+unfoldable pub countAfter : Receiver → List ℕ → ℕ
+countAfter st cell = st .count + gapOf st cell
+
+-- checks 1 to 4, then 5, then 8, 15, 9, 20, 10; the runs are told by their lengths. 15 is "for indication 1 with a number not a multiple
+-- of 8", and only "where the format carries overhead": without overhead the number is 0, a multiple of 8. "20 where the count would
+-- pass 4,294,967,295, after 9 and before 10"
 unfoldable pub receiveRefusal : Receiver → List ℕ → Bool → ℕ → ℕ → ℕ → ℕ
 receiveRefusal st cell indication samples ancillary marks =
     orElse (stateRefusal st)
@@ -76,7 +89,8 @@ receiveRefusal st cell indication samples ancillary marks =
     (orElse (refusalOf (foundNow st cell))
     (cond (indicationRefused (numberNow st cell) indication) 15
     (cond (eqb (gapOf st cell) 0) 9
-    (cond (ltb samples (gapOf st cell * usedNow st)) 10 0)))))
+    (cond (ltb 4294967295 (countAfter st cell)) 20
+    (cond (ltb samples (gapOf st cell * usedNow st)) 10 0))))))
 
 -- "C×T entries of zero with mark 2 for each missing cell, then the cell's own entries": what one run is given
 unfoldable pub entriesNow : (ℕ → ℕ) → ℕ → Receiver → List ℕ → List ℕ
@@ -99,7 +113,14 @@ secondNow st cell = cond (eqb (formatOf (st .format) .«overhead_bits») 0) 0 (s
 
 unfoldable pub after : Receiver → List ℕ → Receiver
 after st cell =
-    record { format = st .format; channels = st .channels; order = st .order; started = true; last = numberNow st cell }
+    record {
+      format = st .format;
+      channels = st .channels;
+      order = st .order;
+      started = true;
+      last = numberNow st cell;
+      count = countAfter st cell;
+    }
 
 -- "Reported: missing count, number, second number .., and the indication as it came"
 unfoldable pub receivedOf : Receiver → List ℕ → Bool → ℕ → ℕ → ℕ → Received

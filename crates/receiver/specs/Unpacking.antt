@@ -3,7 +3,8 @@
 use mathlib.Core.Bool.{Bool, true, false, cond}
 use mathlib.Core.List.{List, _++_}
 use mathlib.Core.Path.{_≡_}
-use Prim.Native.Nat.{ℕ, _+_, _*_, _/_, _%_, _-_, _^_, _≤_}
+use Prim.Native.Nat.{ℕ, _+_, _*_, _/_, _%_, _-_, _^_, _≤_, _<_}
+use lib.Dec.{eqb, ltb}
 use lib.ListN as L
 use lib.ListN.{length, getD, replicate}
 use Rattle.runs.specs.Refusals.{orElse}
@@ -47,15 +48,19 @@ pub record Enters (subframe bits at : ℕ) (samples ancillary marks samples₁ a
   pub ancillary-is : ancillary₁ ≡ L.set ancillary at (subframe / 16 % 16)
   pub marks-are : marks₁ ≡ L.set marks at (bits / 2 ^ (subframe % 32) % 2)
 
--- three runs after the entries of missing cells were written from their start
-pub record Misses (missing : ℕ) (samples ancillary marks samples₁ ancillary₁ marks₁ : List ℕ) : Type 0 where
+-- three runs after the entries of missing cells were written from their start; the ancillary run's zeros may go on
+pub record Misses (missing blank : ℕ) (samples ancillary marks samples₁ ancillary₁ marks₁ : List ℕ) : Type 0 where
   pub samples-are : samples₁ ≡ over (replicate missing 0) samples
-  pub ancillary-is : ancillary₁ ≡ written ancillary 0 (replicate missing 0)
+  pub ancillary-is : ancillary₁ ≡ written ancillary 0 (replicate blank 0)
   pub marks-are : marks₁ ≡ written marks 0 (replicate missing 2)
 
--- overhead alone is "not yet in the base"
-abbrev pub Together : Format → Type 0
-Together f = (f .«overhead_bits» ≡ 0 → ⊥) → f .«ancillary_bits» ≡ 4
+-- where they end: behind the cell's own entries if the format has no ancillary bits
+unfoldable pub blankEnd : Format → ℕ → ℕ → ℕ
+blankEnd f missing used = cond (eqb (f .«ancillary_bits») 0) (missing + used) missing
+
+-- so that the ancillary run is zero where a cell without ancillary bits has its own entries
+abbrev pub Blank : Format → ℕ → ℕ → List ℕ → Type 0
+Blank f at used ancillary = f .«ancillary_bits» ≡ 0 → (i : ℕ) → i < used → getD ancillary (at + i) 0 ≡ 0
 
 -- 56 hex, and all its slots in order 0 as entries of one time
 abbrev pub fours : Format
@@ -83,15 +88,21 @@ unfoldable pub earlyRefusal : Receiver → ℕ → ℕ → ℕ → ℕ → ℕ
 earlyRefusal st cell samples ancillary marks =
     orElse (stateRefusal st) (cond (lengthsRefused cell samples ancillary marks) 5 0)
 
+-- checks 9, 20 and 10, by d, the count so far, how long each run is and how long it has to be
+unfoldable pub lateRefusal : ℕ → ℕ → ℕ → ℕ → ℕ
+lateRefusal gap count samples needed =
+    cond (eqb gap 0) 9 (cond (ltb 4294967295 (count + gap)) 20 (cond (ltb samples needed) 10 0))
+
 -- the answers to a call that is refused, and to one that is taken
 abbrev pub refusedBy : ℕ → Receiver → Received
 refusedBy refusal st = record { refusal = refusal; state = st; missing = 0; number = 0; second = 0; indication = false }
 
-abbrev pub takenAs : Receiver → ℕ → ℕ → ℕ → Bool → Received
-takenAs st missing number second indication =
+abbrev pub takenAs : Receiver → ℕ → ℕ → ℕ → Bool → ℕ → Received
+takenAs st missing number second indication count =
     record {
       refusal = 0;
-      state = record { format = st .format; channels = st .channels; order = st .order; started = true; last = number };
+      state =
+          record { format = st .format; channels = st .channels; order = st .order; started = true; last = number; count = count };
       missing = missing;
       number = number;
       second = second;

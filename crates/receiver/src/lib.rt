@@ -1,4 +1,4 @@
-// The receiver's box, document 01: opening and receiving, refusals 1 to 5, 8 to 10 and 15.
+// The receiver's box, document 01: opening and receiving, refusals 1 to 5, 8 to 10, 15 and 20.
 ghost use mathlib.Core.Path.{_≡_};
 ghost use Rattle.receiver.specs.Receiver.{openedOf, judgedOf, Receives};
 
@@ -8,13 +8,15 @@ mod judge;
 mod octets;
 mod usual;
 
-// A receiver's state, in the paper's words: the subframe octet, C, the order, whether it is started, and the last number.
+// A receiver's state, in the paper's words: the subframe octet, C, the order, whether it is started, the last number, and how many
+// cells it has placed since it was opened, sound and missing together.
 pub struct Receiver {
     pub format: u8,
     pub channels: u8,
     pub order: u8,
     pub started: bool,
     pub last: u8,
+    pub count: u32,
 }
 
 // The refusal (0: none) and the state to go on with.
@@ -48,6 +50,7 @@ pub fn opened(format: u32, channels: u32, order: u32) -> Ready
                 order: 0,
                 started: false,
                 last: 0,
+                count: 0,
             },
         };
     }
@@ -59,8 +62,16 @@ pub fn opened(format: u32, channels: u32, order: u32) -> Ready
             order: order as u8,
             started: false,
             last: 0,
+            count: 0,
         },
     }
+}
+
+// How many cells a receiver in this state has placed since it was opened, sound and missing together. Nothing is refused.
+pub fn placed(state: Receiver) -> u32
+    ensures { λ r. ⌜ r ≡ state .count ⌝ }
+{
+    state.count
 }
 
 // Takes a cell, whatever the settings.
@@ -101,8 +112,8 @@ fn receive_any(
 }
 
 // Takes a cell: C×T entries of zero with mark 2 for each missing cell, then the cell's own, go into the three runs from their
-// start; what stands past these stays. Refused: 1 to 5, 8, 15, 9, 10, and then the state comes back as it went in and nothing is
-// written.
+// start; what stands past these stays. The state's count grows by all of them. Refused: 1 to 5, 8, 15, 9, 20, 10, and then the state
+// comes back as it went in and nothing is written.
 pub fn receive(
     state: Receiver,
     cell: &[u8],

@@ -75,3 +75,11 @@ pub(crate) fn subframe_in(format: Format, cell: &[u8], slot: usize) -> u64
     }
     cell[slot] as u64
 }
+
+// The subframe of a slot where it has three octets and one more stands behind it: all four by one load.
+pub(crate) fn three_in(format: Format, cell: &[u8], slot: usize) -> u64
+    requires { ⌜ Sound format × (format .width ≡ 3) × (length (now cell) ≡ 48) × (slot + 1 < format .slots) ⌝ }
+    ensures { λ r. ⌜ r ≡ subframeAt format (now (cell .entry)) slot ⌝ }
+{
+    in4(cell, slot * 3) / 256
+}

@@ -3,7 +3,9 @@
 use mathlib.Core.Bool.{Bool}
 use mathlib.Core.List.{List, [], _∷_}
 use mathlib.Core.Path.{_≡_, sym, _∙_, ap, subst}
-use Prim.Native.Nat.{ℕ}
+use Prim.Native.Nat.{ℕ, _+_, _*_, _/_, _%_, _≤_, _<_}
+use native.Mathlib.Nat.{div-div-eq-div-mul, div-lt-iff-lt-mul, div-add-mod', mod-eq-of-lt}
+use native.Mathlib.Omega.{arith}
 use borrow.Author.Tests.{ne-eqb}
 use Rattle.sender.specs.declared.Sender.{Sender}
 use Rattle.sender.specs.declared.Sent.{Sent}
@@ -15,6 +17,8 @@ use Rattle.rimesatchel.specs.Boxes.{
   yesNo,
   senderOf,
   senderOctets,
+  countOf,
+  countOctets,
   receiverOf,
   receiverOctets,
   reportOctets,
@@ -22,6 +26,22 @@ use Rattle.rimesatchel.specs.Boxes.{
   SentOctets,
   ReceivedOctets,
 }
+
+four-octets : (n a b d r s t top : ℕ) → a * 256 + r ≡ n → b * 256 + s ≡ a → d * 256 + t ≡ b → top ≡ d
+    → r + s * 256 + t * 65536 + top * 16777216 ≡ n
+four-octets n a b d r s t top one two three four = omega arith
+
+-- the count comes through the state's octets whole
+pub count-kept : (st : Receiver) → st .count ≤ 4294967295 → receiverOf (receiverOctets st) .count ≡ st .count
+unfolding receiverOf receiverOctets countOf countOctets
+count-kept st few =
+    let n = st .count in
+    let third : n / 256 / 256 ≡ n / 65536 = div-div-eq-div-mul n 256 256 in
+    let fourth : n / 65536 / 256 ≡ n / 16777216 = div-div-eq-div-mul n 65536 256 in
+    let high : n / 16777216 < 256 = div-lt-iff-lt-mul {k = 16777216} {x = n} {y = 256} (omega arith) .1 (omega (arith, few)) in
+    four-octets n (n / 256) (n / 65536) (n / 16777216) (n % 256) (n / 256 % 256) (n / 65536 % 256) (n / 16777216 % 256)
+    (div-add-mod' n 256) (ap (λ (m : ℕ). m * 256 + n / 256 % 256) (sym third) ∙ div-add-mod' (n / 256) 256)
+    (ap (λ (m : ℕ). m * 256 + n / 65536 % 256) (sym fourth) ∙ div-add-mod' (n / 65536) 256) (mod-eq-of-lt high)
 
 after-refused : {a r : ℕ} (new old : List ℕ) → a ≡ r → (a ≡ 0 → ⊥) → old ≡ stateAfter r new old
 after-refused new old is some = rw (ne-eqb _ 0 (λ e. some (is ∙ e)))

@@ -3,5 +3,10 @@ pub mod FramesOne
 pub mod FramesWrong
 pub mod Leaves
 pub mod LogsOne
+pub mod NetworkLeaves
+pub mod NetworkOne
+pub mod NetworkWrong
+pub mod PlansOne
+pub mod PlansWrong
 pub mod StatusesOne
 pub mod Wrong

@@ -13,13 +13,15 @@ use Rattle.sender.proofs.Wrong as sender
 use Rattle.receiver.proofs.Wrong as receiver
 use Rattle.status.proofs.Wrong as status
 use Rattle.log.proofs.Wrong as log
-use Rattle.rimesatchel.specs.Boxes.{yesNo, senderOf, senderOctets, receiverOf, receiverOctets, reportOctets}
+use Rattle.rimesatchel.specs.Boxes.{yesNo, senderOf, senderOctets, countOf, countOctets, receiverOf, receiverOctets, reportOctets}
 use Rattle.rimesatchel.proofs.boxes.rime_sender_open.Kinds as sender-open-kinds
 use Rattle.rimesatchel.proofs.boxes.rime_sender_open.Reads as sender-open-reads
 use Rattle.rimesatchel.proofs.boxes.rime_send.Kinds as send-kinds
 use Rattle.rimesatchel.proofs.boxes.rime_send.Reads as send-reads
 use Rattle.rimesatchel.proofs.boxes.rime_receiver_open.Kinds as receiver-open-kinds
 use Rattle.rimesatchel.proofs.boxes.rime_receiver_open.Reads as receiver-open-reads
+use Rattle.rimesatchel.proofs.boxes.rime_receiver_placed.Kinds as placed-kinds
+use Rattle.rimesatchel.proofs.boxes.rime_receiver_placed.Reads as placed-reads
 use Rattle.rimesatchel.proofs.boxes.rime_receive.Kinds as receive-kinds
 use Rattle.rimesatchel.proofs.boxes.rime_receive.Reads as receive-reads
 use Rattle.rimesatchel.proofs.logs.rime_log_header.Kinds as header-kinds
@@ -33,7 +35,7 @@ use Rattle.rimesatchel.proofs.statuses.rime_check_character.Reads as ch
 
 -- every definition on the way down to the numbers
 unfolded : Unit {0}
-unfolding sender.unfolded receiver.unfolded status.unfolded log.unfolded yesNo senderOf senderOctets receiverOf receiverOctets reportOctets
+unfolding sender.unfolded receiver.unfolded status.unfolded log.unfolded yesNo senderOf senderOctets countOf countOctets receiverOf receiverOctets reportOctets
 unfolded = tt
 
 abbrev eight : List ℕ
@@ -47,9 +49,9 @@ studio number = 0x5A ∷ 1 ∷ 0 ∷ number ∷ 0 ∷ 0 ∷ 1 ∷ []
 abbrev third : List ℕ
 third = S.cellNow (senderOf (studio 3)) false eight (replicate 8 0)
 
--- a receiver's state: it last took the cell of this number
+-- a receiver's state: it last took the cell of this number, and has placed 255 cells
 abbrev archive : ℕ → List ℕ
-archive last = 0x5A ∷ 1 ∷ 0 ∷ 1 ∷ last ∷ []
+archive last = 0x5A ∷ 1 ∷ 0 ∷ 1 ∷ last ∷ 255 ∷ 0 ∷ 0 ∷ 0 ∷ []
 
 -- opening: first number 3, the second number's start 5; the state is lent as nines
 module _ (κs : Lfts 1) (l : Place) where
@@ -77,7 +79,7 @@ module _ (κs : Lfts 1) (l : Place) where
 
   abbrev OpeningReceiver : ℕ → (ℕ → List ℕ → Type 0) → Type 0
   OpeningReceiver channels Wrong =
-      Never receiver-open-kinds.ps receiver-open-kinds.r receiver-open-reads.Post κs (0x56, (channels, (1, (lent l (replicate 5 9), tt))))
+      Never receiver-open-kinds.ps receiver-open-kinds.r receiver-open-reads.Post κs (0x56, (channels, (1, (lent l (replicate 9 9), tt))))
       (λ x v. Wrong x (v .1 .1 .1 .0))
 
   -- refused although nothing is wrong, by whatever number
@@ -94,6 +96,17 @@ module _ (κs : Lfts 1) (l : Place) where
   pub refused-receiver-not-left : OpeningReceiver 13 (λ x state. getD state 0 0 ≡ 9)
   unfolding unfolded
   refused-receiver-not-left x v wrong p = let right : getD (v .1 .1 .1 .0) 0 0 ≡ 0 = ap (λ (l : List ℕ). getD l 0 0) (p .leaves) in omega arith
+
+  -- nine octets that are no state: the count's most significant octet first, or the count of a state that is refused told as 0
+  pub placed-not-turned-round : Never placed-kinds.ps placed-kinds.r placed-reads.Post κs
+      (lent l (0 ∷ 0 ∷ 0 ∷ 0 ∷ 99 ∷ 4 ∷ 3 ∷ 2 ∷ 1 ∷ []), tt) (λ x v. x ≡ 0x04030201)
+  unfolding unfolded
+  placed-not-turned-round x v wrong p = let right : x ≡ 0x01020304 = p in omega arith
+
+  pub placed-not-refused : Never placed-kinds.ps placed-kinds.r placed-reads.Post κs
+      (lent l (0 ∷ 0 ∷ 0 ∷ 0 ∷ 99 ∷ 4 ∷ 3 ∷ 2 ∷ 1 ∷ []), tt) (λ x v. x ≡ 0)
+  unfolding unfolded
+  placed-not-refused x v wrong p = let right : x ≡ 0x01020304 = p in omega arith
 
   -- the check character of the second example of Appendix 2, 32 hex: octet 23 as it stands, or the register begun from zeros
   pub character-not-octet-23 : Never check-character-kinds.ps check-character-kinds.r check-character-reads.Post κs
@@ -175,6 +188,16 @@ module _ (κs : Lfts 6) (l c s a m r : Place) where
   pub indication-not-dropped : Indicated true (archive 2) (λ x state samples report. x ≡ 0)
   unfolding unfolded
   indication-not-dropped x v wrong p = let right : x ≡ 15 = p .refused in omega arith
+
+  -- the count after 255 cells and one more kept in an octet
+  pub count-not-in-one-octet : Receiving (archive 2) (λ x state samples report. getD state 6 0 ≡ 0)
+  unfolding unfolded
+  count-not-in-one-octet x v wrong p = let right : getD (v .0) 6 0 ≡ 1 = ap (λ (l : List ℕ). getD l 6 0) (p .leaves) in omega arith
+
+  -- a repeat counted
+  pub refused-receive-not-placed : Receiving (archive 3) (λ x state samples report. getD state 6 0 ≡ 1)
+  unfolding unfolded
+  refused-receive-not-placed x v wrong p = let right : getD (v .0) 6 0 ≡ 0 = ap (λ (l : List ℕ). getD l 6 0) (p .leaves) in omega arith
 
   -- a call refused for room, and the state moved
   pub refused-receive-not-counted : Receiving (archive 1) (λ x state samples report. getD state 4 0 ≡ 3)

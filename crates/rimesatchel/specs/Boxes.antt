@@ -3,7 +3,7 @@
 use mathlib.Core.Bool.{Bool, cond, not}
 use mathlib.Core.List.{List, [], _∷_}
 use mathlib.Core.Path.{_≡_}
-use Prim.Native.Nat.{ℕ}
+use Prim.Native.Nat.{ℕ, _+_, _*_, _/_, _%_}
 use lib.Dec.{eqb}
 use lib.ListN.{length, getD}
 use Rattle.sender.specs.declared.Sender.{Sender}
@@ -37,6 +37,13 @@ unfoldable pub senderOctets : Sender → List ℕ
 senderOctets st =
     st .format ∷ st .channels ∷ st .order ∷ st .number ∷ yesNo (st .wanted) ∷ st .second ∷ yesNo (st .sent) ∷ []
 
+-- "then the count in four octets, least significant first"
+unfoldable pub countOf : List ℕ → ℕ
+countOf o = getD o 5 0 + getD o 6 0 * 256 + getD o 7 0 * 65536 + getD o 8 0 * 16777216
+
+unfoldable pub countOctets : ℕ → List ℕ
+countOctets count = count % 256 ∷ count / 256 % 256 ∷ count / 65536 % 256 ∷ count / 16777216 % 256 ∷ []
+
 -- "format, channels, order, started, last number"
 unfoldable pub receiverOf : List ℕ → Receiver
 receiverOf o =
@@ -46,10 +53,11 @@ receiverOf o =
       order = getD o 2 0;
       started = isYes (getD o 3 0);
       last = getD o 4 0;
+      count = countOf o;
     }
 
 unfoldable pub receiverOctets : Receiver → List ℕ
-receiverOctets st = st .format ∷ st .channels ∷ st .order ∷ yesNo (st .started) ∷ st .last ∷ []
+receiverOctets st = st .format ∷ st .channels ∷ st .order ∷ yesNo (st .started) ∷ st .last ∷ countOctets (st .count)
 
 -- "missing count, number, second number, indication"
 unfoldable pub reportOctets : Received → List ℕ

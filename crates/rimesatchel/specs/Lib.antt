@@ -1,4 +1,6 @@
 pub mod Boxes
 pub mod Frames
 pub mod Logs
+pub mod Network
+pub mod Plans
 pub mod Statuses

@@ -1,12 +1,14 @@
-// The two boxes for C, Rust and Python. A sender's state is seven octets, a receiver's five, in the paper's order; a yes or no is
+// The two boxes for C, Rust and Python. A sender's state is seven octets, a receiver's nine, in the paper's order; a yes or no is
 // 0 for no and anything else for yes, and is written as 0 or 1.
 use receiver::Receiver;
 use sender::Sender;
 ghost use mathlib.Core.Path.{_≡_};
+ghost use Prim.Native.Nat.{_<_};
 ghost use Rattle.rimesatchel.specs.Boxes.{
   yesNo,
   senderOf,
   senderOctets,
+  countOf,
   receiverOf,
   receiverOctets,
   OpenedSender,
@@ -51,28 +53,56 @@ fn sender_octets(state: Sender) -> [u8; 7]
     ]
 }
 
-fn receiver_of(state: [u8; 5]) -> Receiver
+fn wide(octet: u8) -> u32
+    ensures { λ r. ⌜ (r ≡ octet) × (r < 256) ⌝ }
+{
+    octet as u32
+}
+
+// A receiver's count, from the last four octets of its state, least significant first.
+fn count_of(state: [u8; 9]) -> u32
+    ensures { λ r. ⌜ r ≡ countOf state ⌝ }
+{
+    let first = wide(state[5]);
+    let second = wide(state[6]);
+    let third = wide(state[7]);
+    let fourth = wide(state[8]);
+    first + second * 256 + third * 65536 + fourth * 16777216
+}
+
+fn receiver_of(state: [u8; 9]) -> Receiver
     ensures { λ r. ⌜ r ≡ receiverOf state ⌝ }
 {
+    let count = count_of(state);
     Receiver {
         format: state[0],
         channels: state[1],
         order: state[2],
         started: state[3] != 0,
         last: state[4],
+        count,
     }
 }
 
-fn receiver_octets(state: Receiver) -> [u8; 5]
+fn receiver_octets(state: Receiver) -> [u8; 9]
     ensures { λ r. ⌜ r ≡ receiverOctets state ⌝ }
 {
     let started = yes_no(state.started);
+    let count = state.count;
+    let first = (count % 256) as u8;
+    let second = (count / 256 % 256) as u8;
+    let third = (count / 65536 % 256) as u8;
+    let fourth = (count / 16777216 % 256) as u8;
     [
         state.format,
         state.channels,
         state.order,
         started,
         state.last,
+        first,
+        second,
+        third,
+        fourth,
     ]
 }
 
@@ -123,7 +153,7 @@ pub extern "C" fn rime_receiver_open(
     format: u32,
     channels: u32,
     order: u32,
-    state: &mut [u8; 5],
+    state: &mut [u8; 9],
 ) -> u8
     ensures { λ r. ⌜ OpenedReceiver format channels order r (now (state .exit)) ⌝ }
 {
@@ -133,10 +163,10 @@ pub extern "C" fn rime_receiver_open(
     opened.refusal
 }
 
-// Takes a cell: the refusal (0, or 1 to 5, 8, 9, 10, and then state and runs are as they were and the report is zeros).
+// Takes a cell: the refusal (0, or 1 to 5, 8, 15, 9, 20, 10, and then state and runs are as they were and the report is zeros).
 #[no_mangle]
 pub extern "C" fn rime_receive(
-    state: &mut [u8; 5],
+    state: &mut [u8; 9],
     cell: &[u8],
     indication: bool,
     samples: &mut [u64],
@@ -164,4 +194,13 @@ pub extern "C" fn rime_receive(
     let next = received.state;
     *state = receiver_octets(next);
     0
+}
+
+// How many cells a receiver in this state has placed since it was opened, sound and missing together. Nothing is refused.
+#[no_mangle]
+pub extern "C" fn rime_receiver_placed(state: &[u8; 9]) -> u32
+    ensures { λ r. ⌜ r ≡ receiverOf (now (state .entry)) .count ⌝ }
+{
+    let lent = *state;
+    receiver::placed(receiver_of(lent))
 }

@@ -10,20 +10,19 @@ use borrow.Author.Tests.{lt-ltb, le-ltb}
 use lib.Dec.{eqb}
 use lib.ListN.{length, getD, take, drop}
 use lib.Pow.{shr-shr}
-use Rattle.runs.specs.Division.{coefficients, divided, takenDown}
 use Rattle.runs.specs.Runs.{joined, octetsOf}
 use Rattle.runs.proofs.Filling.{filled-on}
 use Rattle.runs.proofs.Laws.{length-octets}
 use Rattle.formats.specs.declared.Format.{Format}
 use Rattle.formats.specs.declared.Settled.{Settled}
-use Rattle.guards.specs.Guards.{nineOf, tenGuard, guardOf}
+use Rattle.guards.specs.Guards.{vOf, guardOf}
 use Rattle.guards.specs.Code.{sevenGuards}
 use Rattle.cells.specs.Cells.{overheadOf, subframeOf}
 use Rattle.cells.specs.Code.{stepOn}
 use Rattle.cells.specs.Placement.{entryOfSlot, carried}
 use Rattle.cells.proofs.Placement.{entry-lt, entry-next}
 use Rattle.cells.proofs.Places.{step-fits}
-use Rattle.cells.proofs.Subframes.{slot-room}
+use Rattle.cells.proofs.Subframes.{guard-zero, slot-room}
 use Rattle.sender.specs.Packing.{Packable, Named, entryAt, slotBy, filledTo, idleNumber}
 use Rattle.sender.proofs.Subframes.{guarded-is, plain-is, plain-fits}
 
@@ -81,24 +80,12 @@ pub bits-on : (sequence slot : ℕ) {rest : ℕ} → rest ≡ sequence / 2 ^ slo
 bits-on sequence slot e = ap (λ (n : ℕ). n / 2) e ∙ shr-shr sequence slot 1
 
 -- sample and ancillary 0 have the protection 111
-idle-nine : (bits : ℕ) → nineOf bits 0 ≡ 0
-unfolding nineOf
-idle-nine bits = ap (λ (n : ℕ). n % 512) (zero-div (2 ^ bits))
-
-idle-ten : tenGuard 0 ≡ 7
-unfolding tenGuard coefficients divided takenDown
-idle-ten = refl
-
-idle-guard : (bits : ℕ) → guardOf bits 0 0 ≡ 7
-unfolding guardOf
-idle-guard bits = ap (λ (n : ℕ). tenGuard (n * 2 + 0 % 2)) (idle-nine bits) ∙ idle-ten
-
 idle-is : (f : Format) (bit : ℕ) → subframeOf f 0 0 bit ≡ idleNumber (f .«overhead_bits») bit
 unfolding subframeOf overheadOf idleNumber
 idle-is f bit =
     let none : (0 * 2 ^ f .«ancillary_bits» + 0) * 2 ^ f .«overhead_bits» ≡ 0
     = ap (λ (n : ℕ). (n + 0) * 2 ^ f .«overhead_bits») (zero-mul (2 ^ f .«ancillary_bits»)) ∙ zero-mul (2 ^ f .«overhead_bits») in
-    ap₂ (λ (high guard : ℕ). high + cond (eqb (f .«overhead_bits») 0) 0 (bit * 8 + guard)) none (idle-guard (f .«sample_bits»))
+    ap₂ (λ (high guard : ℕ). high + cond (eqb (f .«overhead_bits») 0) 0 (bit * 8 + guard)) none (guard-zero f)
     ∙ zero-add (idleNumber (f .«overhead_bits») bit)
 
 -- runs that can be packed: the slots that they fill, and the entries in them
@@ -158,16 +145,17 @@ module _ {set : Settled} {samples ancillary : List ℕ} (p : Packable set sample
         → (table ≡ sevenGuards) × (8 ≤ sample-bits) × (sample-bits ≤ 40) × (getD samples i 0 < 2 ^ sample-bits)
     guard-ready same i = (same, bits-from named, bits-to named, small-at named i)
 
-    pub subframe-ready : (i : ℕ) {guard few bit : ℕ} → guard ≡ tenGuard (nineOf sample-bits (getD samples i 0) * 2)
+    pub subframe-ready : (i : ℕ) {guard few bit : ℕ} → guard ≡ guardOf sample-bits (getD samples i 0) (vOf ancillary-bits 0)
         → few ≡ getD ancillary i 0 → bit < 2
         → (sample-bits ≤ 40) × (ancillary-bits ≤ 4) × (getD samples i 0 < 2 ^ sample-bits)
-        × (guard ≡ tenGuard (nineOf sample-bits (getD samples i 0) * 2)) × (few < 2 ^ ancillary-bits) × (bit < 2)
+        × (guard ≡ guardOf sample-bits (getD samples i 0) (vOf ancillary-bits 0)) × (few < 2 ^ ancillary-bits) × (bit < 2)
     subframe-ready i guard-is few-is small-bit =
         (bits-to named, few-to named, small-at named i, guard-is, few-at named i few-is, small-bit)
 
     pub guarded-number : {slot at few bit sequencing number : ℕ} → at ≡ entryAt set slot → slot < length samples
         → few ≡ getD ancillary at 0 → bit ≡ sequencing
-        → number ≡ (getD samples at 0 * 2 ^ ancillary-bits + few) * 16 + (bit * 8 + guardOf sample-bits (getD samples at 0) few)
+        → number
+        ≡ (getD samples at 0 * 2 ^ ancillary-bits + few) * 16 + (bit * 8 + guardOf sample-bits (getD samples at 0) (vOf ancillary-bits few))
         → number ≡ subframeOf (set .format) (carriedAt set samples slot) (carriedAt set ancillary slot) sequencing
     guarded-number {at = at} {few = few} {bit = bit} at-is less few-is bit-is e =
         used-number at-is less few-is bit-is (e ∙ guarded-is (getD samples at 0) few bit named)

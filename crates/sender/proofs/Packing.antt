@@ -3,8 +3,9 @@
 use mathlib.Core.Bool.{false, cond}
 use mathlib.Core.List.{List, _++_}
 use mathlib.Core.Path.{_≡_, refl, sym, _∙_, ap, ap₂}
-use Prim.Native.Nat.{ℕ, zero, suc, _*_, _/_, _%_, _^_, _<_}
+use Prim.Native.Nat.{ℕ, zero, suc, _+_, _*_, _/_, _%_, _^_, _≤_, _<_}
 use native.Mathlib.Nat.{le-step, le-refl}
+use native.Mathlib.Omega.{arith}
 use lib.Dec.{eqb}
 use lib.ListN.{length, drop}
 use lib.Seq.{drop-at}
@@ -76,6 +77,30 @@ module _ (set : Settled) (samples ancillary : List ℕ) where
       (carried (set .«by_channel») (set .channels) (set .times) samples k)
       (carried (set .«by_channel») (set .channels) (set .times) ancillary k) bit))
       (ap (λ (n : ℕ). n / 2 ^ k % 2) bits ∙ sequence-bit k hw hs))
+
+-- with overhead the sample bits decide a format's other numbers
+module _ {set : Settled} {samples ancillary : List ℕ} (p : Packable set samples ancillary) (some : set .format .«overhead_bits» ≡ 0 → ⊥) where
+  pub named-itself : Named (set .format) (set .format .«sample_bits») (set .format .«ancillary_bits») 4 (set .format .width)
+  named-itself =
+      let s = p .limits .sound in
+      record {
+        sample-is = refl;
+        ancillary-is = refl;
+        overhead-is = omega (arith, some, s .overhead-fours, s .overhead-to);
+        width-is = refl;
+      }
+
+  pub named-by : {sample ancillary-bits width : ℕ} → set .format .«sample_bits» ≡ sample → sample + ancillary-bits + 4 ≡ 8 * width
+      → ancillary-bits % 4 ≡ 0 → ancillary-bits ≤ 4 → Named (set .format) sample ancillary-bits 4 width
+  named-by is whole fours few =
+      let s = p .limits .sound in
+      let four = named-itself .overhead-is in
+      record {
+        sample-is = sym is;
+        ancillary-is = omega (arith, is, whole, fours, few, four, s .bits, s .ancillary-fours, s .ancillary-to);
+        overhead-is = four;
+        width-is = omega (arith, is, whole, fours, few, four, s .bits, s .ancillary-fours, s .ancillary-to);
+      }
 
 -- the usual call's settings
 module _ {st : Sender} {entries : ℕ} (u : Usual st entries) {set : Settled}

@@ -2,10 +2,11 @@
 -- Assumes nothing.
 use mathlib.Core.Bool.{cond}
 use mathlib.Core.List.{List}
-use mathlib.Core.Path.{_≡_, sym, _∙_, ap, ap₂, subst}
+use mathlib.Core.Path.{_≡_, refl, sym, _∙_, ap, ap₂, subst}
 use Prim.Native.Nat.{ℕ, _+_, _*_, _/_, _%_, _-_, _^_, _≤_, _<_}
-use native.Mathlib.Nat.{mul-one, mul-assoc, mod-lt}
+use native.Mathlib.Nat.{mul-one, mul-assoc}
 use native.Mathlib.Omega.{arith}
+use borrow.Author.Tests.{eq-eqb, ne-eqb, eqb-true, eqb-false}
 use lib.Arith.{digits-lt}
 use lib.Bits.{bitXor}
 use lib.Dec.{eqb, eqb→eq}
@@ -13,13 +14,13 @@ use lib.ListN.{getD}
 use lib.Pow.{pow-add, pow-mono, shl-exact}
 use Rattle.runs.specs.Test.{every}
 use Rattle.runs.proofs.Arms.{NoneOf, orListed, others, singles}
-use Rattle.runs.proofs.Laws.{every-at}
+use Rattle.runs.proofs.Laws.{every-at, split}
 use Rattle.formats.specs.declared.Format.{Format}
-use Rattle.guards.specs.Guards.{nineOf, tenGuard, guardOf}
+use Rattle.guards.specs.Guards.{VOrNone, withV, vOf, nineOf, protectedBits, tenGuard, guardOf}
 use Rattle.guards.specs.Code.{sevenGuards}
-use Rattle.guards.proofs.Laws.{nine-lt, nine-top, seven-guard, with-v, ten-guard-lt, guard-le}
-use Rattle.cells.specs.Cells.{overheadOf, subframeOf}
-use Rattle.sender.specs.Packing.{Named}
+use Rattle.guards.proofs.Laws.{v-none, v-some, nine-lt, nine-top, seven-guard, with-v, ten-guard-lt, guard-le}
+use Rattle.cells.specs.Cells.{guardIn, overheadOf, subframeOf}
+use Rattle.sender.specs.Packing.{Named, lowPart}
 
 -- a subframe's last octet, by the bits of the sample and those of the ancillary number
 low-parts : {guard few : ℕ} → guard < 8 → few < 16
@@ -45,21 +46,45 @@ pub low-rest : (X : Type 0) (few : ℕ) → few < 16 → NoneOf X (singles 15) f
 unfolding every orListed
 low-rest X few less none = eqb→eq _ _ (others X (singles 15) (λ k. eqb 243 (k * 16 + k % 2 * 3)) 16 tt few less none)
 
--- the nine top bits of a sample as the code shifts them down, and the protection bits that the table has for them
-module _ (bits : ℕ) {sample : ℕ} (from : 8 ≤ bits) (small : sample < 2 ^ bits) where
-  abbrev ten : ℕ
-  ten = sample * 2 / 2 ^ (bits - 8) * 2
+-- and where there is no ancillary field
+alone : {guard : ℕ} → guard < 8 → bitXor guard 0 ≡ guard
+unfolding every
+alone {guard} less = eqb→eq _ _ (every-at (λ k. eqb (bitXor k 0) k) 8 tt guard less)
 
-  ten-is : ten ≡ nineOf bits sample * 2
-  ten-is = ap (λ (n : ℕ). n * 2) (nine-top bits from small)
+pub no-low : {bits : ℕ} (ancillary : ℕ) → bits ≡ 0 → 0 ≡ lowPart bits ancillary
+unfolding lowPart
+no-low ancillary bare = rw (eq-eqb _ _ bare)
 
-  pub ten-lt : ten < 1024
-  ten-lt = rw ten-is (omega (arith, nine-lt bits sample))
+pub some-low : {bits : ℕ} (ancillary : ℕ) {low : ℕ} → (bits ≡ 0 → ⊥) → low ≡ ancillary % 16 * 16 + ancillary % 16 % 2 * 3
+    → low ≡ lowPart bits ancillary
+unfolding lowPart
+some-low ancillary any e = e ∙ rw (ne-eqb _ _ any)
 
-  pub guard-looked : {table : List ℕ} {guard : ℕ} → table ≡ sevenGuards → guard ≡ getD table (bitXor ten (ten / 128) % 128) 0
-      → guard ≡ tenGuard (nineOf bits sample * 2)
-  guard-looked same e =
-      e ∙ ap (λ (l : List ℕ). getD l (bitXor ten (ten / 128) % 128) 0) same ∙ seven-guard ten-lt ∙ ap tenGuard ten-is
+-- what is protected where V is 0, or there is none
+pub nine-alone : {bits : ℕ} (nine : ℕ) → bits ≡ 0 → nine ≡ protectedBits nine (vOf bits 0)
+unfolding protectedBits
+nine-alone nine bare = rw (v-none 0 bare)
+
+pub nine-and-v : {bits : ℕ} (nine : ℕ) → (bits ≡ 0 → ⊥) → nine * 2 ≡ protectedBits nine (vOf bits 0)
+unfolding protectedBits
+nine-and-v nine any = rw (v-some 0 any) (omega arith)
+
+-- the nine top bits of a sample as the code shifts them down, and the protection bits that the table has for what is protected
+module _ (bits few : ℕ) {sample : ℕ} (from : 8 ≤ bits) (small : sample < 2 ^ bits) where
+  abbrev nine : ℕ
+  nine = sample * 2 / 2 ^ (bits - 8)
+
+  pub nine-fits : nine < 512
+  nine-fits = rw (nine-top bits from small) (nine-lt bits sample)
+
+  pub guard-looked : {table : List ℕ} {ten guard : ℕ} → table ≡ sevenGuards → ten ≡ protectedBits nine (vOf few 0) → ten < 1024
+      → guard ≡ getD table (bitXor ten (ten / 128) % 128) 0 → guard ≡ guardOf bits sample (vOf few 0)
+  unfolding guardOf
+  guard-looked {ten = ten} same ten-is less e =
+      e
+      ∙ ap (λ (l : List ℕ). getD l (bitXor ten (ten / 128) % 128) 0) same
+      ∙ seven-guard less
+      ∙ ap tenGuard (ten-is ∙ ap (λ (n : ℕ). protectedBits n (vOf few 0)) (nine-top bits from small))
 
   pub twice-fits : bits ≤ 40 → sample * 2 < 2 ^ 64
   twice-fits to =
@@ -67,36 +92,54 @@ module _ (bits : ℕ) {sample : ℕ} (from : 8 ≤ bits) (small : sample < 2 ^ b
       omega arith
 
 -- the protection bits that a table has for 24 bits' top nine
-pub guard-of-24 : {sample guard : ℕ} → sample < 2 ^ 24 → guard ≡ tenGuard (sample / 32768 % 512 * 2)
-    → guard ≡ tenGuard (nineOf 24 sample * 2)
+pub guard-of-24 : {sample guard : ℕ} → sample < 2 ^ 24 → guard ≡ tenGuard (protectedBits (sample / 32768 % 512) (withV 0))
+    → guard ≡ guardOf 24 sample (vOf 4 0)
+unfolding guardOf vOf
 guard-of-24 {sample} small e =
     let top : sample / 32768 % 512 ≡ sample * 2 / 2 ^ (24 - 8) = omega arith in
-    e ∙ ap (λ (m : ℕ). tenGuard (m * 2)) (top ∙ nine-top 24 (omega arith) small)
+    e ∙ ap (λ (m : ℕ). tenGuard (protectedBits m (withV 0))) (top ∙ nine-top 24 (omega arith) small)
 
 -- a subframe with overhead: what the code adds up
 module _ (sample-bits ancillary-bits sample ancillary : ℕ) {guard low bit : ℕ}
     (short : sample-bits ≤ 40) (few : ancillary-bits ≤ 4) (hs : sample < 2 ^ sample-bits)
-    (guard-is : guard ≡ tenGuard (nineOf sample-bits sample * 2)) (ha : ancillary < 2 ^ ancillary-bits) (hb : bit < 2)
-    (low-is : low ≡ ancillary % 16 * 16 + ancillary % 16 % 2 * 3)
+    (guard-is : guard ≡ guardOf sample-bits sample (vOf ancillary-bits 0)) (ha : ancillary < 2 ^ ancillary-bits) (hb : bit < 2)
+    (low-is : low ≡ lowPart ancillary-bits ancillary)
   where
     few-ancillary : ancillary < 16
     few-ancillary =
         let far : 2 ^ ancillary-bits ≤ 2 ^ 4 = pow-mono {i = ancillary-bits} {j = 4} few in
         omega arith
 
-    low-octet : bitXor guard low ≡ ancillary * 16 + guardOf sample-bits sample ancillary
+    abbrev guarded : ℕ
+    guarded = guardOf sample-bits sample (vOf ancillary-bits ancillary)
+
+    low-without : ancillary-bits ≡ 0 → bitXor guard low ≡ ancillary * 16 + guarded
+    low-without bare =
+        let one : 2 ^ ancillary-bits ≡ 1 = ap (λ (n : ℕ). 2 ^ n) bare in
+        let none : 0 ≡ ancillary = omega arith in
+        ap₂ bitXor guard-is (low-is ∙ sym (no-low ancillary bare))
+        ∙ alone (let small = guard-le sample-bits sample (vOf ancillary-bits 0) in omega arith)
+        ∙ (let below : guardOf sample-bits sample (vOf ancillary-bits 0) ≡ 0 * 16 + guardOf sample-bits sample (vOf ancillary-bits 0)
+        = omega arith in below)
+        ∙ ap (λ (a : ℕ). a * 16 + guardOf sample-bits sample (vOf ancillary-bits a)) none
+
+    low-with : (ancillary-bits ≡ 0 → ⊥) → bitXor guard low ≡ ancillary * 16 + guarded
     unfolding guardOf
+    low-with any =
+        ap₂ bitXor (guard-is ∙ ap (guardOf sample-bits sample) (v-some 0 any)) (low-is ∙ sym (some-low ancillary any refl))
+        ∙ low-parts (ten-guard-lt (protectedBits (nineOf sample-bits sample) (withV 0))) few-ancillary
+        ∙ ap (λ (g : ℕ). ancillary * 16 + g) (with-v ancillary (nine-lt sample-bits sample))
+        ∙ ap (λ (v : VOrNone). ancillary * 16 + guardOf sample-bits sample v) (sym (v-some ancillary any))
+
+    low-octet : bitXor guard low ≡ ancillary * 16 + guarded
     low-octet =
-        ap₂ bitXor guard-is low-is
-        ∙ low-parts (ten-guard-lt (nineOf sample-bits sample * 2)) few-ancillary
-        ∙ ap (λ (g : ℕ). ancillary * 16 + g)
-        (with-v {nine = nineOf sample-bits sample} (nine-lt sample-bits sample) (mod-lt ancillary (omega arith)))
+        split (eqb ancillary-bits 0) (λ e. low-without (eqb-true ancillary-bits 0 e)) (λ e. low-with (eqb-false ancillary-bits 0 e))
 
     pub low-fits : bitXor guard low + bit * 8 < 256 + 16
-    low-fits = omega (arith, low-octet, few-ancillary, guard-le sample-bits sample ancillary)
+    low-fits = omega (arith, low-octet, few-ancillary, guard-le sample-bits sample (vOf ancillary-bits ancillary))
 
     pub subframe-by : (sample * 2 ^ (ancillary-bits + 4)) % 2 ^ 64 + (bitXor guard low + bit * 8)
-        ≡ (sample * 2 ^ ancillary-bits + ancillary) * 16 + (bit * 8 + guardOf sample-bits sample ancillary)
+        ≡ (sample * 2 ^ ancillary-bits + ancillary) * 16 + (bit * 8 + guarded)
     subframe-by =
         let moved : (sample * 2 ^ (ancillary-bits + 4)) % 2 ^ 64 ≡ sample * 2 ^ ancillary-bits * 16
         = shl-exact sample-bits (ancillary-bits + 4) 64 hs (omega arith)
@@ -108,18 +151,20 @@ module _ (sample-bits ancillary-bits sample ancillary : ℕ) {guard low bit : �
     subframe-fits =
         let both : 2 ^ sample-bits * 2 ^ ancillary-bits ≡ 2 ^ (sample-bits + ancillary-bits) = sym (pow-add 2 sample-bits ancillary-bits) in
         let far : 2 ^ (sample-bits + ancillary-bits) ≤ 2 ^ 44 = pow-mono {i = sample-bits + ancillary-bits} {j = 44} (omega arith) in
-        omega (arith, subframe-by, both, digits-lt hs ha, guard-le sample-bits sample ancillary)
+        omega (arith, subframe-by, both, digits-lt hs ha, guard-le sample-bits sample (vOf ancillary-bits ancillary))
 
 -- what a format's numbers make of it
 module _ {f : Format} {sample-bits ancillary-bits width : ℕ} (sample ancillary bit : ℕ) where
   pub guarded-is : Named f sample-bits ancillary-bits 4 width
-      → (sample * 2 ^ ancillary-bits + ancillary) * 16 + (bit * 8 + guardOf sample-bits sample ancillary) ≡ subframeOf f sample ancillary bit
+      → (sample * 2 ^ ancillary-bits + ancillary) * 16 + (bit * 8 + guardOf sample-bits sample (vOf ancillary-bits ancillary))
+      ≡ subframeOf f sample ancillary bit
   unfolding subframeOf overheadOf
   guarded-is named =
-      ap₂ (λ (n a : ℕ). (sample * 2 ^ a + ancillary) * 16 + (bit * 8 + guardOf n sample ancillary)) (named .sample-is) (named .ancillary-is)
+      ap₂ (λ (n a : ℕ). (sample * 2 ^ a + ancillary) * 16 + (bit * 8 + guardOf n sample (vOf a ancillary)))
+      (named .sample-is) (named .ancillary-is)
       ∙ ap
       (λ (o : ℕ).
-      (sample * 2 ^ f .«ancillary_bits» + ancillary) * 2 ^ o + cond (eqb o 0) 0 (bit * 8 + guardOf (f .«sample_bits») sample ancillary))
+      (sample * 2 ^ f .«ancillary_bits» + ancillary) * 2 ^ o + cond (eqb o 0) 0 (bit * 8 + guardIn f sample ancillary))
       (named .overhead-is)
 
   module _ (named : Named f sample-bits ancillary-bits 0 width) (short : sample-bits + ancillary-bits ≤ 63) (hs : sample < 2 ^ sample-bits) where
@@ -135,7 +180,7 @@ module _ {f : Format} {sample-bits ancillary-bits width : ℕ} (sample ancillary
         = omega (arith, mul-one (sample * 2 ^ f .«ancillary_bits» + ancillary)) in alone)
         ∙ ap
         (λ (o : ℕ).
-        (sample * 2 ^ f .«ancillary_bits» + ancillary) * 2 ^ o + cond (eqb o 0) 0 (bit * 8 + guardOf (f .«sample_bits») sample ancillary))
+        (sample * 2 ^ f .«ancillary_bits» + ancillary) * 2 ^ o + cond (eqb o 0) 0 (bit * 8 + guardIn f sample ancillary))
         (named .overhead-is)
 
     pub plain-fits : ancillary < 2 ^ ancillary-bits → (sample * 2 ^ ancillary-bits) % 2 ^ 64 + ancillary < 2 ^ 64

@@ -13,6 +13,7 @@ use Rattle.runs.proofs.Wrong.{Never, Place, lent}
 use Rattle.formats.proofs.Wrong as formats
 use Rattle.numbers.proofs.Wrong as numbers
 use Rattle.guards.proofs.Wrong as guards
+use Rattle.guards.specs.Guards.{vOf}
 use Rattle.cells.specs.Cells.{overheadOf, subframeOf, slotOctets, cellOf}
 use Rattle.cells.specs.Placement.{entryOfSlot, carried}
 use Rattle.sender.specs.declared.Ready.{Ready}
@@ -27,7 +28,7 @@ use Rattle.sender.proofs.send.Reads as send-reads
 
 -- every definition on the way down to the numbers, those of a cell first
 unfoldable pub cell-unfolded : Unit {0}
-unfolding orElse joined octetsOf formats.unfolded numbers.unfolded guards.unfolded overheadOf subframeOf slotOctets cellOf entryOfSlot carried
+unfolding orElse joined octetsOf formats.unfolded numbers.unfolded guards.unfolded vOf overheadOf subframeOf slotOctets cellOf entryOfSlot carried
 cell-unfolded = tt
 
 unfoldable pub unfolded : Unit {0}
@@ -54,6 +55,12 @@ module _ (κs : Lfts 0) where
   unfolding unfolded
   refused-opening-not-kept x v wrong p = let right : x .state .channels ≡ 0 = ap (λ (s : Ready). s .state .channels) p in omega arith
 
+  -- 15 hex refused as before request 4, or since a second number is wanted
+  pub opening-of-15-not-refused : Never opened-kinds.ps opened-kinds.r opened-reads.Post κs
+      (0x15, (16, (1, (0, (true, (3, tt)))))) (λ x v. x .refusal ≡ 0 → ⊥)
+  unfolding unfolded
+  opening-of-15-not-refused x v wrong p = wrong (ap (λ (s : Ready). s .refusal) p)
+
 -- a sender of one channel in 5A hex, eight samples of forty bits in a cell, its next cell to have this number
 abbrev studio : ℕ → Sender
 studio number = record { format = 0x5A; channels = 1; order = 0; number = number; wanted = false; second = 0; sent = true }
@@ -64,12 +71,22 @@ eight = 1 ∷ 2 ∷ 3 ∷ 4 ∷ 5 ∷ 6 ∷ 7 ∷ 8 ∷ []
 abbrev zeros : List ℕ
 zeros = replicate 8 0
 
+-- a sender of one channel in 15 hex, sixteen samples of twenty bits in a cell, and a row whose first sample is the ninth bit alone
+abbrev abroad : Sender
+abroad = record { format = 0x15; channels = 1; order = 0; number = 0; wanted = false; second = 0; sent = true }
+
+abbrev ninth : List ℕ
+ninth = 0x800 ∷ replicate 15 0
+
 module _ (κs : Lfts 3) (s a c : Place) where
-  -- a call with these samples and this cell lent to it
-  abbrev Sending : Sender → Bool → List ℕ → (Sent → List ℕ → Type 0) → Type 0
-  Sending st indication cell Wrong =
-      Never send-kinds.ps send-kinds.r send-reads.Post κs (st, (indication, (lent s eight, (lent a zeros, (lent c cell, tt)))))
+  -- a call with these samples and ancillary numbers, and this cell lent to it
+  abbrev SendingOf : List ℕ → List ℕ → Sender → Bool → List ℕ → (Sent → List ℕ → Type 0) → Type 0
+  SendingOf samples ancillary st indication cell Wrong =
+      Never send-kinds.ps send-kinds.r send-reads.Post κs (st, (indication, (lent s samples, (lent a ancillary, (lent c cell, tt)))))
       (λ x v. Wrong x (v .1 .1 .1 .1 .0))
+
+  abbrev Sending : Sender → Bool → List ℕ → (Sent → List ℕ → Type 0) → Type 0
+  Sending = SendingOf eight zeros
 
   -- refused although nothing is wrong, by whatever number
   pub not-always-refused : Sending (studio 0) false (replicate 48 0) (λ x cell. x .refusal ≡ 0 → ⊥)
@@ -103,3 +120,14 @@ module _ (κs : Lfts 3) (s a c : Place) where
   unfolding unfolded
   refused-not-written x v wrong p =
       let first : _≡_ {A = ℕ} 1 0 = ap (λ (l : List ℕ). getD l 4 0) (sym wrong ∙ p .cell-after) in omega arith
+
+  -- 15 hex protected as if V were 0: the first slot's last octet would end in 001, where it ends in 100
+  pub no-v-not-as-v-0 : SendingOf ninth (replicate 16 0) abroad false (replicate 48 0) (λ x cell. getD cell 2 0 ≡ 1)
+  unfolding unfolded
+  no-v-not-as-v-0 x v wrong p =
+      let last : _≡_ {A = ℕ} 4 1 = sym (ap (λ (l : List ℕ). getD l 2 0) (p .cell-after)) ∙ wrong in omega arith
+
+  -- an ancillary number sent by 15 hex, which has no field for it
+  pub no-field-not-filled : SendingOf ninth (1 ∷ replicate 15 0) abroad false (replicate 48 0) (λ x cell. x .refusal ≡ 0)
+  unfolding unfolded
+  no-field-not-filled x v wrong p = let right : x .refusal ≡ 6 = ap (λ (r : Sent). r .refusal) (p .answered) in omega arith

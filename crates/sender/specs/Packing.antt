@@ -58,6 +58,10 @@ filledTo set sequence samples ancillary cell k =
 abbrev pub filledCell : Settled → ℕ → List ℕ → List ℕ → List ℕ
 filledCell set sequence samples ancillary = joined (slotBy set sequence samples ancillary) (set .format .slots)
 
+-- an ancillary number in its place in a subframe's last octet, and what V adds to the protection bits: nothing where there is no field
+unfoldable pub lowPart : ℕ → ℕ → ℕ
+lowPart bits ancillary = cond (eqb bits 0) 0 (ancillary % 16 * 16 + ancillary % 16 % 2 * 3)
+
 -- the subframe of an unused slot
 unfoldable pub idleNumber : ℕ → ℕ → ℕ
 idleNumber overhead bit = cond (eqb overhead 0) 0 (bit * 8 + 7)

@@ -5,10 +5,10 @@
 ghost use mathlib.Core.Path.{_≡_};
 ghost use Prim.Native.Nat.{_+_, _*_, _%_, _^_, _≤_, _<_};
 ghost use lib.ListN.{length};
-ghost use Rattle.guards.specs.Guards.{nineOf, tenGuard, guardOf};
+ghost use Rattle.guards.specs.Guards.{vOf, protectedBits, guardOf};
 ghost use Rattle.guards.specs.Code.{sevenGuards};
 ghost use mathlib.Core.Bool.{true, false};
-ghost use Rattle.sender.specs.Packing.{Packable, Named, filledTo};
+ghost use Rattle.sender.specs.Packing.{Packable, Named, filledTo, lowPart};
 use crate::octets::put;
 use cells::next_place;
 use cells::wide;
@@ -39,19 +39,40 @@ fn low_of(ancillary: u64) -> u64
     }
 }
 
-// The protection bits of a sample where V is 0, looked up in the table of `guards::sevens`.
-fn guard_in(table: &[u8; 128], sample_bits: u64, sample: u64) -> u64
+// The same of an ancillary field of so many bits: nothing where there is no field.
+fn low_in(ancillary_bits: u64, ancillary: u64) -> u64
+    ensures { λ r. ⌜ r ≡ lowPart «ancillary_bits» ancillary ⌝ }
+{
+    if ancillary_bits == 0 {
+        return 0;
+    }
+    low_of(ancillary)
+}
+
+// The bits that are protected, as one number: nine sample bits and a V of 0 after them, or the nine alone where there is no V.
+fn protected(ancillary_bits: u64, nine: u64) -> u64
+    requires { ⌜ nine < 512 ⌝ }
+    ensures { λ r. ⌜ (r ≡ protectedBits nine (vOf «ancillary_bits» 0)) × (r < 1024) ⌝ }
+{
+    if ancillary_bits == 0 {
+        return nine;
+    }
+    nine * 2
+}
+
+// The protection bits of a sample where V is 0 or there is none, looked up in the table of `guards::sevens`.
+fn guard_in(table: &[u8; 128], sample_bits: u64, ancillary_bits: u64, sample: u64) -> u64
     requires { ⌜ (now table ≡ sevenGuards) × (8 ≤ «sample_bits») × («sample_bits» ≤ 40) × (sample < 2 ^ «sample_bits») ⌝ }
-    ensures { λ r. ⌜ r ≡ tenGuard (nineOf «sample_bits» sample * 2) ⌝ }
+    ensures { λ r. ⌜ r ≡ guardOf «sample_bits» sample (vOf «ancillary_bits» 0) ⌝ }
 {
     let nine = (sample * 2) >> (sample_bits - 8);
-    let ten = nine * 2;
+    let ten = protected(ancillary_bits, nine);
     let place = ((ten ^ (ten >> 7)) % 128) as usize;
     wide(table[place])
 }
 
-// A subframe with overhead as a number. `guard` has the sample's protection bits where V is 0; the sample's length is for the
-// promise alone.
+// A subframe with overhead as a number. `guard` has the sample's protection bits where V is 0 or there is none; the sample's length
+// is for the promise alone.
 pub(crate) fn subframe(
     sample_bits: u64,
     ancillary_bits: u64,
@@ -60,10 +81,10 @@ pub(crate) fn subframe(
     ancillary: u64,
     bit: u64,
 ) -> u64
-    requires { ⌜ («sample_bits» ≤ 40) × («ancillary_bits» ≤ 4) × (sample < 2 ^ «sample_bits») × (guard ≡ tenGuard (nineOf «sample_bits» sample * 2)) × (ancillary < 2 ^ «ancillary_bits») × (bit < 2) ⌝ }
-    ensures { λ r. ⌜ r ≡ (sample * 2 ^ «ancillary_bits» + ancillary) * 16 + (bit * 8 + guardOf «sample_bits» sample ancillary) ⌝ }
+    requires { ⌜ («sample_bits» ≤ 40) × («ancillary_bits» ≤ 4) × (sample < 2 ^ «sample_bits») × (guard ≡ guardOf «sample_bits» sample (vOf «ancillary_bits» 0)) × (ancillary < 2 ^ «ancillary_bits») × (bit < 2) ⌝ }
+    ensures { λ r. ⌜ r ≡ (sample * 2 ^ «ancillary_bits» + ancillary) * 16 + (bit * 8 + guardOf «sample_bits» sample (vOf «ancillary_bits» ancillary)) ⌝ }
 {
-    let low = guard ^ low_of(ancillary);
+    let low = guard ^ low_in(ancillary_bits, ancillary);
     (sample << (ancillary_bits + 4)) + (low + bit * 8)
 }
 
@@ -88,7 +109,7 @@ pub(crate) fn guarded_in_order(
         let bit = rest % 2;
         rest = rest / 2;
         let sample = samples[slot];
-        let guard = guard_in(table, sample_bits, sample);
+        let guard = guard_in(table, sample_bits, ancillary_bits, sample);
         let few = wide(ancillary[slot]);
         let number = subframe(sample_bits, ancillary_bits, sample, guard, few, bit);
         put(cell, slot * width, width, number);
@@ -118,7 +139,7 @@ pub(crate) fn guarded_by_channel(
         let bit = rest % 2;
         rest = rest / 2;
         let sample = samples[entry];
-        let guard = guard_in(table, sample_bits, sample);
+        let guard = guard_in(table, sample_bits, ancillary_bits, sample);
         let few = wide(ancillary[entry]);
         let number = subframe(sample_bits, ancillary_bits, sample, guard, few, bit);
         put(cell, slot * width, width, number);

@@ -36,8 +36,11 @@ fn pack_guarded_in_order(
     let table = guards::sevens();
     match bits {
         8 => guarded_in_order(set, &table, 8, 4, 2, sequence, samples, ancillary, cell),
+        12 => guarded_in_order(set, &table, 12, 0, 2, sequence, samples, ancillary, cell),
         16 => guarded_in_order(set, &table, 16, 4, 3, sequence, samples, ancillary, cell),
+        20 => guarded_in_order(set, &table, 20, 0, 3, sequence, samples, ancillary, cell),
         24 => guarded_in_order(set, &table, 24, 4, 4, sequence, samples, ancillary, cell),
+        28 => guarded_in_order(set, &table, 28, 0, 4, sequence, samples, ancillary, cell),
         40 => guarded_in_order(set, &table, 40, 4, 6, sequence, samples, ancillary, cell),
         _ => guarded_in_order(
             set,
@@ -70,8 +73,11 @@ fn pack_guarded_by_channel(
     let table = guards::sevens();
     match bits {
         8 => guarded_by_channel(set, &table, 8, 4, 2, sequence, samples, ancillary, cell),
+        12 => guarded_by_channel(set, &table, 12, 0, 2, sequence, samples, ancillary, cell),
         16 => guarded_by_channel(set, &table, 16, 4, 3, sequence, samples, ancillary, cell),
+        20 => guarded_by_channel(set, &table, 20, 0, 3, sequence, samples, ancillary, cell),
         24 => guarded_by_channel(set, &table, 24, 4, 4, sequence, samples, ancillary, cell),
+        28 => guarded_by_channel(set, &table, 28, 0, 4, sequence, samples, ancillary, cell),
         40 => guarded_by_channel(set, &table, 40, 4, 6, sequence, samples, ancillary, cell),
         _ => guarded_by_channel(
             set,

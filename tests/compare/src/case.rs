@@ -10,6 +10,7 @@ pub enum Kind {
     ReceiverOpen,
     Send,
     Receive,
+    Line,
     StatusStep,
     CheckCharacter,
     ReadHeader,
@@ -19,6 +20,12 @@ pub enum Kind {
     Sheet,
     Aes3Import,
     Aes3Export,
+    Equipment,
+    Controller,
+    UnitsExport,
+    UnitRead,
+    CircuitsCheck,
+    CircuitsPlan,
 }
 
 impl Kind {
@@ -28,11 +35,12 @@ impl Kind {
 }
 
 /// Kind, name, and the fields in and out: n a number, r a run of numbers or a state, o octets.
-const KINDS: [(Kind, &str, &str, &str); 13] = [
+const KINDS: [(Kind, &str, &str, &str); 20] = [
     (Kind::SenderOpen, "sender_open", "nnnnnn", "nr"),
     (Kind::ReceiverOpen, "receiver_open", "nnn", "nr"),
     (Kind::Send, "send", "rnrro", "nro"),
     (Kind::Receive, "receive", "ronrrr", "nrrrrnnnn"),
+    (Kind::Line, "line", "nnno", "rrrrr"),
     (Kind::StatusStep, "status_step", "nonn", "nnono"),
     (Kind::CheckCharacter, "check_character", "o", "n"),
     (Kind::ReadHeader, "read_header", "o", "nnnnn"),
@@ -42,6 +50,12 @@ const KINDS: [(Kind, &str, &str, &str); 13] = [
     (Kind::Sheet, "sheet", "orn", "nrr"),
     (Kind::Aes3Import, "aes3_import", "or", "nrr"),
     (Kind::Aes3Export, "aes3_export", "rr", "nor"),
+    (Kind::Equipment, "equipment", "ooo", "noonnnn"),
+    (Kind::Controller, "controller", "oo", "no"),
+    (Kind::UnitsExport, "units_export", "nnnrro", "nonnn"),
+    (Kind::UnitRead, "unit_read", "nnorr", "nrrn"),
+    (Kind::CircuitsCheck, "circuits_check", "nnnrr", "nnn"),
+    (Kind::CircuitsPlan, "circuits_plan", "nnr", "nr"),
 ];
 
 #[derive(Clone, Debug, PartialEq)]

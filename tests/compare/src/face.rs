@@ -3,7 +3,7 @@
 //! A slice carries its own length and two `&mut` never overlap, which is all that the header asks of a caller.
 
 pub type SenderState = [u8; 7];
-pub type ReceiverState = [u8; 5];
+pub type ReceiverState = [u8; 9];
 pub type Report = [u8; 4];
 pub type StatusBlock = [u8; 25];
 pub type StatusOut = [u8; 25];
@@ -41,6 +41,7 @@ mod raw {
             cell_len: usize,
         ) -> u8;
         pub fn rime_receiver_open(format: u32, channels: u32, order: u32, state: *mut ReceiverState) -> u8;
+        pub fn rime_receiver_placed(state: *const ReceiverState) -> u32;
         pub fn rime_receive(
             state: *mut ReceiverState,
             cell: *const u8,
@@ -70,6 +71,40 @@ mod raw {
             preambles: *mut [u8; 2],
             subframes: *mut [u32; 2],
         ) -> u8;
+        pub fn rime_units_export(
+            format: u32,
+            channels: u32,
+            size: usize,
+            samples: *const u64,
+            samples_len: usize,
+            ancillary: *const u8,
+            ancillary_len: usize,
+            out: *mut u8,
+            out_len: usize,
+            units: *mut [u64; 3],
+        ) -> u8;
+        pub fn rime_unit_read(
+            format: u32,
+            channels: u32,
+            unit: *const u8,
+            unit_len: usize,
+            samples: *mut u64,
+            samples_len: usize,
+            ancillary: *mut u8,
+            ancillary_len: usize,
+            entries: *mut u64,
+        ) -> u8;
+        pub fn rime_circuits_check(
+            format: u32,
+            channels: u32,
+            frequency: u32,
+            shares: *const u32,
+            shares_len: usize,
+            allowances: *const u32,
+            allowances_len: usize,
+            answer: *mut [u32; 2],
+        ) -> u8;
+        pub fn rime_circuits_plan(format: u32, channels: u32, shares: *mut u32, shares_len: usize) -> u8;
     }
 }
 
@@ -94,6 +129,10 @@ pub fn send(state: &mut SenderState, indication: bool, samples: &[u64], ancillar
 
 pub fn receiver_open([format, channels, order]: [u32; 3], state: &mut ReceiverState) -> u8 {
     unsafe { raw::rime_receiver_open(format, channels, order, state) }
+}
+
+pub fn receiver_placed(state: &ReceiverState) -> u32 {
+    unsafe { raw::rime_receiver_placed(state) }
 }
 
 /// The three runs that the receiver writes to.
@@ -144,4 +183,79 @@ pub fn aes3_import(preambles: &[u8; 2], subframes: &[u32; 2], samples: &mut [u64
 
 pub fn aes3_export(samples: &[u64; 2], ancillary: &[u8; 2], preambles: &mut [u8; 2], subframes: &mut [u32; 2]) -> u8 {
     unsafe { raw::rime_aes3_export(samples, ancillary, preambles, subframes) }
+}
+
+pub fn units_export(
+    [format, channels]: [u32; 2],
+    size: usize,
+    samples: &[u64],
+    ancillary: &[u8],
+    out: &mut [u8],
+    units: &mut [u64; 3],
+) -> u8 {
+    let (out_at, out_len) = (out.as_mut_ptr(), out.len());
+    let (samples_at, ancillary_at) = (samples.as_ptr(), ancillary.as_ptr());
+    unsafe {
+        raw::rime_units_export(
+            format,
+            channels,
+            size,
+            samples_at,
+            samples.len(),
+            ancillary_at,
+            ancillary.len(),
+            out_at,
+            out_len,
+            units,
+        )
+    }
+}
+
+pub fn unit_read(
+    [format, channels]: [u32; 2],
+    unit: &[u8],
+    samples: &mut [u64],
+    ancillary: &mut [u8],
+    entries: &mut u64,
+) -> u8 {
+    let (samples_at, samples_len) = (samples.as_mut_ptr(), samples.len());
+    let (ancillary_at, ancillary_len) = (ancillary.as_mut_ptr(), ancillary.len());
+    unsafe {
+        raw::rime_unit_read(
+            format,
+            channels,
+            unit.as_ptr(),
+            unit.len(),
+            samples_at,
+            samples_len,
+            ancillary_at,
+            ancillary_len,
+            entries,
+        )
+    }
+}
+
+pub fn circuits_check(
+    [format, channels, frequency]: [u32; 3],
+    shares: &[u32],
+    allowances: &[u32],
+    answer: &mut [u32; 2],
+) -> u8 {
+    let (shares_at, allowances_at) = (shares.as_ptr(), allowances.as_ptr());
+    unsafe {
+        raw::rime_circuits_check(
+            format,
+            channels,
+            frequency,
+            shares_at,
+            shares.len(),
+            allowances_at,
+            allowances.len(),
+            answer,
+        )
+    }
+}
+
+pub fn circuits_plan(format: u32, channels: u32, shares: &mut [u32]) -> u8 {
+    unsafe { raw::rime_circuits_plan(format, channels, shares.as_mut_ptr(), shares.len()) }
 }

@@ -5,10 +5,13 @@
 
 mod boxes;
 mod cable;
+mod circuits;
 mod inputs;
 mod line;
 mod log;
+mod management;
 mod status;
+mod units;
 
 use std::collections::BTreeMap;
 use std::path::Path;
@@ -72,7 +75,7 @@ impl Referee<'_> {
 
 fn play(scenario: u64, seed: u64, referee: &mut Referee) -> Played {
     let mut random = Random::for_scenario(seed, scenario);
-    match random.below(68) {
+    match random.below(86) {
         0..=3 => boxes::open_sender(&mut random, referee),
         4..=6 => boxes::open_receiver(&mut random, referee),
         7..=22 => boxes::one_send(&mut random, referee),
@@ -84,6 +87,13 @@ fn play(scenario: u64, seed: u64, referee: &mut Referee) -> Played {
         62 if scenario.is_multiple_of(8) => log::list(&mut random, referee),
         64..=66 => cable::import(&mut random, referee),
         67 => cable::export(&mut random, referee),
+        68..=70 => management::one_message(&mut random, referee),
+        71..=72 => management::one_status(&mut random, referee),
+        73..=75 => management::conversation(&mut random, referee),
+        76..=79 => units::export(&mut random, referee),
+        80..=81 => units::read(&mut random, referee),
+        82..=84 => circuits::check(&mut random, referee),
+        85 => circuits::plan(&mut random, referee),
         _ => status::check(&mut random, referee),
     }
 }

@@ -7,16 +7,22 @@ mod bits;
 mod boxes;
 mod cable;
 mod cells;
+mod circuits;
 mod log;
+mod management;
 mod sheet;
 mod status;
+mod units;
 
 pub use boxes::{Receiver, Sender};
 pub use cable::{export_frame, import_frame};
 pub use cells::Shape;
+pub use circuits::{check_plan, plan, Fault};
 pub use log::{header, listing, listing_to, record, Record};
+pub use management::{controller, equipment};
 pub use sheet::sheet;
 pub use status::{check_character, step, Block, Character};
+pub use units::{export_units, read_unit};
 
 /// The paper's number for a no.
 pub type Refusal = u8;

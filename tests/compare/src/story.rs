@@ -1,4 +1,4 @@
-//! Demand 3 played out: a sender, a line that drops and spoils cells by a fixed pattern, a fresh receiver with room.
+//! Demand 3 played out: a sender, a line that drops, spoils and repeats cells by a fixed pattern, a fresh receiver with room.
 //!
 //! What must be handed out is worked out here from what was sent and from each cell's fate alone.
 
@@ -6,7 +6,9 @@ use crate::answers::{Answerer, ANSWERERS};
 use crate::case::{values, Case, Kind};
 use crate::random::Random;
 
-const WITH_OVERHEAD: [(u64, usize); 4] = [(0x52, 24), (0x54, 16), (0x56, 12), (0x5A, 8)];
+/// Octet, S, and how many numbers the ancillary field can have: one, 0, where there is no such field.
+const WITH_OVERHEAD: [(u64, usize, u64); 7] =
+    [(0x13, 24, 1), (0x15, 16, 1), (0x17, 12, 1), (0x52, 24, 16), (0x54, 16, 16), (0x56, 12, 16), (0x5A, 8, 16)];
 const SEED: u64 = 62365;
 /// Stands in the runs before each call: past the entries handed out it must still stand.
 const UNTOUCHED: [u64; 3] = [u64::MAX, 0xA5, 0x5A];
@@ -49,11 +51,26 @@ fn pattern() -> Vec<Fate> {
     fates
 }
 
+/// How many more times the cells of a row come, over and over: seven of them, so that each kind of fate meets each number.
+const AGAIN: [usize; 7] = [0, 1, 0, 2, 0, 17, 3];
+
+/// What became of a cell, and how many more times it came, if it came.
+type Trip = (Fate, usize);
+
+fn once(fates: &[Fate]) -> Vec<Trip> {
+    fates.iter().map(|&fate| (fate, 0)).collect()
+}
+
+fn repeated(fates: &[Fate]) -> Vec<Trip> {
+    fates.iter().copied().zip(AGAIN.into_iter().cycle()).collect()
+}
+
 /// The call set-up of one reading.
 #[derive(Clone, Copy)]
 struct Call {
     format: u64,
     slots: usize,
+    ancillaries: u64,
     channels: usize,
     order: u64,
 }
@@ -64,11 +81,12 @@ impl Call {
     }
 
     fn sample_bits(&self) -> u64 {
-        (384 / self.slots - 8) as u64
+        let ancillary_bits = if self.ancillaries == 16 { 4 } else { 0 };
+        384 / self.slots as u64 - ancillary_bits - 4
     }
 
-    fn sample(&self, random: &mut Random) -> u64 {
-        random.below(1 << self.sample_bits())
+    fn entry(&self, random: &mut Random) -> Entry {
+        [random.below(1 << self.sample_bits()), random.below(self.ancillaries), 0]
     }
 
     fn setup(&self) -> Vec<u64> {
@@ -90,12 +108,12 @@ fn spoil(cell: &mut [u8], slots: usize, mask: u8, garbage: bool, random: &mut Ra
 }
 
 /// What must be handed out: from the first whole cell to the last, each in its place, nothing else.
-fn expected(fates: &[Fate], sent: &[Vec<Entry>]) -> Vec<Entry> {
-    let first = fates.iter().position(|&fate| fate == Fate::Whole).unwrap_or(0);
-    let end = fates.iter().rposition(|&fate| fate == Fate::Whole).map_or(0, |last| last + 1);
-    let places = fates[first..end].iter().zip(&sent[first..end]);
+fn expected(trips: &[Trip], sent: &[Vec<Entry>]) -> Vec<Entry> {
+    let first = trips.iter().position(|&(fate, _)| fate == Fate::Whole).unwrap_or(0);
+    let end = trips.iter().rposition(|&(fate, _)| fate == Fate::Whole).map_or(0, |last| last + 1);
+    let places = trips[first..end].iter().zip(&sent[first..end]);
     places
-        .flat_map(|(&fate, entries)| if fate == Fate::Whole { entries.clone() } else { vec![MISSING; entries.len()] })
+        .flat_map(|(&(fate, _), entries)| if fate == Fate::Whole { entries.clone() } else { vec![MISSING; entries.len()] })
         .collect()
 }
 
@@ -127,8 +145,8 @@ impl Ends {
         (answer[0].number() == 0).then(|| (answer[2].octets().to_vec(), indication))
     }
 
-    /// The entries handed out, or a word on what was wrong.
-    fn receive(&mut self, cell: &[u8], indication: bool) -> Result<Vec<Entry>, String> {
+    /// The refusal and the entries handed out, or a word on what was wrong.
+    fn receive(&mut self, cell: &[u8], indication: bool) -> Result<(u64, Vec<Entry>), String> {
         let room = 15 * self.call.entries();
         let lent = UNTOUCHED.map(|entry| vec![entry; room]);
         let inputs = values![&self.receiver[..], cell, indication, &lent[0][..], &lent[1][..], &lent[2][..]];
@@ -139,22 +157,38 @@ impl Ends {
         if (handed..room).any(|at| entry(at) != UNTOUCHED) {
             return Err("an entry past those handed out was written".into());
         }
-        Ok((0..handed).map(entry).collect())
+        Ok((answer[0].number(), (0..handed).map(entry).collect()))
+    }
+
+    /// A cell that comes, and again so many times: the entries handed out, all of them by the first delivery.
+    fn deliver(&mut self, cell: &[u8], indication: bool, (fate, again): Trip) -> Result<Vec<Entry>, String> {
+        let (first, copies) = if fate == Fate::Whole { (0, 9) } else { (8, 8) };
+        let (refusal, handed) = self.receive(cell, indication)?;
+        if refusal != first {
+            return Err(format!("a cell got {refusal} for {first}"));
+        }
+        let state = self.receiver.clone();
+        for _ in 0..again {
+            let (refusal, more) = self.receive(cell, indication)?;
+            if refusal != copies || !more.is_empty() || self.receiver != state {
+                return Err(format!("a copy got {refusal} for {copies}, or left something behind"));
+            }
+        }
+        Ok(handed)
     }
 }
 
 /// The entries that had to be handed out and were, or what went wrong.
-fn play(mut ends: Ends, fates: &[Fate]) -> Result<usize, String> {
+fn play(mut ends: Ends, trips: &[Trip]) -> Result<usize, String> {
     let call = ends.call;
     let mut random = Random::for_scenario(SEED, call.format * 1000 + call.channels as u64 * 2 + call.order);
     let mut sent = vec![];
     let mut handed = vec![];
-    for &fate in fates {
-        let entries: Vec<Entry> =
-            (0..call.entries()).map(|_| [call.sample(&mut random), random.below(16), 0]).collect();
+    for &trip in trips {
+        let entries: Vec<Entry> = (0..call.entries()).map(|_| call.entry(&mut random)).collect();
         let (mut cell, mut indication) = ends.send(&entries).ok_or("a cell was refused by the sender")?;
         sent.push(entries);
-        match fate {
+        match trip.0 {
             Fate::Lost => continue,
             Fate::Whole => {}
             Fate::Spoiled(mask, garbage) => {
@@ -162,46 +196,53 @@ fn play(mut ends: Ends, fates: &[Fate]) -> Result<usize, String> {
                 indication ^= garbage;
             }
         }
-        handed.extend(ends.receive(&cell, indication)?);
+        handed.extend(ends.deliver(&cell, indication, trip)?);
     }
-    let must_be = expected(fates, &sent);
+    let must_be = expected(trips, &sent);
     match must_be.iter().zip(&handed).position(|(wanted, given)| wanted != given) {
         Some(at) => Err(format!("entry {at}: {:?} handed out where {:?} must stand", handed[at], must_be[at])),
         None if handed.len() != must_be.len() => Err(format!("{} entries for {}", handed.len(), must_be.len())),
+        // from the first whole cell to the last: so many cells were placed
+        None if ends.receiver[5] * call.entries() as u64 != must_be.len() as u64 => {
+            Err(format!("{} cells placed for {}", ends.receiver[5], must_be.len() / call.entries()))
+        }
         None => Ok(handed.len()),
     }
 }
 
 /// A format's readings with a few C and both orders: true where all come out right.
-fn play_format(who: &str, answer: Answerer, (format, slots): (u64, usize), fates: &[Fate]) -> bool {
+fn play_format(who: &str, answer: Answerer, (format, slots, ancillaries): (u64, usize, u64), rows: &[Vec<Trip>]) -> bool {
     let calls = [1, 2, 3, 5, slots - 1, slots]
         .into_iter()
-        .flat_map(|channels| [0, 1].map(|order| Call { format, slots, channels, order }));
-    let (mut readings, mut entries) = (0, 0);
-    for call in calls {
+        .flat_map(|channels| [0, 1].map(|order| Call { format, slots, ancillaries, channels, order }));
+    let (mut readings, mut cells, mut copies, mut entries) = (0, 0, 0, 0);
+    for (call, trips) in calls.flat_map(|call| rows.iter().map(move |trips| (call, trips))) {
         let Some(ends) = Ends::open(answer, call) else {
             println!("{who}: {format:02X} hex: not linked");
             return true;
         };
-        match play(ends, fates) {
+        match play(ends, trips) {
             Ok(handed) => (readings, entries) = (readings + 1, entries + handed),
             Err(fault) => {
                 println!("{who}: {format:02X} hex, C = {}, order {}: {fault}", call.channels, call.order);
                 return false;
             }
         }
+        cells += trips.len();
+        copies += trips.iter().filter(|trip| trip.0 != Fate::Lost).map(|trip| trip.1).sum::<usize>();
     }
-    let cells = readings * fates.len();
-    println!("{who}: {format:02X} hex: {readings} readings, {cells} cells sent, {entries} entries as they must be");
+    println!(
+        "{who}: {format:02X} hex: {readings} readings, {cells} cells sent, {copies} copies, {entries} entries as they must be"
+    );
     true
 }
 
 /// True where every format's story comes out right.
 pub fn run() -> bool {
-    let fates = pattern();
+    let rows = [once(&pattern()), repeated(&pattern())];
     let verdicts: Vec<bool> = ANSWERERS
         .iter()
-        .flat_map(|&(who, answer)| WITH_OVERHEAD.map(|format| play_format(who, answer, format, &fates)))
+        .flat_map(|&(who, answer)| WITH_OVERHEAD.map(|format| play_format(who, answer, format, &rows)))
         .collect();
     verdicts.iter().all(|&right| right)
 }

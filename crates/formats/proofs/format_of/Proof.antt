@@ -4,7 +4,7 @@ use mathlib.Core.Path.{_∙_, sym}
 use Prim.Native.Nat.{_≤_}
 use native.Mathlib.Omega.{arith}
 use borrow.Author.Needs.{needs}
-use Rattle.formats.proofs.Laws.{no-format, is-base, made-format, sample-le}
+use Rattle.formats.proofs.Laws.{no-format, is-listed, made-format, sample-le}
 use Rattle.formats.proofs.format_of.Statement.{statement}
 use Rattle.formats.proofs.format_of.Tie as tie
 
@@ -28,7 +28,7 @@ returns-2 c =
     let found = c .before in
     let octet = found .before .before .args .octet in
     let slots = found .slots-of .ensures in
-    made-format octet (found .before .sample-bits .ensures) slots (is-base octet (λ e. c .if1 .left (slots ∙ e)))
+    made-format octet (found .before .sample-bits .ensures) slots (is-listed octet (λ e. c .if1 .left (slots ∙ e)))
 
 pub format-of-spec : {M : Type 1} → statement M
 format-of-spec =

@@ -22,25 +22,37 @@ loop-holds : tie.Need-loop-holds Inv-loop μ-loop
 loop-holds c = (refl, refl)
 
 same-length : tie.Need-same-length Inv-loop μ-loop
-same-length c = c .before .before .before .before .read .kept .0 ∙ c .before .before .before .before .before .before .before .before .loop .inv .0
+same-length c = c .before .before .before .before .read .kept .1 .0 ∙ c .before .before .before .before .before .before .before .before .loop .inv .0
 
 same-length-2 : tie.Need-same-length-2 Inv-loop μ-loop
 same-length-2 c = c .before .before .before .before .before .before .before .before .loop .inv .1
 
 finish-requires : tie.Need-finish-requires Inv-loop μ-loop
-finish-requires c κs = let at-loop = c .before .before .before .before .before .before .before .before .before .before .before .before in omega (arith, at-loop .loop .inv .1, at-loop .before .before .before .before .before .pre .1)
+finish-requires c κs =
+    let at-loop = c .before .before .before .before .before .before .before .before .before .before .before .before in
+    omega (arith, at-loop .loop .inv .1, at-loop .before .before .before .before .before .pre .1)
 
 same-length-3 : tie.Need-same-length-3 Inv-loop μ-loop
-same-length-3 c = c .before .before .before .before .before .before .before .before .before .before .before .read .kept .0 ∙ c .before .before .before .before .before .before .before .before .before .before .before .before .before .before .before .loop .inv .0
+same-length-3 c = c .before .before .before .before .before .before .before .before .before .before .before .read .kept .1
+    .0 ∙ c .before .before .before .before .before .before .before .before .before .before .before .before .before .before
+    .before .loop .inv .0
 
 same-length-4 : tie.Need-same-length-4 Inv-loop μ-loop
-same-length-4 c = c .before .before .finish .kept .0 ∙ c .before .before .before .before .before .before .before .before .before .before .before .before .before .before .before .loop .inv .1
+same-length-4 c = c .before .before .finish .kept .1 .1 .0 ∙ c .before .before .before .before .before .before .before
+    .before .before .before .before .before .before .before .before .loop .inv .1
 
 take-read-requires : tie.Need-take-read-requires Inv-loop μ-loop
 take-read-requires c κs =
     let at-loop = c .before .before .before .before .before .before .before .before .before .before .before .before .before in
-    let start = at-loop .before .before .before .before .before in
-    (omega (arith, c .before .before .before .before .before .before .before .before .before .read .kept .0, at-loop .loop .inv .0, start .pre .0), omega (arith, at-loop .loop .inv .1, start .pre .1))
+    let start = at-loop .before .before .before .before .before in (
+      omega (
+        arith,
+        c .before .before .before .before .before .before .before .before .before .read .kept .1 .0,
+        at-loop .loop .inv .0,
+        start .pre .0,
+      ),
+      omega (arith, at-loop .loop .inv .1, start .pre .1),
+    )
 
 slice-reshare-prefix-print : tie.Need-slice-reshare-prefix-print Inv-loop μ-loop
 slice-reshare-prefix-print c = c .before .before .before .take-read .ensures .2
@@ -52,22 +64,32 @@ print-requires : tie.Need-print-requires Inv-loop μ-loop
 print-requires c κs = c .before .before .before .before .take-read .ensures .1
 
 same-length-5 : tie.Need-same-length-5 Inv-loop μ-loop
-same-length-5 c = c .before .before .before .before .before .before .before .before .before .before .before .before .before .before .before .before .read .kept .0 ∙ c .before .before .before .before .before .before .before .before .before .before .before .before .before .before .before .before .before .before .before .before .loop .inv .0
+same-length-5 c = c .before .before .before .before .before .before .before .before .before .before .before .before .before
+    .before .before .before .read .kept .1 .0 ∙ c .before .before .before .before .before .before .before .before .before
+    .before .before .before .before .before .before .before .before .before .before .before .loop .inv .0
 
 same-length-6 : tie.Need-same-length-6 Inv-loop μ-loop
-same-length-6 c = c .before .before .before .before .before .before .take-read .kept .0 ∙ c .before .before .before .before .before .before .before .before .before .before .before .before .before .before .before .before .before .before .before .before .loop .inv .1
+same-length-6 c = c .before .before .before .before .before .before .take-read .kept .1 .1 .1 .1 .0 ∙ c .before .before
+    .before .before .before .before .before .before .before .before .before .before .before .before .before .before
+    .before .before .before .before .loop .inv .1
 
-within : (c : tie.After-standing Inv-loop μ-loop) → c .before .before .before .before .before .before .before .before .before .before .before .before .before .before .before .before .before .before .before .before .before .before .loop .octets ≤ 4294967295
-within c = let at-test = c .before .before .before .before .before .before .before .before .before .before .before .before .before .before .before .before .before .before .before .before in reads-to _ _ (sym (at-test .before .reads-on .ensures) ∙ at-test .if1 .taken)
+within : (c : tie.After-standing Inv-loop μ-loop) → c .before .before .before .before .before .before .before .before
+    .before .before .before .before .before .before .before .before .before .before .before .before .before .before .loop
+    .octets ≤ 4294967295
+within c = let at-test = c .before .before .before .before .before .before .before .before .before .before .before .before
+    .before .before .before .before .before .before .before .before in reads-to _ _ (sym (at-test .before .reads-on
+    .ensures) ∙ at-test .if1 .taken)
 
 add-octets : tie.Need-add-octets Inv-loop μ-loop
 add-octets c =
-    let at-loop = c .before .before .before .before .before .before .before .before .before .before .before .before .before .before .before .before .before .before .before .before .before .before in
+    let at-loop = c .before .before .before .before .before .before .before .before .before .before .before .before .before
+    .before .before .before .before .before .before .before .before .before in
     omega (
       arith,
       within c,
       c .before .before .before .before .before .before .before .before .before .before .before .before .before .count .ensures .0 .0,
-      c .before .before .before .before .before .before .before .before .before .before .before .before .before .before .before .before .before .before .read .kept .0,
+      c .before .before .before .before .before .before .before .before .before .before .before .before .before .before
+          .before .before .before .before .read .kept .1 .0,
       at-loop .loop .inv .0,
       at-loop .before .before .before .before .before .pre .0,
     )
@@ -77,8 +99,13 @@ loop-less c = omega (arith, within c, c .before .before .before .before .before 
 
 loop-again : tie.Need-loop-again Inv-loop μ-loop
 loop-again c =
-    let at-loop = c .before .before .before .before .before .before .before .before .before .before .before .before .before .before .before .before .before .before .before .before .before .before in
-    (c .before .before .before .before .before .before .before .before .before .before .before .before .before .before .before .before .before .before .read .kept .0 ∙ at-loop .loop .inv .0, c .before .before .before .before .before .before .before .before .take-read .kept .0 ∙ at-loop .loop .inv .1)
+    let at-loop = c .before .before .before .before .before .before .before .before .before .before .before .before .before
+    .before .before .before .before .before .before .before .before .before in (
+      c .before .before .before .before .before .before .before .before .before .before .before .before .before .before
+          .before .before .before .before .read .kept .1 .0 ∙ at-loop .loop .inv .0,
+      c .before .before .before .before
+          .before .before .before .before .take-read .kept .1 .1 .1 .1 .0 ∙ at-loop .loop .inv .1,
+    )
 
 same-length-7 : tie.Need-same-length-7 Inv-loop μ-loop
 same-length-7 c = c .before .before .loop .inv .0

@@ -1,9 +1,14 @@
 -- `linelist::take_read` meets its contract.
 -- Assumes nothing.
+use mathlib.Core.Path.{_∙_, ap}
 use native.Mathlib.Omega.{arith}
 use borrow.Author.Needs.{needs}
+use lib.IntN.{ℤ}
+use lib.ListN.{length}
+use mir.Facts.{toZ-ofZ}
+use Rattle.io.specs.Counts.{clamped}
 use Rattle.listing.proofs.Fits.{takes-whole}
-use Rattle.linelist.proofs.Laws.{take-within}
+use Rattle.linelist.proofs.Laws.{take-within, handed-on}
 use Rattle.linelist.proofs.take_read.Statement.{statement}
 use Rattle.linelist.proofs.take_read.Tie as tie
 
@@ -15,7 +20,8 @@ returns c =
     let takes = at-take .take .ensures in
     let fits = takes-whole takes
     (omega (arith, take-within (at-count .count .result) (start .args .buffer .now), start .pre .0)) (start .pre .1) in
-    (rw (← at-count .count .ensures .1) takes, fits .0, omega (arith, fits .1, at-take .take .kept .0))
+    let said = at-count .count .ensures .1 ∙ ap (λ (z : ℤ). clamped z (length (start .args .buffer .now))) (toZ-ofZ (start .fits .got)) in
+    (handed-on (start .args .buffer .now) said takes, fits .0, omega (arith, fits .1, at-take .take .kept .1 .1 .1 .0))
 
 pub take-read-spec : {M : Type 1} → statement M
 take-read-spec = tie.close (tie.spec (search needs) (search needs) (search needs) (search needs) returns)

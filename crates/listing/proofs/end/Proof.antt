@@ -18,7 +18,8 @@ returns-3 : tie.Need-returns-3
 returns-3 c =
     let at-if2 = c .before .before .before .before in
     let at-if1 = at-if2 .before .before in
-    ends-lines {l = at-if1 .before .before .before .before .before .before .args .listing} (at-if1 .before .before .end .ensures) (at-if1 .if1 .left) (at-if2 .if2 .left)
+    ends-lines {l = at-if1 .before .before .before .before .before .before .args .listing} (at-if1 .before .before .end
+    .ensures) (at-if1 .if1 .left) (at-if2 .if2 .left)
     (c .before .before .end-lines .ensures)
 
 pub end-spec : {M : Type 1} → statement M

@@ -1,7 +1,7 @@
 -- `receiver::opened` meets its contract.
 -- Assumes nothing.
 use native.Mathlib.Omega.{arith}
-use Rattle.formats.proofs.Laws.{Settles, settles-all, given-none, base-octet, slots-base}
+use Rattle.formats.proofs.Laws.{Settles, settles-all, given-none, listed-octet, slots-listed}
 use Rattle.receiver.proofs.Laws.{opens-refused, opens}
 use borrow.Author.Needs.{needs}
 use Rattle.receiver.proofs.opened.Statement.{statement}
@@ -19,10 +19,10 @@ settles c =
     (given-none (a .format) (a .channels) (a .order) 0 (c .before .settings .ensures) (c .if1 .left))
 
 cast-t8 : tie.Need-cast-t8
-cast-t8 c = record { fits = base-octet (c .before .before .args .format) (settles c .base) }
+cast-t8 c = record { fits = listed-octet (c .before .before .args .format) (settles c .listed) }
 
 cast-t9 : tie.Need-cast-t9
-cast-t9 c = omega (arith, settles c .channels-to, slots-base (c .before .before .args .format) (settles c .base))
+cast-t9 c = omega (arith, settles c .channels-to, slots-listed (c .before .before .args .format) (settles c .listed))
 
 cast-t10 : tie.Need-cast-t10
 cast-t10 c = omega (arith, settles c .order-to)

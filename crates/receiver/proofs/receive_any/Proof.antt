@@ -17,7 +17,6 @@ use Rattle.receiver.proofs.Laws.{
   equal-early,
   judged-refused,
   set-limits,
-  set-together,
   cell-whole,
   missing-few,
   roomy,
@@ -107,7 +106,6 @@ write-requires c κs =
     let k = call (from (one t .before)) in
     let settles = one t .before .before .settings .ensures in (
       limits t,
-      set-together k (none (one t)) (t .before .before .judged .ensures) settles (t .if2 .left),
       cell-whole k (none (one t)) (t .before .before .judged .ensures) settles (t .if2 .left),
       roomy k (none (one t)) (t .before .before .judged .ensures) settles (t .if2 .left),
     )

@@ -2,7 +2,7 @@
 -- Assumes nothing.
 use mathlib.Core.Path.{_∙_, sym}
 use native.Mathlib.Omega.{arith}
-use Rattle.formats.proofs.Laws.{base-octet, slots-base}
+use Rattle.formats.proofs.Laws.{listed-octet, slots-listed}
 use Rattle.sender.specs.Sender.{openState}
 use Rattle.sender.proofs.Laws.{StatePasses, state-passes, opens-refused, opens}
 use borrow.Author.Needs.{needs}
@@ -26,11 +26,11 @@ passed c =
     (sym (c .before .state-refusal .ensures) ∙ c .if1 .left)
 
 cast-t10 : tie.Need-cast-t10
-cast-t10 c = record { fits = base-octet (from (c .before) .args .format) (passed c .settles .base) }
+cast-t10 c = record { fits = listed-octet (from (c .before) .args .format) (passed c .settles .listed) }
 
 cast-t11 : tie.Need-cast-t11
 cast-t11 c =
-    omega (arith, passed c .settles .channels-to, slots-base (from (c .before) .args .format) (passed c .settles .base))
+    omega (arith, passed c .settles .channels-to, slots-listed (from (c .before) .args .format) (passed c .settles .listed))
 
 cast-t12 : tie.Need-cast-t12
 cast-t12 c = omega (arith, passed c .settles .order-to)

@@ -1,8 +1,10 @@
 //! A case put to the proved library through the face: nothing where a number is wider than the face's type for it, or
 //! where the part of the library isn't linked.
 
+use super::line::line;
+use super::management;
 use crate::case::{values, Answer, Case, Kind, Value};
-use crate::face::{self, Runs};
+use crate::face::{self, ReceiverState, Runs};
 
 pub fn by_library(case: &Case) -> Option<Answer> {
     match case.kind {
@@ -10,18 +12,25 @@ pub fn by_library(case: &Case) -> Option<Answer> {
         Kind::ReceiverOpen if cfg!(feature = "boxes") => receiver_open(case),
         Kind::Send if cfg!(feature = "boxes") => send(case),
         Kind::Receive if cfg!(feature = "boxes") => receive(case),
+        Kind::Line => line(case, by_library),
         Kind::StatusStep if cfg!(feature = "status") => status_step(case),
         Kind::CheckCharacter if cfg!(feature = "status") => check_character(case),
         Kind::ReadHeader if cfg!(feature = "log") => read_header(case),
         Kind::ReadRecord if cfg!(feature = "log") => read_record(case),
         Kind::Aes3Import if cfg!(feature = "cable") => aes3_import(case),
         Kind::Aes3Export if cfg!(feature = "cable") => aes3_export(case),
+        Kind::Equipment => management::equipment_by_library(case),
+        Kind::Controller => management::controller_by_library(case),
+        Kind::UnitsExport if cfg!(feature = "units") => units_export(case),
+        Kind::UnitRead if cfg!(feature = "units") => unit_read(case),
+        Kind::CircuitsCheck if cfg!(feature = "circuits") => circuits_check(case),
+        Kind::CircuitsPlan if cfg!(feature = "circuits") => circuits_plan(case),
         _ => None,
     }
 }
 
 /// A lent run between entries that must stay: a box that writes past a run's ends breaks the fence.
-struct Fenced<T> {
+pub(super) struct Fenced<T> {
     entries: Vec<T>,
     fence: T,
 }
@@ -29,18 +38,18 @@ struct Fenced<T> {
 const FENCE_ENTRIES: usize = 3;
 
 impl<T: Copy + PartialEq> Fenced<T> {
-    fn around(content: &[T], fence: T) -> Fenced<T> {
+    pub(super) fn around(content: &[T], fence: T) -> Fenced<T> {
         let side = [fence; FENCE_ENTRIES];
         Fenced { entries: [&side, content, &side].concat(), fence }
     }
 
-    fn lent(&mut self) -> &mut [T] {
+    pub(super) fn lent(&mut self) -> &mut [T] {
         let end = self.entries.len() - FENCE_ENTRIES;
         &mut self.entries[FENCE_ENTRIES..end]
     }
 
     /// The run afterwards. A broken fence comes along with it, so that the comparison shows it.
-    fn back(self) -> Vec<T> {
+    pub(super) fn back(self) -> Vec<T> {
         let end = self.entries.len() - FENCE_ENTRIES;
         let fences = [&self.entries[..FENCE_ENTRIES], &self.entries[end..]].concat();
         if fences.iter().all(|&entry| entry == self.fence) {
@@ -52,7 +61,7 @@ impl<T: Copy + PartialEq> Fenced<T> {
 }
 
 /// What arrays that a call fills hold before it: it must not show afterwards.
-const LEFT_OVER: u8 = 0xA5;
+pub(super) const LEFT_OVER: u8 = 0xA5;
 
 fn narrow<T: TryFrom<u64>>(numbers: &[u64]) -> Option<Vec<T>> {
     numbers.iter().map(|&number| T::try_from(number).ok()).collect()
@@ -76,9 +85,23 @@ fn sender_open(case: &Case) -> Option<Answer> {
 
 fn receiver_open(case: &Case) -> Option<Answer> {
     let numbers: Vec<u64> = case.inputs.iter().map(Value::number).collect();
-    let mut state = [LEFT_OVER; 5];
+    let mut state = [LEFT_OVER; 9];
     let refusal = face::receiver_open(narrow_array(&numbers)?, &mut state);
-    Some(values![u64::from(refusal), &wide(&state)[..]])
+    Some(values![u64::from(refusal), &receiver_fields(&state)[..]])
+}
+
+/// A receiver's state as octets: its count is the sixth field, and four octets, least significant first.
+fn receiver_octets(fields: &[u64]) -> Option<ReceiverState> {
+    let (count, others) = fields.split_last()?;
+    let count = u32::try_from(*count).ok()?;
+    [&narrow(others)?[..], &count.to_le_bytes()].concat().try_into().ok()
+}
+
+/// Its fields, the count as the library tells it.
+fn receiver_fields(state: &ReceiverState) -> Vec<u64> {
+    let mut fields = wide(&state[..5]);
+    fields.push(face::receiver_placed(state).into());
+    fields
 }
 
 fn send(case: &Case) -> Option<Answer> {
@@ -90,7 +113,7 @@ fn send(case: &Case) -> Option<Answer> {
 }
 
 fn receive(case: &Case) -> Option<Answer> {
-    let mut state = narrow_array(case.run(0))?;
+    let mut state = receiver_octets(case.run(0))?;
     let mut samples = Fenced::around(case.run(3), u64::MAX);
     let mut ancillary = Fenced::around(&narrow(case.run(4))?, LEFT_OVER);
     let mut marks = Fenced::around(&narrow(case.run(5))?, LEFT_OVER);
@@ -98,7 +121,8 @@ fn receive(case: &Case) -> Option<Answer> {
     let mut report = [LEFT_OVER; 4];
     let refusal = face::receive(&mut state, case.octets(1), case.yes(2), runs, &mut report);
     let (ancillary, marks) = (wide(&ancillary.back()), wide(&marks.back()));
-    let mut answer = values![u64::from(refusal), &wide(&state)[..], &samples.back()[..], &ancillary[..], &marks[..]];
+    let after = receiver_fields(&state);
+    let mut answer = values![u64::from(refusal), &after[..], &samples.back()[..], &ancillary[..], &marks[..]];
     answer.extend(report.map(|number| Value::Number(number.into())));
     Some(answer)
 }
@@ -147,4 +171,40 @@ fn aes3_export(case: &Case) -> Option<Answer> {
     let (mut preambles, mut subframes) = ([LEFT_OVER; 2], [u32::MAX; 2]);
     let refusal = face::aes3_export(samples, &narrow_array(case.run(1))?, &mut preambles, &mut subframes);
     Some(values![u64::from(refusal), &preambles[..], &wide(&subframes)[..]])
+}
+
+fn units_export(case: &Case) -> Option<Answer> {
+    let settings = narrow_array(&[case.number(0), case.number(1)])?;
+    let size = usize::try_from(case.number(2)).ok()?;
+    let ancillary: Vec<u8> = narrow(case.run(4))?;
+    let mut out = Fenced::around(case.octets(5), LEFT_OVER);
+    let mut units = [u64::MAX; 3];
+    let refusal = face::units_export(settings, size, case.run(3), &ancillary, out.lent(), &mut units);
+    let mut answer = values![u64::from(refusal), &out.back()[..]];
+    answer.extend(units.map(Value::Number));
+    Some(answer)
+}
+
+fn unit_read(case: &Case) -> Option<Answer> {
+    let settings = narrow_array(&[case.number(0), case.number(1)])?;
+    let mut samples = Fenced::around(case.run(3), u64::MAX);
+    let mut ancillary = Fenced::around(&narrow(case.run(4))?, LEFT_OVER);
+    let mut entries = u64::MAX;
+    let refusal = face::unit_read(settings, case.octets(2), samples.lent(), ancillary.lent(), &mut entries);
+    Some(values![u64::from(refusal), &samples.back()[..], &wide(&ancillary.back())[..], entries])
+}
+
+fn circuits_check(case: &Case) -> Option<Answer> {
+    let asked = narrow_array(&[case.number(0), case.number(1), case.number(2)])?;
+    let (shares, allowances): (Vec<u32>, Vec<u32>) = (narrow(case.run(3))?, narrow(case.run(4))?);
+    let mut answer = [u32::MAX; 2];
+    let refusal = face::circuits_check(asked, &shares, &allowances, &mut answer);
+    Some(values![u64::from(refusal), u64::from(answer[0]), u64::from(answer[1])])
+}
+
+fn circuits_plan(case: &Case) -> Option<Answer> {
+    let [format, channels] = narrow_array(&[case.number(0), case.number(1)])?;
+    let mut shares = Fenced::around(&narrow(case.run(2))?, u32::MAX);
+    let refusal = face::circuits_plan(format, channels, shares.lent());
+    Some(values![u64::from(refusal), &wide(&shares.back())[..]])
 }

@@ -1,8 +1,10 @@
 //! A case put to the plain implementation, under the rules of the face: a yes or no in a state is 0 or anything else,
 //! it comes back as 0 or 1, and a refusal leaves all that was lent as it was.
 
+use super::line::line;
+use super::management;
 use crate::case::{values, Answer, Case, Kind, Value};
-use crate::plain::{self, Block, Receiver, Record, Refusal, Sender};
+use crate::plain::{self, Block, Fault, Receiver, Record, Refusal, Sender};
 
 pub fn by_plain(case: &Case) -> Answer {
     match case.kind {
@@ -10,15 +12,22 @@ pub fn by_plain(case: &Case) -> Answer {
         Kind::ReceiverOpen => receiver_open(case),
         Kind::Send => send(case),
         Kind::Receive => receive(case),
+        Kind::Line => line(case, |call| Some(by_plain(call))).expect("every call is answered"),
         Kind::StatusStep => status_step(case),
         Kind::CheckCharacter => values![u64::from(plain::check_character(&case.octets(0)[..23]))],
         Kind::ReadHeader => read_header(case),
         Kind::ReadRecord => read_record(case),
+        Kind::Equipment => management::equipment_by_plain(case),
+        Kind::Controller => management::controller_by_plain(case),
         Kind::Linelist => values![plain::listing(case.octets(0)).as_bytes()],
         Kind::LinelistLimit => values![plain::listing_to(case.octets(0), case.number(1)).as_bytes()],
         Kind::Sheet => sheet(case),
         Kind::Aes3Import => aes3_import(case),
         Kind::Aes3Export => aes3_export(case),
+        Kind::UnitsExport => units_export(case),
+        Kind::UnitRead => unit_read(case),
+        Kind::CircuitsCheck => circuits_check(case),
+        Kind::CircuitsPlan => circuits_plan(case),
     }
 }
 
@@ -35,13 +44,13 @@ fn sender_state(sender: &Sender) -> [u64; 7] {
 }
 
 fn receiver_of(state: &[u64]) -> Receiver {
-    let [format, channels, order, started, last] = *state else { panic!("a receiver's state has 5 fields") };
-    Receiver { format, channels, order, started: started != 0, last }
+    let [format, channels, order, started, last, count] = *state else { panic!("a receiver's state has 6 fields") };
+    Receiver { format, channels, order, started: started != 0, last, count }
 }
 
-fn receiver_state(receiver: &Receiver) -> [u64; 5] {
-    let Receiver { format, channels, order, started, last } = *receiver;
-    [format, channels, order, u64::from(started), last]
+fn receiver_state(receiver: &Receiver) -> [u64; 6] {
+    let Receiver { format, channels, order, started, last, count } = *receiver;
+    [format, channels, order, u64::from(started), last, count]
 }
 
 /// The refusal of an opening, and its state: zeros where it was refused.
@@ -59,7 +68,7 @@ fn sender_open(case: &Case) -> Answer {
 }
 
 fn receiver_open(case: &Case) -> Answer {
-    let fields: Vec<u64> = case.inputs.iter().map(Value::number).chain([0, 0]).collect();
+    let fields: Vec<u64> = case.inputs.iter().map(Value::number).chain([0, 0, 0]).collect();
     let receiver = receiver_of(&fields);
     opened(receiver.shape(), &receiver_state(&receiver))
 }
@@ -147,5 +156,50 @@ fn aes3_export(case: &Case) -> Answer {
     match plain::export_frame(case.run(0), case.run(1)) {
         Ok((preambles, subframes)) => values![0, &preambles[..], &subframes[..]],
         Err(refusal) => values![u64::from(refusal), &[0u8; 2][..], &[0u64; 2][..]],
+    }
+}
+
+fn units_export(case: &Case) -> Answer {
+    let settings = [case.number(0), case.number(1)];
+    let mut out = case.octets(5).to_vec();
+    match plain::export_units(settings, case.number(2), case.run(3), case.run(4), out.len()) {
+        Ok(units) => {
+            let octets = units.each.concat();
+            out[..octets.len()].copy_from_slice(&octets);
+            values![0, &out[..], octets.len() as u64, units.full, units.each.len() as u64]
+        }
+        Err(refusal) => values![u64::from(refusal), &out[..], 0, 0, 0],
+    }
+}
+
+fn unit_read(case: &Case) -> Answer {
+    let mut runs = [3, 4].map(|field| case.run(field).to_vec());
+    let lengths = [0, 1].map(|run| runs[run].len());
+    match plain::read_unit([case.number(0), case.number(1)], case.octets(2), lengths) {
+        Ok(entries) => {
+            for (at, entry) in entries.iter().enumerate() {
+                runs[0][at] = entry.sample;
+                runs[1][at] = entry.ancillary;
+            }
+            values![0, &runs[0][..], &runs[1][..], entries.len() as u64]
+        }
+        Err(refusal) => values![u64::from(refusal), &runs[0][..], &runs[1][..], 0],
+    }
+}
+
+fn circuits_check(case: &Case) -> Answer {
+    match plain::check_plan(case.number(0), case.number(1), case.number(2), case.run(3), case.run(4)) {
+        Ok(None) => values![0, 1, 0],
+        Ok(Some(Fault::Share(circuit))) => values![0, 2, circuit as u64],
+        Ok(Some(Fault::Allowance(circuit))) => values![0, 3, circuit as u64],
+        Ok(Some(Fault::Sum)) => values![0, 4, 0],
+        Err(refusal) => values![u64::from(refusal), 0, 0],
+    }
+}
+
+fn circuits_plan(case: &Case) -> Answer {
+    match plain::plan(case.number(0), case.number(1), case.run(2).len()) {
+        Ok(shares) => values![0, &shares[..]],
+        Err(refusal) => values![u64::from(refusal), case.run(2)],
     }
 }

@@ -63,12 +63,23 @@ pub fn send(state: &[u64], shape: &Shape, chances: u64, random: &mut Random) -> 
     Case::new(Kind::Send, values![state, indication, &samples[..], &ancillary[..], &cell[..]])
 }
 
+/// A receiver's count: mostly 0 before the first cell, and often so large that a few cells more pass 4,294,967,295.
+fn count(started: u64, random: &mut Random) -> u64 {
+    match random.below(8) {
+        _ if started == 0 && !random.one_in(8) => 0,
+        0 => random.below(3),
+        1..=3 => 4_294_967_295 - random.below(17),
+        4 => 256_u64.pow(1 + random.below(3) as u32) - random.below(3),
+        _ => random.below(1 << 32),
+    }
+}
+
 pub fn one_receive(random: &mut Random, referee: &mut Referee) -> Played {
     let [format, channels, order] = setup(random);
     let started = yes_or_no(random);
     let overhead = Shape::new(format, channels, order).is_ok_and(|shape| shape.format.overhead);
     let last = if started != 0 && overhead { random.below(16) } else { 0 };
-    let mut state = [format, channels, order, started, last];
+    let mut state = [format, channels, order, started, last, count(started, random)];
     damage_state(&mut state, 3, random);
     let shape = shape_of(&state, random);
     let number = random.below(16);

@@ -3,9 +3,9 @@
 use crate::plain::Shape;
 use crate::random::Random;
 
-/// The eleven, and beside them three that the standard has and the base doesn't.
-const FORMATS: [u64; 11] = [0x02, 0x04, 0x06, 0x08, 0x43, 0x45, 0x47, 0x52, 0x54, 0x56, 0x5A];
-const NOT_YET: [u64; 3] = [0x13, 0x15, 0x17];
+/// The fourteen, and beside them some whose subframe would fill no whole octets.
+const FORMATS: [u64; 14] = [0x02, 0x04, 0x06, 0x08, 0x13, 0x15, 0x17, 0x43, 0x45, 0x47, 0x52, 0x54, 0x56, 0x5A];
+const PART_OCTETS: [u64; 5] = [0x03, 0x14, 0x18, 0x46, 0x55];
 
 /// A call set-up that is taken: octet, C, order.
 pub fn setup(random: &mut Random) -> [u64; 3] {
@@ -37,7 +37,7 @@ pub fn wrong_number(right: u64, random: &mut Random) -> u64 {
         1 => right.saturating_sub(1),
         2 => right + 256 * (1 + random.below(1 << 20)),
         3 => random.pick(&[0, 15, 16, 48, 49, 255, 256, 65_536, u64::from(u32::MAX)]),
-        4 => random.pick(&NOT_YET),
+        4 => random.pick(&PART_OCTETS),
         5 => random.below(1 << 32),
         _ => random.below(256),
     }

@@ -44,9 +44,10 @@ fn loss(random: &mut Random) -> u64 {
     }
 }
 
+/// How many times a cell comes: mostly once, and now and then with copies.
 fn copies(random: &mut Random) -> u64 {
     if random.one_in(8) {
-        1 + random.below(3)
+        random.pick(&[2, 2, 3, 5, 17])
     } else {
         1
     }

@@ -63,6 +63,8 @@ pub struct Receiver {
     pub order: u64,
     pub started: bool,
     pub last: u64,
+    /// Cells placed since the opening, sound and missing together.
+    pub count: u64,
 }
 
 /// What a cell brings: the entries to write from the start of the runs, and the report.
@@ -79,6 +81,7 @@ impl Receiver {
         let shape = Shape::new(self.format, self.channels, self.order)?;
         refuse_if(self.last > 15, 4)?;
         refuse_if((!self.started || !shape.format.overhead) && self.last != 0, 4)?;
+        refuse_if(!self.started && self.count != 0, 4)?;
         Ok(shape)
     }
 
@@ -106,10 +109,13 @@ impl Receiver {
         refuse_if(shape.format.overhead && indication && !number.is_multiple_of(8), 15)?;
         let steps = self.steps_to(&shape, number);
         refuse_if(steps == 0, 9)?;
+        // "20 where the count would pass 4,294,967,295, after 9 and before 10"
+        let count = self.count + steps;
+        refuse_if(count > 4_294_967_295, 20)?;
         refuse_if(room < steps as usize * shape.entries(), 10)?;
         let missing = steps - 1;
         let mut entries = vec![MISSING; missing as usize * shape.entries()];
         entries.extend(shape.unpack(cell));
-        Ok((Receiver { started: true, last: number, ..*self }, Received { entries, missing, number, second }))
+        Ok((Receiver { started: true, last: number, count, ..*self }, Received { entries, missing, number, second }))
     }
 }

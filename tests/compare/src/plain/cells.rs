@@ -35,8 +35,7 @@ fn format_of(octet: u64) -> Option<Format> {
         _ => return None,
     };
     let subframe_bits = sample_bits + 4 * u32::from(ancillary) + 4 * u32::from(overhead);
-    let overhead_alone = overhead && !ancillary;
-    if overhead_alone || ![8, 16, 24, 32, 48].contains(&subframe_bits) {
+    if ![8, 16, 24, 32, 48].contains(&subframe_bits) {
         return None;
     }
     Some(Format { ancillary, overhead, sample_bits, slots: CELL_OCTETS * 8 / subframe_bits as usize })
@@ -110,9 +109,16 @@ impl Shape {
         }
         if self.format.overhead {
             bits.push(sequencing);
-            bits.extend(protection(sample, self.format.sample_bits, ancillary));
+            bits.extend(self.protection(sample, ancillary));
         }
         bits
+    }
+
+    fn protection(&self, sample: u64, ancillary: u64) -> Bits {
+        match self.format.ancillary {
+            true => protection_with_v(sample, self.format.sample_bits, ancillary % 2 == 1),
+            false => protection_without_v(sample, self.format.sample_bits),
+        }
     }
 
     /// The entries of a cell in the order of the runs.
@@ -126,7 +132,7 @@ impl Shape {
         let (sample, rest) = subframe.split_at(self.format.sample_bits as usize);
         let sample = number_of(sample);
         let ancillary = if self.format.ancillary { number_of(&rest[..4]) } else { 0 };
-        let disagrees = self.format.overhead && rest[5..] != protection(sample, self.format.sample_bits, ancillary);
+        let disagrees = self.format.overhead && rest[rest.len() - 3..] != self.protection(sample, ancillary);
         Entry { sample, ancillary, mark: u64::from(disagrees) }
     }
 
@@ -162,10 +168,18 @@ fn sequencing_word(number: u64, second: u64, slots: usize) -> Bits {
 }
 
 /// "x^4 times the nine top sample bits (the top one as x^8) plus x^3 times V"; "an 8-bit sample has a ninth bit of 0".
-fn protection(sample: u64, sample_bits: u32, ancillary: u64) -> Bits {
+fn protection_with_v(sample: u64, sample_bits: u32, v: bool) -> Bits {
     let mut dividend = bits_of(sample, sample_bits);
     dividend.resize(9, false);
-    dividend.push(ancillary % 2 == 1);
+    dividend.push(v);
     dividend.extend([false; 3]);
     complement(&remainder(&dividend, &X3_X_1))
+}
+
+/// Clause 4.1.4.2, where there is no V bit: "the product x3 multiplied by the most significant nine bits of the audio
+/// sample". Each such format has nine bits and more.
+fn protection_without_v(sample: u64, sample_bits: u32) -> Bits {
+    let nine = sample >> (sample_bits - 9);
+    let product = bits_of(nine << 3, 12);
+    complement(&remainder(&product, &X3_X_1))
 }

@@ -90,7 +90,7 @@ struct Tally {
 fn records_listed(log: &[u8], header: &Header, limit: u64) -> String {
     let Header { format, channels, order, .. } = *header;
     let mut text = format!("format {format} {channels} {order}\n");
-    let mut receiver = Receiver { format, channels, order, started: false, last: 0 };
+    let mut receiver = Receiver { format, channels, order, started: false, last: 0, count: 0 };
     let mut tally = Tally::default();
     let mut place = header.place as u64;
     for index in 0.. {

@@ -13,7 +13,7 @@ from c = c .before .before .before .before .before .before .before .before
 parts-requires : tie.Need-parts-requires
 parts-requires c κs =
     let s = from (c .before .before .before .before .before) in
-    (s .pre .0 .sound, s .pre .1, record { samples-room = search needs; ancillary-room = search needs; marks-room = search needs })
+    (s .pre .0 .sound, record { samples-room = search needs; ancillary-room = search needs; marks-room = search needs }, s .pre .3)
 
 returns : tie.Need-returns
 returns c =
@@ -21,7 +21,7 @@ returns c =
     let subframes = parts .before .before .before .before .before .before in
     let s = from subframes in
     unpacks (s .args .set) (now (s .args .cell)) (s .args .at) (now (s .args .samples)) (now (s .args .ancillary)) (now (s .args .marks))
-    (s .pre .3) (subframes .subframes .ensures) (parts .parts .ensures)
+    (s .pre .2) (subframes .subframes .ensures) (parts .parts .ensures)
 
 pub own-entries-spec : {M : Type 1} → statement M
 own-entries-spec =

@@ -2,9 +2,7 @@
 -- Assumes nothing.
 use mathlib.Core.Bool.{Bool, true}
 use mathlib.Core.Path.{_≡_, sym, _∙_, ap}
-use Prim.Native.Nat.{ℕ, _*_, _-_, _≤_}
-use native.Mathlib.Nat.{mul-le-mul-right, one-mul}
-use native.Mathlib.Omega.{arith}
+use Prim.Native.Nat.{_-_}
 use denote.Ref.{now}
 use Rattle.runs.proofs.Filling.{Filled, begun}
 use Rattle.formats.specs.declared.Settled.{Settled}
@@ -13,7 +11,7 @@ use Rattle.cells.specs.Placement.{slotOfEntry}
 use Rattle.cells.proofs.Placement.{slot-lt, slot-next}
 use Rattle.receiver.specs.Unpacking.{usedIn, ownEntries}
 use Rattle.receiver.proofs.Reading.{walk-begun}
-use Rattle.receiver.proofs.Unpacking.{own-on, own-done, slot-in}
+use Rattle.receiver.proofs.Unpacking.{times-few, own-on, own-done, slot-in}
 use borrow.Author.Needs.{needs}
 use Rattle.receiver.proofs.entries.subframes_by_channel.Statement.{statement}
 use Rattle.receiver.proofs.entries.subframes_by_channel.Tie as tie
@@ -47,9 +45,6 @@ subframe-in-requires : tie.Need-subframe-in-requires Inv-loop μ-loop
 subframe-in-requires c κs =
     let s = from (c .before) in
     (s .pre .0 .sound, s .pre .1, slot-in (s .args .set) (now (s .args .cell)) (s .pre .0) (c .loop-test .taken) (in-order (c .before)))
-
-times-few : (channels times : ℕ) → 1 ≤ channels → channels * times ≤ 48 → times ≤ 48
-times-few channels times some few = omega (arith, mul-le-mul-right {m = 1} {n = channels} times some, one-mul times)
 
 next-slot-requires : tie.Need-next-slot-requires Inv-loop μ-loop
 next-slot-requires c κs =

@@ -43,7 +43,7 @@ loop-again c =
     (l .loop .inv) less
     (by-width fours (now (s .args .cell)) (l .loop .i) refl
     (marked .before .in4 .ensures .0 ∙ four-read (now (s .args .cell)) (l .loop .i * 4) (omega (arith, s .pre .0, less))))
-    (mark-on-top fours refl refl word 24 (word / 8388608) refl (omega arith)
+    (mark-on-top fours refl word refl 24 (word / 8388608) refl (omega arith)
     (let on-top : word / 8388608 % 512 ≡ word / 256 * 2 / 65536 % 512 = omega arith in on-top) (marked .marks-for-usual .result)
     (marked .marks-for-usual .ensures .0))
     (entered .enter .ensures)

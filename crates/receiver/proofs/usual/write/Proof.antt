@@ -1,5 +1,7 @@
 -- `receiver::usual::write` meets its contract.
 -- Assumes nothing.
+use mathlib.Core.Logic.{inl}
+use mathlib.Core.Path.{refl}
 use denote.Ref.{now}
 use Rattle.receiver.specs.Unpacking.{straight}
 use Rattle.receiver.proofs.Unpacking.{fills}
@@ -16,8 +18,8 @@ returns c =
     let own = c .before .before .before .before .before .before in
     let missing = own .before .before .before .before .before .before .before .before .before .before in
     let s = from missing in
-    fills straight (now (s .args .cell)) (s .args .missing) (now (s .args .samples)) (now (s .args .ancillary)) (now (s .args .marks))
-    (s .pre .1) (missing .missing-entries .ensures) (own .own-entries .ensures)
+    fills straight (now (s .args .cell)) (s .args .missing) (s .args .missing) (now (s .args .samples)) (now (s .args .ancillary)) (now (s .args .marks))
+    (inl refl) (s .pre .1) (missing .missing-entries .ensures) (own .own-entries .ensures)
 
 pub write-spec : {M : Type 1} → statement M
 write-spec =

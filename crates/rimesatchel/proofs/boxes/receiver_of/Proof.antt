@@ -1,6 +1,6 @@
 -- `rimesatchel::boxes::receiver_of` meets its contract.
 -- Assumes nothing.
-use mathlib.Core.Path.{refl}
+use mathlib.Core.Path.{_≡_}
 use Rattle.rimesatchel.specs.Boxes.{receiverOf}
 use borrow.Author.Needs.{needs}
 use Rattle.rimesatchel.proofs.boxes.receiver_of.Statement.{statement}
@@ -8,9 +8,9 @@ use Rattle.rimesatchel.proofs.boxes.receiver_of.Tie as tie
 
 returns : tie.Need-returns
 unfolding receiverOf
-returns c = refl
+returns c = rw (c .count-of .ensures)
 
 pub receiver-of-spec : {M : Type 1} → statement M
 receiver-of-spec =
     tie.close
-    (tie.spec (search needs) (search needs) (search needs) (search needs) (search needs) returns)
+    (tie.spec (search needs) (search needs) (search needs) (search needs) (search needs) (search needs) returns)

@@ -11,7 +11,7 @@ returns c =
     let a = c .before .args in
     let given = c .before .pre in
     subframe-by (a .sample-bits) (a .ancillary-bits) (a .sample) (a .ancillary) (given .0) (given .1) (given .2) (given .3) (given .4)
-    (given .5) (c .low-of .ensures)
+    (given .5) (c .low-in .ensures)
 
 add-result-2 : tie.Need-add-result-2
 add-result-2 c =
@@ -20,7 +20,7 @@ add-result-2 c =
     omega (
       arith,
       low-fits (a .sample-bits) (a .ancillary-bits) (a .sample) (a .ancillary) (given .0) (given .1) (given .2) (given .3) (given .4)
-          (given .5) (c .low-of .ensures),
+          (given .5) (c .low-in .ensures),
     )
 
 add-result-3 : tie.Need-add-result-3
@@ -30,7 +30,7 @@ add-result-3 c =
     record {
       fits =
           subframe-fits (a .sample-bits) (a .ancillary-bits) (a .sample) (a .ancillary) (given .0) (given .1) (given .2) (given .3)
-          (given .4) (given .5) (c .low-of .ensures);
+          (given .4) (given .5) (c .low-in .ensures);
     }
 
 pub subframe-spec : {M : Type 1} → statement M

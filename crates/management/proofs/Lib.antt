@@ -1,0 +1,16 @@
+pub mod Agree
+pub mod Best
+pub mod Brought
+pub mod Calls
+pub mod Cases
+pub mod Demands
+pub mod Fits
+pub mod Messages
+pub mod One
+pub mod OnePort
+pub mod Parts
+pub mod Refused
+pub mod Replies
+pub mod Requests
+pub mod Taken
+pub mod Wrong

@@ -1,0 +1,7 @@
+pub mod Code
+pub mod Controller
+pub mod Demands
+pub mod Equipment
+pub mod Ports
+pub mod Status
+pub mod Tables

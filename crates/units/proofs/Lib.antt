@@ -1,0 +1,10 @@
+pub mod Answers
+pub mod Back
+pub mod Demand1
+pub mod Joined
+pub mod Laws
+pub mod One
+pub mod Packing
+pub mod Seven
+pub mod Units
+pub mod Wrong
