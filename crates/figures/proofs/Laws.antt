@@ -1,23 +1,26 @@
 -- Laws of counts: sums of them, and counts that are too many.
 -- Assumes nothing.
-use mathlib.Core.Bool.{true, false, true≢false}
-use mathlib.Core.List.{List, [], _∷_, _++_}
+use mathlib.Core.Bool.{true, false, not, true≢false}
+use mathlib.Core.List.{List, [], _∷_, _++_, append-nil}
 use mathlib.Core.Path.{_≡_, refl, sym, _∙_, ap}
-use Prim.Native.Nat.{ℕ, _+_, _*_, _/_, _≤_, _<_}
-use native.Mathlib.Nat.{pos-of-ne-zero, div-lt-iff-lt-mul, le-of-suc-le-suc}
+use Prim.Native.Nat.{ℕ, _+_, _*_, _-_, _/_, _%_, _≤_, _<_}
+use native.Mathlib.Nat.{pos-of-ne-zero, div-lt-iff-lt-mul, le-of-suc-le-suc, mod-eq-of-lt}
 use native.Mathlib.Numerals.{add-one}
 use native.Mathlib.Omega.{arith}
-use borrow.Author.Tests.{eq-eqb, ne-eqb, eqb-true, eqb-false, le-ltb, ltb-false}
-use lib.Dec.{eqb}
-use lib.ListN.{length, getD, take, drop, take-append-drop}
-use lib.Seq.{take-suc, take-all}
+use borrow.Author.Tests.{eq-eqb, ne-eqb, eqb-true, eqb-false, lt-ltb, le-ltb, ltb-true, ltb-false}
+use lib.Dec.{eqb, ltb}
+use lib.ListN.{length, getD, take, drop, take-append-drop, drop-of-length-le}
+use lib.Seq.{take-suc, take-all, length-take-le}
+use Rattle.runs.specs.Runs.{over}
+use Rattle.runs.proofs.Filling.{Filled, done-front}
 use Rattle.runs.proofs.Laws.{split, neither}
 use Rattle.reading.specs.Heard.{Heard}
 use Rattle.reading.specs.Totals.{totalOf}
 use Rattle.reading.proofs.Totals.{total-joined, total-more}
 use Rattle.figures.specs.declared.Counts.{Counts}
-use Rattle.figures.specs.Figures.{countsOf, perMillion, rowOf, above, tooMany, Small, oneOf, noCounts, plusOf}
-use Rattle.figures.specs.Sheets.{sumOf}
+use Rattle.figures.specs.Code.{noCounts, oneOf, Small, capOf, capped, heldRow}
+use Rattle.figures.specs.Figures.{countsOf, perMillion, rowOf, above, tooMany, plusOf}
+use Rattle.figures.specs.Sheets.{sumOf, unlike}
 
 -- two counts that agree in each of the nine
 pub same-counts : {a b : Counts} → a .sound ≡ b .sound → a .missing ≡ b .missing → a .«refused_8» ≡ b .«refused_8»
@@ -156,13 +159,6 @@ pub many-second : (a b : Counts) → tooMany b ≡ true → tooMany (plusOf a b)
 many-second a b e =
     split (tooMany (plusOf a b)) (λ so. so) (λ not-so. absurd (true≢false (sym e ∙ few-second a b not-so)))
 
--- at most all are missing
-pub million-to : (sound missing : ℕ) → (sound + missing ≡ 0 → ⊥) → missing * 1000000 / (sound + missing) ≤ 1000000
-million-to sound missing some =
-    let pos : 0 < sound + missing = pos-of-ne-zero some in
-    let below : missing * 1000000 < 1000001 * (sound + missing) = omega (arith, pos) in
-    le-of-suc-le-suc (div-lt-iff-lt-mul pos .1 below)
-
 -- lengths up to a place, and the rest
 pub sum-split : (lengths : List ℕ) (i : ℕ) → sumOf (take i lengths) + sumOf (drop i lengths) ≡ sumOf lengths
 sum-split lengths i =
@@ -187,18 +183,161 @@ sum-all lengths i left {octets} all so-far =
     (λ e. e ∙ sym (eq-eqb (sumOf lengths) octets (omega (arith, sum, eqb-true left 0 e))))
     (λ e. e ∙ sym (ne-eqb (sumOf lengths) octets (λ same. eqb-false left 0 e (omega (arith, sum, same)))))
 
--- a row, by its last number
-pub row-is : (c : Counts) {part : ℕ} → part ≡ perMillion (c .sound) (c .missing)
-    → (c .sound ∷ c .missing ∷ c .«refused_8» ∷ c .«refused_9» ∷ c .«refused_15» ∷ c .«refused_20» ∷ c .«marked_0» ∷ c .«marked_1»
-    ∷ c .«marked_2» ∷ part ∷ [])
-    ≡ rowOf c
-unfolding rowOf
-row-is c e =
-    ap
-    (λ (n : ℕ). c .sound ∷ c .missing ∷ c .«refused_8» ∷ c .«refused_9» ∷ c .«refused_15» ∷ c .«refused_20» ∷ c .«marked_0» ∷ c .«marked_1»
-    ∷ c .«marked_2» ∷ n ∷ [])
-    e
+-- a count that stops at the first number that is too many
+pub cap-more : (a b : ℕ) → capOf (capOf a + b) ≡ capOf (a + b)
+unfolding capOf
+cap-more a b =
+    split (ltb 4294967296 a)
+    (λ t.
+    let many : 4294967296 < a = ltb-true 4294967296 a t in
+    rw (t, lt-ltb 4294967296 (a + b) (omega arith))
+    (split (ltb 4294967296 (4294967296 + b))
+    (λ u. rw u)
+    (λ u. rw u (omega (arith, ltb-false 4294967296 (4294967296 + b) u)))))
+    (λ t. rw t refl)
 
-pub length-row : (c : Counts) → length (rowOf c) ≡ 10
-unfolding rowOf
+pub cap-to : (n : ℕ) → capOf n ≤ 4294967296
+unfolding capOf
+cap-to n =
+    split (ltb 4294967296 n)
+    (λ t. rw t (omega arith))
+    (λ t. rw t (ltb-false 4294967296 n t))
+
+cap-same : (n : ℕ) → n ≤ 4294967296 → capOf n ≡ n
+unfolding capOf
+cap-same n few = rw (le-ltb 4294967296 n few)
+
+cap-above : (n : ℕ) → above (capOf n) ≡ above n
+unfolding capOf
+cap-above n =
+    split (ltb 4294967296 n)
+    (λ t. let many : 4294967296 < n = ltb-true 4294967296 n t in rw (t, lt-ltb 4294967295 n (omega arith)) refl)
+    (λ t. rw t refl)
+
+pub sum-full : (a b : ℕ) → 4294967296 < a → 4294967296 ≡ capOf (a + b)
+unfolding capOf
+sum-full a b many = sym (rw (lt-ltb 4294967296 (a + b) (omega arith)))
+
+pub sum-past : (a b : ℕ) → a ≤ 4294967296 → 4294967296 - a < b → 4294967296 ≡ capOf (a + b)
+unfolding capOf
+sum-past a b few many = sym (rw (lt-ltb 4294967296 (a + b) (omega arith)))
+
+pub sum-fits : (a b : ℕ) → a ≤ 4294967296 → b ≤ 4294967296 - a → a + b ≡ capOf (a + b)
+sum-fits a b few fits = sym (cap-same (a + b) (omega arith))
+
+pub capped-more : (a b : Counts) → capped (plusOf (capped a) b) ≡ capped (plusOf a b)
+unfolding capped
+capped-more a b =
+    same-counts (cap-more (a .sound) _) (cap-more (a .missing) _) (cap-more (a .«refused_8») _) (cap-more (a .«refused_9») _)
+    (cap-more (a .«refused_15») _) (cap-more (a .«refused_20») _) (cap-more (a .«marked_0») _) (cap-more (a .«marked_1») _)
+    (cap-more (a .«marked_2») _)
+
+-- of two sums that stopped
+pub capped-both : (a b : Counts) → capped (plusOf (capped a) (capped b)) ≡ capped (plusOf a b)
+capped-both a b =
+    capped-more a (capped b)
+    ∙ ap capped (plus-either-way a (capped b))
+    ∙ capped-more b a
+    ∙ ap capped (plus-either-way b a)
+
+pub capped-none : capped noCounts ≡ noCounts
+unfolding capped capOf
+capped-none = refl
+
+pub capped-many : (c : Counts) → tooMany (capped c) ≡ tooMany c
+unfolding capped tooMany
+capped-many c =
+    rw (
+      cap-above (c .sound),
+      cap-above (c .missing),
+      cap-above (c .«refused_8»),
+      cap-above (c .«refused_9»),
+      cap-above (c .«refused_15»),
+      cap-above (c .«refused_20»),
+      cap-above (c .«marked_0»),
+      cap-above (c .«marked_1»),
+      cap-above (c .«marked_2»),
+    )
+
+pub capped-small : (c : Counts) → Small c → capped c ≡ c
+unfolding capped
+capped-small c s =
+    same-counts (cap-same _ (omega (arith, s .sound))) (cap-same _ (omega (arith, s .missing))) (cap-same _ (omega (arith, s .refused8)))
+    (cap-same _ (omega (arith, s .refused9))) (cap-same _ (omega (arith, s .refused15))) (cap-same _ (omega (arith, s .refused20)))
+    (cap-same _ (omega (arith, s .marked0))) (cap-same _ (omega (arith, s .marked1))) (cap-same _ (omega (arith, s .marked2)))
+
+-- what a row needs of the counts
+pub capped-row : {c : Counts} (d : Counts) → c ≡ capped d → (c .sound ≤ 4294967296) × (c .missing ≤ 4294967296)
+unfolding capped
+capped-row d is = rw is (cap-to (d .sound), cap-to (d .missing))
+
+-- a row in 32 bits is the row, where none of the nine is too many
+pub length-row : (c : Counts) → length (heldRow c) ≡ 10
+unfolding heldRow rowOf
 length-row c = refl
+
+low : (n : ℕ) → n ≤ 4294967295 → n % 4294967296 ≡ n
+low n few = mod-eq-of-lt (omega arith)
+
+pub row-held : (c : Counts) {per a b d e f g h j k l : ℕ} → per ≡ perMillion (c .sound) (c .missing) → a ≡ c .sound % 4294967296
+    → b ≡ c .missing % 4294967296 → d ≡ c .«refused_8» % 4294967296 → e ≡ c .«refused_9» % 4294967296 → f ≡ c .«refused_15» % 4294967296
+    → g ≡ c .«refused_20» % 4294967296 → h ≡ c .«marked_0» % 4294967296 → j ≡ c .«marked_1» % 4294967296
+    → k ≡ c .«marked_2» % 4294967296 → l ≡ per % 4294967296
+    → (a ∷ b ∷ d ∷ e ∷ f ∷ g ∷ h ∷ j ∷ k ∷ l ∷ []) ≡ heldRow c
+unfolding heldRow rowOf
+row-held c pe ae be de ee fe ge he je ke le i =
+    ae i ∷ be i ∷ de i ∷ ee i ∷ fe i ∷ ge i ∷ he i ∷ je i ∷ ke i ∷ (le ∙ ap (λ (n : ℕ). n % 4294967296) pe) i ∷ []
+
+million-to : (sound missing : ℕ) → perMillion sound missing ≤ 1000000
+unfolding perMillion
+million-to sound missing =
+    split (eqb (sound + missing) 0)
+    (λ t. rw t (omega arith))
+    (λ t.
+    let pos : 0 < sound + missing = pos-of-ne-zero (eqb-false (sound + missing) 0 t) in
+    let below : missing * 1000000 < 1000001 * (sound + missing) = omega (arith, pos) in
+    rw t (le-of-suc-le-suc (div-lt-iff-lt-mul pos .1 below)))
+
+pub row-small : (c : Counts) → Small c → heldRow c ≡ rowOf c
+unfolding heldRow rowOf
+row-small c s =
+    rw (
+      low (c .sound) (s .sound),
+      low (c .missing) (s .missing),
+      low (c .«refused_8») (s .refused8),
+      low (c .«refused_9») (s .refused9),
+      low (c .«refused_15») (s .refused15),
+      low (c .«refused_20») (s .refused20),
+      low (c .«marked_0») (s .marked0),
+      low (c .«marked_1») (s .marked1),
+      low (c .«marked_2») (s .marked2),
+      low (perMillion (c .sound) (c .missing)) (omega (arith, million-to (c .sound) (c .missing))),
+    )
+
+-- the totals of counts that aren't too many
+pub total-row : {counts : Counts} (all : Counts) → counts ≡ capped all → false ≡ tooMany counts → heldRow counts ≡ rowOf all
+total-row {counts} all is few-of =
+    let low-all : tooMany all ≡ false = sym (capped-many all) ∙ ap tooMany (sym is) ∙ sym few-of in
+    let same : counts ≡ all = is ∙ capped-small all (few all low-all) in
+    ap heldRow same ∙ row-small all (few all low-all)
+
+-- 5, by its two parts
+module _ (octets : ℕ) (lengths : List ℕ) (numbers : ℕ) where
+  pub differs : eqb (sumOf lengths) octets ≡ false → true ≡ unlike octets lengths numbers
+  unfolding unlike
+  differs e = sym (rw e)
+
+  pub agrees : eqb (sumOf lengths) octets ≡ true → not (eqb numbers (10 * length lengths)) ≡ unlike octets lengths numbers
+  unfolding unlike
+  agrees e = sym (rw e)
+
+-- a run that was filled from another
+pub copied : (rows held : List ℕ) {now : List ℕ} {i : ℕ} → length rows ≤ length held → Filled now rows 0 (take (length rows) held) i
+    → length rows ≤ i → now ≡ take (length rows) held
+unfolding over
+copied rows held few f all =
+    let size : length (take (length rows) held) ≡ length rows = length-take-le (length rows) held few in
+    let past : drop (length (take (length rows) held)) rows ≡ [] = drop-of-length-le rows (omega (arith, size)) in
+    done-front _ _ f (omega (arith, size, all))
+    ∙ ap (λ (l : List ℕ). take (length rows) held ++ l) past
+    ∙ append-nil (take (length rows) held)

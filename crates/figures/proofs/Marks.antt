@@ -16,19 +16,6 @@ use Rattle.reading.specs.Totals.{totalOf}
 use Rattle.reading.proofs.Totals.{total-joined, total-more}
 use Rattle.figures.specs.Code.{marked}
 
--- one more of a run
-pub marked-more : {i found one : ℕ} (marks : List ℕ) → i < length marks → found ≡ marked 1 (take i marks)
-    → one ≡ cond (eqb (getD marks i 0) 1) 1 0 → found + one ≡ marked 1 (take (i + 1) marks)
-marked-more {i} {found} {one} marks within before here =
-    let next : take (i + 1) marks ≡ take i marks ++ (getD marks i 0 ∷ []) =
-    ap (λ (n : ℕ). take n marks) (add-one i) ∙ take-suc marks i 0 within in
-    ap₂ (λ (a b : ℕ). a + b) before here
-    ∙ sym (ap (marked 1) next ∙ total-more (λ m. cond (eqb m 1) 1 0) (take i marks) (getD marks i 0))
-
-pub marked-all : {i count found : ℕ} (marks : List ℕ) → i ≤ count → count ≤ i → found ≡ marked 1 (take i marks)
-    → found ≡ marked 1 (take count marks)
-marked-all {i} {count} marks a b is = let all : i ≡ count = omega arith in is ∙ ap (λ (n : ℕ). marked 1 (take n marks)) all
-
 one-more : (n k : ℕ) → suc n * k ≡ k + n * k
 one-more n k = omega (arith, suc-mul n k)
 

@@ -2,10 +2,9 @@
 -- Assumes nothing.
 use mathlib.Core.Bool.{Bool, cond, _||_}
 use mathlib.Core.List.{List, [], _∷_}
-use Prim.Native.Nat.{ℕ, _+_, _*_, _/_, _≤_}
+use Prim.Native.Nat.{ℕ, _+_, _*_, _/_}
 use lib.Dec.{eqb, ltb}
-use Rattle.reading.specs.Heard.{Heard, isSound, soundIn, missingIn, refusedWith, markedWith}
-use Rattle.reading.specs.Totals.{countOf}
+use Rattle.reading.specs.Heard.{Heard, soundIn, missingIn, refusedWith, markedWith}
 use Rattle.figures.specs.declared.Counts.{Counts}
 
 -- "the cells sound, missing and refused (by number), and samples marked 0, 1 and 2"; 8, 9, 15 and 20 are all that a fresh receiver
@@ -44,48 +43,7 @@ tooMany c =
     above (c .sound) || (above (c .missing) || (above (c .«refused_8») || (above (c .«refused_9») || (above (c .«refused_15»)
     || (above (c .«refused_20») || (above (c .«marked_0») || (above (c .«marked_1») || above (c .«marked_2»))))))))
 
--- none of the nine is
-pub record Small (c : Counts) : Type 0 where
-  pub sound : c .sound ≤ 4294967295
-  pub missing : c .missing ≤ 4294967295
-  pub refused8 : c .«refused_8» ≤ 4294967295
-  pub refused9 : c .«refused_9» ≤ 4294967295
-  pub refused15 : c .«refused_15» ≤ 4294967295
-  pub refused20 : c .«refused_20» ≤ 4294967295
-  pub marked0 : c .«marked_0» ≤ 4294967295
-  pub marked1 : c .«marked_1» ≤ 4294967295
-  pub marked2 : c .«marked_2» ≤ 4294967295
-
--- what one record counts
-abbrev pub oneOf : Heard → Counts
-oneOf h =
-    record {
-      sound = cond (isSound h) 1 0;
-      missing = h .answer .missing;
-      «refused_8» = cond (eqb (h .answer .refusal) 8) 1 0;
-      «refused_9» = cond (eqb (h .answer .refusal) 9) 1 0;
-      «refused_15» = cond (eqb (h .answer .refusal) 15) 1 0;
-      «refused_20» = cond (eqb (h .answer .refusal) 20) 1 0;
-      «marked_0» = countOf (λ m. eqb m 0) (h .marks);
-      «marked_1» = countOf (λ m. eqb m 1) (h .marks);
-      «marked_2» = countOf (λ m. eqb m 2) (h .marks);
-    }
-
--- nothing counted, and the sums of two
-abbrev pub noCounts : Counts
-noCounts =
-    record {
-      sound = 0;
-      missing = 0;
-      «refused_8» = 0;
-      «refused_9» = 0;
-      «refused_15» = 0;
-      «refused_20» = 0;
-      «marked_0» = 0;
-      «marked_1» = 0;
-      «marked_2» = 0;
-    }
-
+-- the sums of two
 abbrev pub plusOf : Counts → Counts → Counts
 plusOf a b =
     record {

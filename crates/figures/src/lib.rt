@@ -1,19 +1,20 @@
-// A quarter's figures, request 3: one sheet over many logs.
-use log::Header;
+// A quarter's figures, request 3: one sheet over many logs, and the figures of one log that is taken in pieces.
+use pieces::Standing;
+use receiver::Receiver;
 ghost use mathlib.Core.Path.{_≡_};
-ghost use Prim.Native.Nat.{_+_, _≤_};
+ghost use Prim.Native.Nat.{_*_, _≤_};
 ghost use lib.Dec.{eqb};
 ghost use lib.ListN.{length};
-ghost use Rattle.runs.specs.Runs.{written};
-ghost use Rattle.log.specs.Records.{headerOf};
-ghost use Rattle.figures.specs.Code.{Tallies};
-ghost use Rattle.figures.specs.Figures.{countsOf, perMillion, rowOf, Small};
-ghost use Rattle.figures.specs.Sheets.{heardIn, sumOf};
+ghost use Rattle.figures.specs.Code.{capped, Fills};
+ghost use Rattle.figures.specs.Figures.{countsOf};
+ghost use Rattle.figures.specs.Sheets.{heardIn, sumOf, unlike, refusedBy, Sheets};
+ghost use Rattle.figures.specs.Taking.{startTally, Takes};
 
-mod record; // record.rt: what one record counts
+mod record; // record.rt: what the parts of a log count
+mod rows; // rows.rt: the ten numbers of a row
 mod sums; // sums.rt: counts added up
 
-// What is counted of records.
+// What is counted of records, each number no further than 4,294,967,296, which is too many.
 pub struct Counts {
     pub sound: u64,
     pub missing: u64,
@@ -26,10 +27,16 @@ pub struct Counts {
     pub marked_2: u64,
 }
 
-// Whether one of the counts is above 4,294,967,295; where none is, all of them.
-struct Tallied {
-    pub many: bool,
+// The receiver's state, and what was counted so far.
+pub struct Noted {
+    pub state: Receiver,
     pub counts: Counts,
+}
+
+// The figures of a log under way: where it stands, and what was counted.
+pub struct Tally {
+    pub standing: Standing,
+    pub noted: Noted,
 }
 
 // The refusal (0: none), and the row of all logs together, which is zeros where it is refused.
@@ -38,45 +45,44 @@ pub struct Answer {
     pub totals: [u32; 10],
 }
 
-// Counts the records behind an accepted header, up to the first framing fault or the end, or until one count is too many.
-fn records(log: &[u8], header: Header) -> Tallied
-    requires { ⌜ (header ≡ headerOf (now log)) × (header .refusal ≡ 0) ⌝ }
-    ensures { λ r. ⌜ Tallies (countsOf (heardIn (now (log .entry)))) r ⌝ }
+// The figures of a log before its first octet.
+pub fn start() -> Tally
+    ensures { λ r. ⌜ r ≡ startTally ⌝ }
 {
-    let opened = receiver::opened(header.format, header.channels, header.order);
-    let mut state = opened.state;
-    let mut place = header.place;
-    let mut counts = sums::none();
-    let mut here = log::read_record(log, place);
-    while here.what == 1 {
-        let one = record::heard(state, log::read_cell(log, place), here.indication);
-        counts = sums::plus(counts, one.counts);
-        if sums::too_many(counts) {
-            return Tallied { many: true, counts };
-        }
-        state = one.state;
-        place = here.next;
-        here = log::read_record(log, place);
+    let standing = pieces::start(18446744073709551615);
+    let opened = receiver::opened(0, 0, 0);
+    let state = opened.state;
+    let counts = sums::none();
+    let noted = Noted { state, counts };
+    Tally { standing, noted }
+}
+
+// Takes a piece of the log and counts the records that it makes whole. The octets of a record that isn't whole yet are held in
+// `held`. Behind a fault nothing is read.
+pub fn take(tally: Tally, held: &mut [u8; 49], piece: &[u8]) -> Tally
+    ensures { λ r. ⌜ Takes tally (now (held .entry)) (now (piece .entry)) r (now (held .exit)) ⌝ }
+{
+    pieces::sized(*held);
+    let mut standing = tally.standing;
+    let mut noted = tally.noted;
+    let mut place = 0;
+    while place < piece.len() {
+        let found = pieces::next(standing, held, piece, place);
+        noted = record::step(noted, found, held, piece, place);
+        standing = found.standing;
+        place = found.next;
     }
-    Tallied {
-        many: false,
-        counts,
-    }
+    Tally { standing, noted }
 }
 
 // Counts the records of one log.
-fn of_log(log: &[u8]) -> Tallied
-    ensures { λ r. ⌜ Tallies (countsOf (heardIn (now (log .entry)))) r ⌝ }
+fn of_log(log: &[u8]) -> Counts
+    ensures { λ r. ⌜ r ≡ capped (countsOf (heardIn (now (log .entry)))) ⌝ }
 {
-    let header = log::read_header(log);
-    if header.refusal != 0 {
-        let counts = sums::none();
-        return Tallied {
-            many: false,
-            counts,
-        };
-    }
-    records(log, header)
+    let mut held = [0u8; 49];
+    let tally = take(start(), &mut held, log);
+    let noted = tally.noted;
+    noted.counts
 }
 
 // Whether the lengths add up to so many octets. They are taken off what is left, so that no sum can wrap.
@@ -96,46 +102,62 @@ fn add_up(lengths: &[u64], octets: u64) -> bool
     left == 0
 }
 
-// The missing cells per million of sound and missing ones.
-fn per_million(sound: u64, missing: u64) -> u64
-    requires { ⌜ (sound ≤ 4294967295) × (missing ≤ 4294967295) ⌝ }
-    ensures { λ r. ⌜ (r ≡ perMillion sound missing) × (r ≤ 1000000) ⌝ }
+// 5, the lengths or the rows. There are at most 4,096 logs.
+fn differ(octets: usize, lengths: &[u64], numbers: usize) -> bool
+    requires { ⌜ length (now lengths) ≤ 4096 ⌝ }
+    ensures { λ r. ⌜ r ≡ unlike octets (now (lengths .entry)) numbers ⌝ }
 {
-    let sum = sound + missing;
-    if sum == 0 {
-        return 0;
+    if !add_up(lengths, octets as u64) {
+        return true;
     }
-    missing * 1000000 / sum
+    numbers != 10 * lengths.len()
 }
 
-// The ten numbers of a row.
-fn row_of(c: Counts) -> [u32; 10]
-    requires { ⌜ Small c ⌝ }
-    ensures { λ r. ⌜ r ≡ rowOf c ⌝ }
+// Counts log after log and writes each one's row.
+fn fill(octets: &[u8], lengths: &[u64], rows: &mut [u32]) -> Counts
+    requires { ⌜ (sumOf (now lengths) ≡ length (now octets)) × (10 * length (now lengths) ≤ length (now rows)) ⌝ }
+    ensures { λ r. ⌜ Fills (now (octets .entry)) (now (lengths .entry)) (now (rows .entry)) r (now (rows .exit)) ⌝ }
 {
-    let part = per_million(c.sound, c.missing);
-    [
-        c.sound as u32,
-        c.missing as u32,
-        c.refused_8 as u32,
-        c.refused_9 as u32,
-        c.refused_15 as u32,
-        c.refused_20 as u32,
-        c.marked_0 as u32,
-        c.marked_1 as u32,
-        c.marked_2 as u32,
-        part as u32,
-    ]
-}
-
-// Writes a row from a place on.
-fn put(rows: &mut [u32], at: usize, row: [u32; 10])
-    requires { ⌜ (at + 10 ≤ length (now rows)) × (length row ≡ 10) ⌝ }
-    ensures { λ _. ⌜ now (rows .exit) ≡ written (now (rows .entry)) at row ⌝ }
-{
+    let mut totals = sums::none();
+    let mut at = 0;
     let mut i = 0;
-    while i < 10 {
-        rows[at + i] = row[i];
+    while i < lengths.len() {
+        let end = at + lengths[i] as usize;
+        let one = of_log(&octets[at..end]);
+        totals = sums::plus(totals, one);
+        rows::put(rows, 10 * i, rows::row_of(one));
+        at = end;
         i += 1;
     }
+    totals
+}
+
+fn refused(refusal: u8) -> Answer
+    ensures { λ r. ⌜ r ≡ refusedBy refusal ⌝ }
+{
+    Answer {
+        refusal,
+        totals: [0u32; 10],
+    }
+}
+
+// One sheet over the logs that lie end to end in `octets`: a row of ten numbers for each, and one for all together. The rows are
+// held until 19 is ruled out, so that a refusal writes nothing.
+pub fn sheet(octets: &[u8], lengths: &[u64], rows: &mut [u32]) -> Answer
+    ensures { λ r. ⌜ Sheets (now (octets .entry)) (now (lengths .entry)) (now (rows .entry)) r (now (rows .exit)) ⌝ }
+{
+    if 4096 < lengths.len() {
+        return refused(18);
+    }
+    if differ(octets.len(), lengths, rows.len()) {
+        return refused(5);
+    }
+    let mut held = [0u32; 40960];
+    let counts = fill(octets, lengths, &mut held);
+    if sums::too_many(counts) {
+        return refused(19);
+    }
+    rows::copy(rows, &held);
+    let totals = rows::row_of(counts);
+    Answer { refusal: 0, totals }
 }

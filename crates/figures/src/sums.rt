@@ -1,7 +1,9 @@
 // Counts added up.
 use crate::Counts;
 ghost use mathlib.Core.Path.{_≡_};
-ghost use Rattle.figures.specs.Figures.{noCounts, plusOf, tooMany, Small};
+ghost use Prim.Native.Nat.{_+_};
+ghost use Rattle.figures.specs.Code.{noCounts, capOf, capped};
+ghost use Rattle.figures.specs.Figures.{plusOf, tooMany};
 
 pub(crate) fn none() -> Counts
     ensures { λ r. ⌜ r ≡ noCounts ⌝ }
@@ -19,19 +21,32 @@ pub(crate) fn none() -> Counts
     }
 }
 
-pub(crate) fn plus(a: Counts, b: Counts) -> Counts
-    requires { ⌜ Small a × Small b ⌝ }
-    ensures { λ r. ⌜ r ≡ plusOf a b ⌝ }
+// Two numbers added up, as far as it matters.
+fn sum(a: u64, b: u64) -> u64
+    ensures { λ r. ⌜ r ≡ capOf (a + b) ⌝ }
 {
-    let sound = a.sound + b.sound;
-    let missing = a.missing + b.missing;
-    let refused_8 = a.refused_8 + b.refused_8;
-    let refused_9 = a.refused_9 + b.refused_9;
-    let refused_15 = a.refused_15 + b.refused_15;
-    let refused_20 = a.refused_20 + b.refused_20;
-    let marked_0 = a.marked_0 + b.marked_0;
-    let marked_1 = a.marked_1 + b.marked_1;
-    let marked_2 = a.marked_2 + b.marked_2;
+    if 4294967296 < a {
+        return 4294967296;
+    }
+    let room = 4294967296 - a;
+    if room < b {
+        return 4294967296;
+    }
+    a + b
+}
+
+pub(crate) fn plus(a: Counts, b: Counts) -> Counts
+    ensures { λ r. ⌜ r ≡ capped (plusOf a b) ⌝ }
+{
+    let sound = sum(a.sound, b.sound);
+    let missing = sum(a.missing, b.missing);
+    let refused_8 = sum(a.refused_8, b.refused_8);
+    let refused_9 = sum(a.refused_9, b.refused_9);
+    let refused_15 = sum(a.refused_15, b.refused_15);
+    let refused_20 = sum(a.refused_20, b.refused_20);
+    let marked_0 = sum(a.marked_0, b.marked_0);
+    let marked_1 = sum(a.marked_1, b.marked_1);
+    let marked_2 = sum(a.marked_2, b.marked_2);
     Counts {
         sound,
         missing,

@@ -1,12 +1,12 @@
--- `figures::put` meets its contract. The loop: the numbers before this one are written. The measure is what is left.
+-- `figures::rows::put` meets its contract. The loop: the numbers before this one are written. The measure is what is left.
 -- Assumes nothing.
 use mathlib.Core.Path.{_≡_, refl}
 use Prim.Native.Nat.{_-_}
 use native.Mathlib.Omega.{arith}
 use borrow.Author.Needs.{needs}
 use Rattle.runs.proofs.Filling.{Filled, begun, turned, done}
-use Rattle.figures.proofs.put.Statement.{statement}
-use Rattle.figures.proofs.put.Tie as tie
+use Rattle.figures.proofs.rows.put.Statement.{statement}
+use Rattle.figures.proofs.rows.put.Tie as tie
 
 abbrev Inv-loop : tie.InvT-loop
 Inv-loop rows₀ at row i₀ rows i = Filled rows rows₀ at row i
