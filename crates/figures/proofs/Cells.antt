@@ -4,6 +4,7 @@ use mathlib.Core.Bool.{Bool, true, false, cond}
 use mathlib.Core.List.{List, [], _++_}
 use mathlib.Core.Path.{_≡_, refl, sym, _∙_, ap}
 use Prim.Native.Nat.{ℕ, _+_, _*_, _-_, _%_, _≤_}
+use native.Mathlib.Nat.{mul-le-mul-right}
 use native.Mathlib.Omega.{arith}
 use borrow.Author.Tests.{eq-eqb, ne-eqb}
 use lib.Dec.{eqb}
@@ -102,7 +103,7 @@ module _ (st : Receiver) (cell : List ℕ) (indication : Bool) {got : Received} 
     unfolding judgedOf
     missing-is = ap (λ (r : Received). r .missing) judged ∙ answer-missing st cell indication 720 720 720 no-refusal
 
-    pub missing-to : got .missing ≤ 14
+    missing-to : got .missing ≤ 14
     missing-to = omega (arith, missing-is, gap-to st cell)
 
     marks-are : h .marks ≡ replicate ((gapOf st cell - 1) * usedNow st) 2 ++ ownMarks st cell
@@ -160,6 +161,9 @@ module _ (st : Receiver) (cell : List ℕ) (indication : Bool) {got : Received} 
 
       pub own-to : own .sound + own .damaged ≤ 48
       own-to = omega (arith, used-is, used-to)
+
+      pub own-few : got .missing * (own .sound + own .damaged) ≤ 672
+      own-few = omega (arith, own-to, mul-le-mul-right (own .sound + own .damaged) missing-to)
 
       missing-here : got .missing * (own .sound + own .damaged) ≡ (gapOf st cell - 1) * usedNow st
       missing-here = rw (missing-is, used-is) refl

@@ -1,6 +1,6 @@
 -- Laws of counts: sums of them, and counts that are too many.
 -- Assumes nothing.
-use mathlib.Core.Bool.{true, false, not, true≢false}
+use mathlib.Core.Bool.{Bool, true, false, not, true≢false}
 use mathlib.Core.List.{List, [], _∷_, _++_, append-nil}
 use mathlib.Core.Path.{_≡_, refl, sym, _∙_, ap}
 use Prim.Native.Nat.{ℕ, _+_, _*_, _-_, _/_, _%_, _≤_, _<_}
@@ -323,13 +323,14 @@ total-row {counts} all is few-of =
 
 -- 5, by its two parts
 module _ (octets : ℕ) (lengths : List ℕ) (numbers : ℕ) where
-  pub differs : eqb (sumOf lengths) octets ≡ false → true ≡ unlike octets lengths numbers
+  pub differs : {same : Bool} → same ≡ eqb (sumOf lengths) octets → not same ≡ true → true ≡ unlike octets lengths numbers
   unfolding unlike
-  differs e = sym (rw e)
+  differs e t = sym (rw (← e, t) refl)
 
-  pub agrees : eqb (sumOf lengths) octets ≡ true → not (eqb numbers (10 * length lengths)) ≡ unlike octets lengths numbers
+  pub agrees : {same : Bool} → same ≡ eqb (sumOf lengths) octets → not same ≡ false
+      → not (eqb numbers (10 * length lengths)) ≡ unlike octets lengths numbers
   unfolding unlike
-  agrees e = sym (rw e)
+  agrees e t = sym (rw (← e, t) refl)
 
 -- a run that was filled from another
 pub copied : (rows held : List ℕ) {now : List ℕ} {i : ℕ} → length rows ≤ length held → Filled now rows 0 (take (length rows) held) i
@@ -337,7 +338,8 @@ pub copied : (rows held : List ℕ) {now : List ℕ} {i : ℕ} → length rows �
 unfolding over
 copied rows held few f all =
     let size : length (take (length rows) held) ≡ length rows = length-take-le (length rows) held few in
-    let past : drop (length (take (length rows) held)) rows ≡ [] = drop-of-length-le rows (omega (arith, size)) in
+    let past : drop (length (take (length rows) held)) rows ≡ [] =
+    drop-of-length-le rows {i = length (take (length rows) held)} (omega (arith, size)) in
     done-front _ _ f (omega (arith, size, all))
     ∙ ap (λ (l : List ℕ). take (length rows) held ++ l) past
     ∙ append-nil (take (length rows) held)

@@ -1,9 +1,8 @@
 -- `figures::record::heard` meets its contract.: a law for each return.
 -- Assumes nothing.
 use native.Mathlib.Omega.{arith}
-use native.Mathlib.Nat.{mul-le-mul-right}
 use borrow.Author.Needs.{needs}
-use Rattle.figures.proofs.Cells.{refused-notes, own-to, missing-to, taken-notes}
+use Rattle.figures.proofs.Cells.{refused-notes, own-to, own-few, taken-notes}
 use Rattle.figures.proofs.record.heard.Statement.{statement}
 use Rattle.figures.proofs.record.heard.Tie as tie
 
@@ -17,10 +16,7 @@ add-used : tie.Need-add-used
 add-used c = omega (arith, own-to _ _ _ (c .before .before .before .judged .ensures) (c .before .if1 .left) (c .marked .ensures))
 
 mul-marked-2 : tie.Need-mul-marked-2
-mul-marked-2 c =
-    let judged = c .before .before .before .before .judged .ensures in
-    let taken = c .before .before .if1 .left in
-    omega (arith, own-to _ _ _ judged taken (c .before .marked .ensures), mul-le-mul-right _ (missing-to _ _ _ judged taken))
+mul-marked-2 c = omega (arith, own-few _ _ _ (c .before .before .before .before .judged .ensures) (c .before .before .if1 .left) (c .before .marked .ensures))
 
 returns-2 : tie.Need-returns-2
 returns-2 c = taken-notes _ _ _ (c .before .before .before .before .judged .ensures) (c .before .before .if1 .left) (c .before .marked .ensures)
