@@ -3,16 +3,18 @@
 use mathlib.Core.Bool.{true, false, cond, not, _||_}
 use mathlib.Core.List.{List, [], _∷_, _++_, append-assoc}
 use mathlib.Core.Path.{_≡_, refl, sym, _∙_, ap, ap₂}
-use Prim.Native.Nat.{ℕ, zero, suc, _+_, _*_, _-_, _≤_}
+use Prim.Native.Nat.{ℕ, zero, suc, _+_, _*_, _-_, _≤_, _<_}
 use native.Mathlib.Omega.{arith}
 use borrow.Author.Tests.{eq-eqb, le-ltb, ltb-false, eqb-true, not-false}
 use lib.Dec.{eqb, ltb}
-use lib.ListN.{length, take, drop, length-append, length-drop}
+use lib.ListN.{length, getD, take, drop, length-append, length-drop}
 use lib.Seq.{take-append-le, drop-append-le}
 use Rattle.runs.proofs.Laws.{past, neither}
 use Rattle.reading.specs.Heard.{Heard}
 use Rattle.reading.specs.Totals.{totalOf}
 use Rattle.reading.proofs.Totals.{total-joined}
+use Rattle.figures.specs.declared.Answer.{Answer}
+use Rattle.figures.specs.declared.Counts.{Counts}
 use Rattle.figures.specs.Figures.{countsOf, rowOf, tooMany, plusOf}
 use Rattle.figures.specs.Sheets.{
   logsOf,
@@ -23,7 +25,10 @@ use Rattle.figures.specs.Sheets.{
   sumOf,
   unlike,
   sheetRefusal,
+  sheetOf,
+  Sheets,
 }
+use Rattle.figures.proofs.Demand1.{demand-1-sheet}
 use Rattle.figures.proofs.Laws.{counts-joined, few-first, few-second}
 
 -- two lists of logs joined
@@ -130,3 +135,63 @@ module _ (octets more lengths others : List ℕ) (first : sumOf lengths ≡ leng
           rows-are = refl;
           few = few-second _ _ sum-few;
         })
+
+-- a number of the row of all together, the last one apart
+total-adds : (a b : Counts) (k : ℕ) → k < 9 → getD (rowOf (plusOf a b)) k 0 ≡ getD (rowOf a) k 0 + getD (rowOf b) k 0
+unfolding rowOf
+total-adds a b zero h = refl
+total-adds a b (suc zero) h = refl
+total-adds a b (suc (suc zero)) h = refl
+total-adds a b (suc (suc (suc zero))) h = refl
+total-adds a b (suc (suc (suc (suc zero)))) h = refl
+total-adds a b (suc (suc (suc (suc (suc zero))))) h = refl
+total-adds a b (suc (suc (suc (suc (suc (suc zero)))))) h = refl
+total-adds a b (suc (suc (suc (suc (suc (suc (suc zero))))))) h = refl
+total-adds a b (suc (suc (suc (suc (suc (suc (suc (suc zero)))))))) h = refl
+total-adds a b (suc (suc (suc (suc (suc (suc (suc (suc (suc n))))))))) h = absurd (omega arith)
+
+-- what a sheet that isn't refused says
+module _ {octets lengths rows : List ℕ} {answer : Answer} {rows₁ : List ℕ} (s : Sheets octets lengths rows answer rows₁) where
+  pub totals-said : sheetRefusal octets lengths (length rows) ≡ 0 → answer .totals ≡ rowOf (totalsOf (logsOf octets lengths))
+  unfolding sheetOf
+  totals-said none =
+      let said : answer ≡ record { refusal = 0; totals = rowOf (totalsOf (logsOf octets lengths)) } =
+      s .answered ∙ rw (eq-eqb (sheetRefusal octets lengths (length rows)) 0 none) in
+      ap (λ (a : Answer). a .totals) said
+
+  pub rows-said : sheetRefusal octets lengths (length rows) ≡ 0 → rows₁ ≡ rowsOf (logsOf octets lengths)
+  rows-said none = s .rows-after ∙ rw (eq-eqb (sheetRefusal octets lengths (length rows)) 0 none)
+
+-- over every three calls: where the sheet of the joined list isn't refused, neither of the two is, its rows are theirs, and its totals
+-- are the sums of theirs, "the per-million line apart"
+pub record AddUp (a b joined : Answer) (rows-a rows-b rows-joined : List ℕ) : Type 0 where
+  pub first-taken : a .refusal ≡ 0
+  pub second-taken : b .refusal ≡ 0
+  pub rows : rows-joined ≡ rows-a ++ rows-b
+  pub totals : (k : ℕ) → k < 9 → getD (joined .totals) k 0 ≡ getD (a .totals) k 0 + getD (b .totals) k 0
+
+pub sheets-add-up : {octets more lengths others rows rows′ rows″ rows-a rows-b rows-joined : List ℕ} {a b joined : Answer}
+    → sumOf lengths ≡ length octets → length rows ≡ 10 * length lengths → length rows′ ≡ 10 * length others
+    → Sheets octets lengths rows a rows-a → Sheets more others rows′ b rows-b
+    → Sheets (octets ++ more) (lengths ++ others) rows″ joined rows-joined → joined .refusal ≡ 0
+    → AddUp a b joined rows-a rows-b rows-joined
+sheets-add-up {octets} {more} {lengths} {others} {rows} {rows′} {rows″} {a = a} {b = b} {joined = joined} first long long′ sa sb sj none =
+    let taken : sheetRefusal (octets ++ more) (lengths ++ others) (length rows″) ≡ 0 = sym (demand-1-sheet _ _ _ _ _ sj .0) ∙ none in
+    let size : length rows″ ≡ 10 * length (lengths ++ others) = given (octets ++ more) (lengths ++ others) (length rows″) taken .rows-are in
+    let taken′ : sheetRefusal (octets ++ more) (lengths ++ others) (10 * length (lengths ++ others)) ≡ 0 =
+    ap (sheetRefusal (octets ++ more) (lengths ++ others)) (sym size) ∙ taken in
+    let a-taken : sheetRefusal octets lengths (length rows) ≡ 0 =
+    ap (sheetRefusal octets lengths) long ∙ first-taken octets more lengths others first taken′ in
+    let b-taken : sheetRefusal more others (length rows′) ≡ 0 =
+    ap (sheetRefusal more others) long′ ∙ second-taken octets more lengths others first taken′ in
+    record {
+      first-taken = demand-1-sheet _ _ _ _ _ sa .0 ∙ a-taken;
+      second-taken = demand-1-sheet _ _ _ _ _ sb .0 ∙ b-taken;
+      rows = rows-said sj taken
+          ∙ adds-rows octets more lengths others first taken′
+          ∙ sym (ap₂ (λ (x y : List ℕ). x ++ y) (rows-said sa a-taken) (rows-said sb b-taken));
+      totals = λ k h.
+          ap (λ (r : List ℕ). getD r k 0) (totals-said sj taken ∙ ap rowOf (adds-totals octets more lengths others first taken′))
+          ∙ total-adds (totalsOf (logsOf octets lengths)) (totalsOf (logsOf more others)) k h
+          ∙ sym (ap₂ (λ (x y : List ℕ). getD x k 0 + getD y k 0) (totals-said sa a-taken) (totals-said sb b-taken));
+    }

@@ -1,8 +1,10 @@
 pub mod Adds
 pub mod Cells
+pub mod Demand1
 pub mod Going
 pub mod Laws
 pub mod Marks
 pub mod One
 pub mod Refusals
 pub mod Walks
+pub mod Wrong
