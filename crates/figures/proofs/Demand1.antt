@@ -30,5 +30,5 @@ demand-1-sheet octets lengths rows answer rows₁ s =
       λ some.
           let test : eqb (sheetRefusal octets lengths (length rows)) 0 ≡ false = ne-eqb _ 0 (λ e. some (same ∙ e)) in
           let said : answer ≡ refusedBy (sheetRefusal octets lengths (length rows)) = s .answered ∙ rw test in
-      (ap (λ (a : Answer). a .totals) said, s .rows-after ∙ rw test),
+          (ap (λ (a : Answer). a .totals) said, s .rows-after ∙ rw test),
     )

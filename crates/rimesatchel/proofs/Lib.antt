@@ -8,5 +8,7 @@ pub mod NetworkOne
 pub mod NetworkWrong
 pub mod PlansOne
 pub mod PlansWrong
+pub mod SheetsOne
+pub mod SheetsWrong
 pub mod StatusesOne
 pub mod Wrong
