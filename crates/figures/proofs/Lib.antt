@@ -4,6 +4,7 @@ pub mod Demand1
 pub mod Going
 pub mod Laws
 pub mod Marks
+pub mod Most
 pub mod One
 pub mod Refusals
 pub mod Walks
