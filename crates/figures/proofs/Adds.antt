@@ -1,4 +1,5 @@
--- Sheets add up: "sheets of two lists joined add up to the sheet of the joined list, if that isn't refused, the per-million line apart".
+-- Sheets add up: "sheets of two lists joined add up to the sheet of the joined list, if that isn't refused, the per-million
+-- line apart".
 -- Assumes nothing.
 use mathlib.Core.Bool.{true, false, cond, not, _||_}
 use mathlib.Core.List.{List, [], _∷_, _++_, append-assoc}
@@ -36,7 +37,8 @@ pub heard-over-joined : (a b : List (List ℕ)) → heardOver (a ++ b) ≡ heard
 unfolding heardOver
 heard-over-joined [] b = refl
 heard-over-joined (log ∷ a) b =
-    ap (λ (hs : List Heard). heardIn log ++ hs) (heard-over-joined a b) ∙ sym (append-assoc (heardIn log) (heardOver a) (heardOver b))
+    ap (λ (hs : List Heard). heardIn log ++ hs) (heard-over-joined a b)
+    ∙ sym (append-assoc (heardIn log) (heardOver a) (heardOver b))
 
 pub rows-joined : (a b : List (List ℕ)) → rowsOf (a ++ b) ≡ rowsOf a ++ rowsOf b
 unfolding rowsOf
@@ -60,7 +62,8 @@ logs-joined [] others octets more e = rw (no-octets octets e) refl
 logs-joined (n ∷ ns) others octets more e =
     let within : n ≤ length octets = omega (arith, e) in
     let left : sumOf ns ≡ length (drop n octets) = omega (arith, e, length-drop n octets) in
-    ap₂ (λ (log : List ℕ) (rest : List ℕ). log ∷ logsOf rest (ns ++ others)) (take-append-le n octets more within) (drop-append-le n octets more within)
+    ap₂ (λ (log : List ℕ) (rest : List ℕ). log ∷ logsOf rest (ns ++ others)) (take-append-le n octets more within)
+    (drop-append-le n octets more within)
     ∙ ap (λ (logs : List (List ℕ)). take n octets ∷ logs) (logs-joined ns others (drop n octets) more left)
 
 -- what is known of a sheet that isn't refused
@@ -100,7 +103,8 @@ module _ (octets more lengths others : List ℕ) (first : sumOf lengths ≡ leng
     logs : logsOf (octets ++ more) (lengths ++ others) ≡ logsOf octets lengths ++ logsOf more others
     logs = logs-joined lengths others octets more first
 
-    pub adds-rows : rowsOf (logsOf (octets ++ more) (lengths ++ others)) ≡ rowsOf (logsOf octets lengths) ++ rowsOf (logsOf more others)
+    pub adds-rows : rowsOf (logsOf (octets ++ more) (lengths ++ others)) ≡ rowsOf (logsOf octets lengths) ++ rowsOf
+        (logsOf more others)
     adds-rows = ap rowsOf logs ∙ rows-joined (logsOf octets lengths) (logsOf more others)
 
     pub adds-totals : totalsOf (logsOf (octets ++ more) (lengths ++ others))
@@ -162,7 +166,8 @@ module _ {octets lengths rows : List ℕ} {answer : Answer} {rows₁ : List ℕ}
   pub rows-said : sheetRefusal octets lengths (length rows) ≡ 0 → rows₁ ≡ rowsOf (logsOf octets lengths)
   rows-said none = s .rows-after ∙ rw (eq-eqb (sheetRefusal octets lengths (length rows)) 0 none)
 
--- over every three calls: where the sheet of the joined list isn't refused, neither of the two is, its rows are theirs, and its totals
+-- over every three calls: where the sheet of the joined list isn't refused, neither of the two is, its rows are theirs, and
+-- its totals
 -- are the sums of theirs, "the per-million line apart"
 pub record AddUp (a b joined : Answer) (rows-a rows-b rows-joined : List ℕ) : Type 0 where
   pub first-taken : a .refusal ≡ 0
@@ -175,9 +180,12 @@ pub sheets-add-up : {octets more lengths others rows rows′ rows″ rows-a rows
     → Sheets octets lengths rows a rows-a → Sheets more others rows′ b rows-b
     → Sheets (octets ++ more) (lengths ++ others) rows″ joined rows-joined → joined .refusal ≡ 0
     → AddUp a b joined rows-a rows-b rows-joined
-sheets-add-up {octets} {more} {lengths} {others} {rows} {rows′} {rows″} {a = a} {b = b} {joined = joined} first long long′ sa sb sj none =
-    let taken : sheetRefusal (octets ++ more) (lengths ++ others) (length rows″) ≡ 0 = sym (demand-1-sheet _ _ _ _ _ sj .0) ∙ none in
-    let size : length rows″ ≡ 10 * length (lengths ++ others) = given (octets ++ more) (lengths ++ others) (length rows″) taken .rows-are in
+sheets-add-up {octets} {more} {lengths} {others} {rows} {rows′} {rows″} {a = a} {b = b} {joined = joined} first long long′ sa
+    sb sj none =
+    let taken : sheetRefusal (octets ++ more) (lengths ++ others) (length rows″) ≡ 0 = sym (demand-1-sheet _ _ _ _ _ sj .0)
+    ∙ none in
+    let size : length rows″ ≡ 10 * length (lengths ++ others) = given (octets ++ more) (lengths ++ others) (length rows″)
+    taken .rows-are in
     let taken′ : sheetRefusal (octets ++ more) (lengths ++ others) (10 * length (lengths ++ others)) ≡ 0 =
     ap (sheetRefusal (octets ++ more) (lengths ++ others)) (sym size) ∙ taken in
     let a-taken : sheetRefusal octets lengths (length rows) ≡ 0 =

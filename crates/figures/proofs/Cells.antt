@@ -82,7 +82,8 @@ module _ (st : Receiver) (cell : List ℕ) (indication : Bool) {got : Received} 
     refused-notes e8 e9 e15 e20 i =
         record {
           state = got-is i .state;
-          counts = same-counts (sym (ap (λ (b : Bool). cond b 1 0) none)) (sym (refused-missing st arrived none)) (by-refusal 8 e8)
+          counts = same-counts (sym (ap (λ (b : Bool). cond b 1 0) none)) (sym (refused-missing st arrived none))
+              (by-refusal 8 e8)
               (by-refusal 9 e9) (by-refusal 15 e15) (by-refusal 20 e20) (no-marks 0) (no-marks 1) (no-marks 2) i;
         }
 
@@ -186,11 +187,13 @@ module _ (st : Receiver) (cell : List ℕ) (indication : Bool) {got : Received} 
       taken-notes =
           let zeros : own .sound ≡ marked 0 (h .marks) = omega (arith, zero-is, marked-in 0) in
           let ones : own .damaged ≡ marked 1 (h .marks) = omega (arith, one-is, marked-in 1) in
-          let twos : got .missing * (own .sound + own .damaged) ≡ marked 2 (h .marks) = omega (arith, two, missing-here, marked-in 2) in
+          let twos : got .missing * (own .sound + own .damaged) ≡ marked 2 (h .marks) = omega
+          (arith, two, missing-here, marked-in 2) in
           λ i.
           record {
             state = got-is i .state;
-            counts = same-counts {b = oneOf h} (sym (ap (λ (n : ℕ). cond (eqb n 0) 1 0) refusal-0)) (ap (λ (r : Received). r .missing) got-is)
+            counts = same-counts {b = oneOf h} (sym (ap (λ (n : ℕ). cond (eqb n 0) 1 0) refusal-0))
+                (ap (λ (r : Received). r .missing) got-is)
                 (sym (ap (λ (n : ℕ). cond (eqb n 8) 1 0) refusal-0)) (sym (ap (λ (n : ℕ). cond (eqb n 9) 1 0) refusal-0))
                 (sym (ap (λ (n : ℕ). cond (eqb n 15) 1 0) refusal-0)) (sym (ap (λ (n : ℕ). cond (eqb n 20) 1 0) refusal-0))
                 zeros ones twos i;

@@ -11,7 +11,8 @@ use Rattle.runs.proofs.Laws.{split}
 use Rattle.figures.specs.declared.Answer.{Answer}
 use Rattle.figures.specs.Sheets.{sheetRefusal, refusedBy, sheetOf, Sheets}
 
-pub answer-refusal : (octets lengths : List ℕ) (rows : ℕ) → sheetOf octets lengths rows .refusal ≡ sheetRefusal octets lengths rows
+pub answer-refusal : (octets lengths : List ℕ) (rows : ℕ)
+    → sheetOf octets lengths rows .refusal ≡ sheetRefusal octets lengths rows
 unfolding sheetOf
 answer-refusal octets lengths rows =
     split (eqb (sheetRefusal octets lengths rows) 0)

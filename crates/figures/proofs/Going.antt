@@ -129,13 +129,15 @@ module _ {octets lengths rows₀ rows : List ℕ} {totals : Counts} {at i : ℕ}
     log-within = omega (arith, g .place, sum-front octets lengths at i here)
 
     pub filling-turn : {one sum : Counts} {row rows₁ : List ℕ} {end : ℕ} → end ≡ at + getD lengths i 0
-        → one ≡ capped (countsOf (heardIn (take (end - at) (drop at octets)))) → sum ≡ capped (plusOf totals one) → row ≡ heldRow one
+        → one ≡ capped (countsOf (heardIn (take (end - at) (drop at octets)))) → sum ≡ capped (plusOf totals one)
+        → row ≡ heldRow one
         → rows₁ ≡ written rows (10 * i) row → length rows₁ ≡ length rows
         → Filling octets lengths rows₀ sum rows₁ end (i + 1)
     filling-turn {one} {sum} {row} {rows₁} {end} ends counted added row-is wrote kept =
         let size : end - at ≡ getD lengths i 0 = omega (arith, ends) in
         let log : List ℕ = take (getD lengths i 0) (drop at octets) in
-        let one-is : one ≡ capped (countsOf (heardIn log)) = counted ∙ ap (λ (k : ℕ). capped (countsOf (heardIn (take k (drop at octets))))) size in
+        let one-is : one ≡ capped (countsOf (heardIn log)) = counted
+        ∙ ap (λ (k : ℕ). capped (countsOf (heardIn (take k (drop at octets))))) size in
         let held : row ≡ heldRow (capped (countsOf (heardIn log))) = row-is ∙ ap heldRow one-is in
         let ten : length row ≡ 10 = ap length row-is ∙ length-row one in
         let rest : Counts = totalsOf (logsAt octets lengths (at + getD lengths i 0) (i + 1)) in
@@ -147,7 +149,8 @@ module _ {octets lengths rows₀ rows : List ℕ} {totals : Counts} {at i : ℕ}
           totals-are = added
               ∙ ap₂ (λ (a b : Counts). capped (plusOf a b)) (g .totals-are) one-is
               ∙ capped-both (g .before) (countsOf (heardIn log));
-          totals-still = ap (λ (e : ℕ). plusOf (plusOf (g .before) (countsOf (heardIn log))) (totalsOf (logsAt octets lengths e (i + 1)))) ends
+          totals-still = ap (λ (e : ℕ). plusOf (plusOf (g .before) (countsOf (heardIn log)))
+              (totalsOf (logsAt octets lengths e (i + 1)))) ends
               ∙ plus-in-turn (g .before) (countsOf (heardIn log)) rest
               ∙ ap (plusOf (g .before)) (sym (totals-front octets lengths at i here))
               ∙ g .totals-still;
@@ -164,7 +167,8 @@ module _ {octets lengths rows₀ rows : List ℕ} {totals : Counts} {at i : ℕ}
           same = kept ∙ g .same;
         }
 
-pub filling-end : {octets lengths rows₀ rows : List ℕ} {totals : Counts} {at i : ℕ} → Filling octets lengths rows₀ totals rows at i
+pub filling-end : {octets lengths rows₀ rows : List ℕ} {totals : Counts} {at i : ℕ}
+    → Filling octets lengths rows₀ totals rows at i
     → length lengths ≤ i → Fills octets lengths rows₀ totals rows
 filling-end {octets} {lengths} {rows₀} {at = at} {i = i} g all =
     record {
@@ -173,7 +177,8 @@ filling-end {octets} {lengths} {rows₀} {at = at} {i = i} g all =
           (sym (none-more (g .before)) ∙ ap (plusOf (g .before)) (sym (totals-none octets lengths at i all)) ∙ g .totals-still);
       rows-after = g .rows-are
           ∙ ap (λ (r : List ℕ). over r rows₀)
-          (sym (append-nil (g .filled)) ∙ ap (λ (r : List ℕ). g .filled ++ r) (sym (rows-none octets lengths at i all)) ∙ g .rows-still);
+          (sym (append-nil (g .filled)) ∙ ap (λ (r : List ℕ). g .filled ++ r) (sym (rows-none octets lengths at i all))
+          ∙ g .rows-still);
     }
 
 -- where no total is too many, the rows held are the rows
@@ -181,9 +186,11 @@ pub rows-small : (logs : List (List ℕ)) → tooMany (totalsOf logs) ≡ false 
 unfolding heldRows rowsOf heardOver
 rows-small [] e = refl
 rows-small (log ∷ logs) e =
-    let both : tooMany (plusOf (countsOf (heardIn log)) (totalsOf logs)) ≡ false = ap tooMany (sym (counts-joined (heardIn log) (heardOver logs))) ∙ e in
+    let both : tooMany (plusOf (countsOf (heardIn log)) (totalsOf logs)) ≡ false = ap tooMany
+    (sym (counts-joined (heardIn log) (heardOver logs))) ∙ e in
     let small = few (countsOf (heardIn log)) (few-first _ _ both) in
-    ap₂ (λ (r rs : List ℕ). r ++ rs) (ap heldRow (capped-small (countsOf (heardIn log)) small) ∙ row-small (countsOf (heardIn log)) small)
+    ap₂ (λ (r rs : List ℕ). r ++ rs)
+    (ap heldRow (capped-small (countsOf (heardIn log)) small) ∙ row-small (countsOf (heardIn log)) small)
     (rows-small logs (few-second _ _ both))
 
 pub length-rows : (octets lengths : List ℕ) → length (heldRows (logsOf octets lengths)) ≡ 10 * length lengths

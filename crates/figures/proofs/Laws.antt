@@ -51,7 +51,8 @@ counts-front h heard = refl
 pub counts-joined : (a b : List Heard) → countsOf (a ++ b) ≡ plusOf (countsOf a) (countsOf b)
 unfolding countsOf
 counts-joined a b =
-    same-counts (total-joined _ a b) (total-joined _ a b) (total-joined _ a b) (total-joined _ a b) (total-joined _ a b) (total-joined _ a b)
+    same-counts (total-joined _ a b) (total-joined _ a b) (total-joined _ a b) (total-joined _ a b) (total-joined _ a b)
+    (total-joined _ a b)
     (total-joined _ a b) (total-joined _ a b) (total-joined _ a b)
 
 -- sums
@@ -140,8 +141,10 @@ either-way a b = omega arith
 
 pub plus-either-way : (a b : Counts) → plusOf a b ≡ plusOf b a
 plus-either-way a b =
-    same-counts (either-way (a .sound) _) (either-way (a .missing) _) (either-way (a .«refused_8») _) (either-way (a .«refused_9») _)
-    (either-way (a .«refused_15») _) (either-way (a .«refused_20») _) (either-way (a .«marked_0») _) (either-way (a .«marked_1») _)
+    same-counts (either-way (a .sound) _) (either-way (a .missing) _) (either-way (a .«refused_8») _)
+    (either-way (a .«refused_9») _)
+    (either-way (a .«refused_15») _) (either-way (a .«refused_20») _) (either-way (a .«marked_0») _)
+    (either-way (a .«marked_1») _)
     (either-way (a .«marked_2») _)
 
 pub few-first : (a b : Counts) → tooMany (plusOf a b) ≡ false → tooMany a ≡ false
@@ -164,7 +167,8 @@ pub sum-split : (lengths : List ℕ) (i : ℕ) → sumOf (take i lengths) + sumO
 sum-split lengths i =
     sym (total-joined (λ n. n) (take i lengths) (drop i lengths)) ∙ ap (λ (l : List ℕ). sumOf l) (take-append-drop i lengths)
 
-pub sum-next : (lengths : List ℕ) (i : ℕ) → i < length lengths → sumOf (take (i + 1) lengths) ≡ sumOf (take i lengths) + getD lengths i 0
+pub sum-next : (lengths : List ℕ) (i : ℕ) → i < length lengths
+    → sumOf (take (i + 1) lengths) ≡ sumOf (take i lengths) + getD lengths i 0
 sum-next lengths i within =
     ap (λ (n : ℕ). sumOf (take n lengths)) (add-one i)
     ∙ ap (λ (l : List ℕ). sumOf l) (take-suc lengths i 0 within)
@@ -173,7 +177,8 @@ sum-next lengths i within =
 pub sum-above : (lengths : List ℕ) (i : ℕ) {left octets : ℕ} → i < length lengths → sumOf (take i lengths) + left ≡ octets
     → left < getD lengths i 0 → false ≡ eqb (sumOf lengths) octets
 sum-above lengths i {left} {octets} within so-far more =
-    sym (ne-eqb (sumOf lengths) octets (λ e. absurd (omega (arith, e, so-far, more, sum-next lengths i within, sum-split lengths (i + 1)))))
+    sym (ne-eqb (sumOf lengths) octets
+    (λ e. absurd (omega (arith, e, so-far, more, sum-next lengths i within, sum-split lengths (i + 1)))))
 
 pub sum-all : (lengths : List ℕ) (i left : ℕ) {octets : ℕ} → length lengths ≤ i → sumOf (take i lengths) + left ≡ octets
     → eqb left 0 ≡ eqb (sumOf lengths) octets
@@ -262,8 +267,10 @@ capped-many c =
 pub capped-small : (c : Counts) → Small c → capped c ≡ c
 unfolding capped
 capped-small c s =
-    same-counts (cap-same _ (omega (arith, s .sound))) (cap-same _ (omega (arith, s .missing))) (cap-same _ (omega (arith, s .refused8)))
-    (cap-same _ (omega (arith, s .refused9))) (cap-same _ (omega (arith, s .refused15))) (cap-same _ (omega (arith, s .refused20)))
+    same-counts (cap-same _ (omega (arith, s .sound))) (cap-same _ (omega (arith, s .missing)))
+    (cap-same _ (omega (arith, s .refused8)))
+    (cap-same _ (omega (arith, s .refused9))) (cap-same _ (omega (arith, s .refused15)))
+    (cap-same _ (omega (arith, s .refused20)))
     (cap-same _ (omega (arith, s .marked0))) (cap-same _ (omega (arith, s .marked1))) (cap-same _ (omega (arith, s .marked2)))
 
 -- what a row needs of the counts
@@ -280,7 +287,8 @@ low : (n : ℕ) → n ≤ 4294967295 → n % 4294967296 ≡ n
 low n few = mod-eq-of-lt (omega arith)
 
 pub row-held : (c : Counts) {per a b d e f g h j k l : ℕ} → per ≡ perMillion (c .sound) (c .missing) → a ≡ c .sound % 4294967296
-    → b ≡ c .missing % 4294967296 → d ≡ c .«refused_8» % 4294967296 → e ≡ c .«refused_9» % 4294967296 → f ≡ c .«refused_15» % 4294967296
+    → b ≡ c .missing % 4294967296 → d ≡ c .«refused_8» % 4294967296 → e ≡ c .«refused_9» % 4294967296
+    → f ≡ c .«refused_15» % 4294967296
     → g ≡ c .«refused_20» % 4294967296 → h ≡ c .«marked_0» % 4294967296 → j ≡ c .«marked_1» % 4294967296
     → k ≡ c .«marked_2» % 4294967296 → l ≡ per % 4294967296
     → (a ∷ b ∷ d ∷ e ∷ f ∷ g ∷ h ∷ j ∷ k ∷ l ∷ []) ≡ heldRow c
@@ -333,7 +341,8 @@ module _ (octets : ℕ) (lengths : List ℕ) (numbers : ℕ) where
   agrees e t = sym (rw (← e, t) refl)
 
 -- a run that was filled from another
-pub copied : (rows held : List ℕ) {now : List ℕ} {i : ℕ} → length rows ≤ length held → Filled now rows 0 (take (length rows) held) i
+pub copied : (rows held : List ℕ) {now : List ℕ} {i : ℕ} → length rows ≤ length held
+    → Filled now rows 0 (take (length rows) held) i
     → length rows ≤ i → now ≡ take (length rows) held
 unfolding over
 copied rows held few f all =

@@ -23,7 +23,8 @@ one-more n k = omega (arith, suc-mul n k)
 pub marked-gap : (mark held n : ℕ) → marked mark (replicate n held) ≡ n * cond (eqb held mark) 1 0
 unfolding totalOf
 marked-gap mark held zero = omega arith
-marked-gap mark held (suc n) = ap (λ (m : ℕ). cond (eqb held mark) 1 0 + m) (marked-gap mark held n) ∙ sym (one-more n (cond (eqb held mark) 1 0))
+marked-gap mark held (suc n) = ap (λ (m : ℕ). cond (eqb held mark) 1 0 + m) (marked-gap mark held n)
+    ∙ sym (one-more n (cond (eqb held mark) 1 0))
 
 -- a mark of 0 or 1
 abbrev one : ℕ → ℕ → ℕ

@@ -57,7 +57,8 @@ marks-all zero count room = refl
 marks-all (suc n) count room =
     let one : count + 1 ≤ 4294967295 = omega arith in
     let rest : markedWith 0 (heardFrom (onward (hear (placed true count) silent)) (replicate n silent)) ≡ 48 * n =
-    ap (λ (st : Receiver). markedWith 0 (heardFrom st (replicate n silent))) (next count one) ∙ marks-all n (count + 1) (omega arith) in
+    ap (λ (st : Receiver). markedWith 0 (heardFrom st (replicate n silent))) (next count one)
+    ∙ marks-all n (count + 1) (omega arith) in
     ap₂ (λ (a b : ℕ). a + b) (marks count one) rest ∙ omega (arith, mul-suc 48 n)
 
 -- the first one starts the receiver

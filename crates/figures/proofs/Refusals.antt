@@ -52,7 +52,8 @@ module _ (octets lengths rows : List ℕ) where
       pub rows-are : length rows ≡ 10 * length lengths
       rows-are = eqb-true _ _ (not-false _ (like .1))
 
-      module _ {held held₁ : List ℕ} {counts : Counts} {many : Bool} (fills : Fills octets lengths held counts held₁) (says : many ≡ tooMany counts) where
+      module _ {held held₁ : List ℕ} {counts : Counts} {many : Bool} (fills : Fills octets lengths held counts held₁)
+          (says : many ≡ tooMany counts) where
         abbrev logs : List (List ℕ)
         logs = logsOf octets lengths
 
@@ -75,7 +76,8 @@ module _ (octets lengths rows : List ℕ) where
           unfolding over
           held-rows =
               ap (take (length rows)) (fills .rows-after)
-              ∙ take-at (heldRows logs) (drop (length (heldRows logs)) held) (length rows) (length-rows octets lengths ∙ sym rows-are)
+              ∙ take-at (heldRows logs) (drop (length (heldRows logs)) held) (length rows)
+              (length-rows octets lengths ∙ sym rows-are)
               ∙ rows-small logs (sym many-is ∙ fits)
 
           pub says-0 : {row rows₁ : List ℕ} → rows₁ ≡ take (length rows) held₁ → row ≡ heldRow counts
@@ -83,7 +85,8 @@ module _ (octets lengths rows : List ℕ) where
           unfolding sheetOf
           says-0 {row} copied row-is =
               let test : eqb refusal 0 ≡ true = eq-eqb refusal 0 taken in
-              let total : row ≡ rowOf (totalsOf logs) = row-is ∙ total-row (totalsOf logs) (fills .totals-are) (sym fits ∙ says) in
+              let total : row ≡ rowOf (totalsOf logs) = row-is
+              ∙ total-row (totalsOf logs) (fills .totals-are) (sym fits ∙ says) in
               record {
                 answered = ap (λ (r : List ℕ). record { refusal = 0; totals = r }) total ∙ sym (rw test);
                 rows-after = copied ∙ held-rows ∙ sym (rw test);

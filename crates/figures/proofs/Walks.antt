@@ -93,7 +93,8 @@ module _ (limit : ℕ) (log : List ℕ) (long : length log ≤ limit) where
       let ok : headerOf log .refusal ≡ 0 = eqb-true (headerOf log .refusal) 0 e in
       let opened : Noted = record { state = freshOf (headerOf log); counts = noCounts } in
       rw e
-      (records-noted opened noCounts (recordsTo (limit - 3) (behindHeader log)) (faultTo (limit - 3) (behindHeader log)) (sym capped-none)
+      (records-noted opened noCounts (recordsTo (limit - 3) (behindHeader log)) (faultTo (limit - 3) (behindHeader log))
+      (sym capped-none)
       ∙ ap capped
       (plus-none _
       ∙ ap (λ (ws : List Whole). countsOf (heardFrom (freshOf (headerOf log)) ws)) (all-records ok)
@@ -103,7 +104,8 @@ module _ (limit : ℕ) (log : List ℕ) (long : length log ≤ limit) where
       rw e (sym (ap (λ (hs : List Heard). capped (countsOf hs)) none ∙ ap capped counts-none ∙ capped-none)))
 
 -- over pieces, each taken where the one before it left off
-over-noted : (t : Tally) (held : List ℕ) (ps : List (List ℕ)) → tallyOver t held ps .noted ≡ notedBy (t .noted) (handedOver (t .standing) held ps)
+over-noted : (t : Tally) (held : List ℕ) (ps : List (List ℕ))
+    → tallyOver t held ps .noted ≡ notedBy (t .noted) (handedOver (t .standing) held ps)
 unfolding tallyOver handedOver
 over-noted t held [] = sym (end-counts (t .noted) (takingOf (t .standing) held))
 over-noted t held (p ∷ ps) =
@@ -120,7 +122,8 @@ any-division-counts held ps size long =
     ∙ log-noted 18446744073709551615 (joinedOf ps) long
 
 -- a log in one piece
-pub log-counts : {held log held₁ : List ℕ} {begun tally : Tally} → begun ≡ startTally → length held ≡ 49 → length log ≤ 18446744073709551615
+pub log-counts : {held log held₁ : List ℕ} {begun tally : Tally} → begun ≡ startTally → length held ≡ 49
+    → length log ≤ 18446744073709551615
     → Takes begun held log tally held₁ → tally .noted .counts ≡ capped (countsOf (heardIn log))
 unfolding tallyOver joinedOf
 log-counts {held} {log} start size long takes =
@@ -129,8 +132,10 @@ log-counts {held} {log} start size long takes =
     ∙ ap (λ (l : List ℕ). capped (countsOf (heardIn l))) (append-nil log)
 
 -- past a record and past a header
-pub past-record : (n : Noted) (octets : List ℕ) {here : Record} {cell : List ℕ} {one : Noted} {counts : Counts} → here ≡ recordAt octets 0
-    → cell ≡ cellAt octets 0 → one ≡ notedOf (n .state) cell (here .indication) → counts ≡ capped (plusOf (n .counts) (one .counts))
+pub past-record : (n : Noted) (octets : List ℕ) {here : Record} {cell : List ℕ} {one : Noted} {counts : Counts}
+    → here ≡ recordAt octets 0
+    → cell ≡ cellAt octets 0 → one ≡ notedOf (n .state) cell (here .indication)
+    → counts ≡ capped (plusOf (n .counts) (one .counts))
     → record { state = one .state; counts = counts } ≡ partNoted n (whole (frontOf octets))
 unfolding partNoted frontOf
 past-record n octets {one = one} read cell-is heard added =
@@ -153,15 +158,18 @@ module _ (n : Noted) (f : Found) (held piece : List ℕ) (place : ℕ) where
   unfolding notedBy
   found-one p is e = e ∙ ap (notedBy n) (sym is)
 
-  pub notes-in-piece : {m : Noted} → f .what ≡ 2 → m ≡ partNoted n (whole (frontOf (take (place + 49 - place) (drop place piece))))
+  pub notes-in-piece : {m : Noted} → f .what ≡ 2
+      → m ≡ partNoted n (whole (frontOf (take (place + 49 - place) (drop place piece))))
       → m ≡ notedBy n (foundParts f held piece place)
   unfolding foundParts
   notes-in-piece {m} two is =
       let k : place + 49 - place ≡ 49 = omega arith in
       let same : m ≡ partNoted n (whole (frontOf (take 49 (drop place piece)))) = rw k at is in
-      found-one (whole (frontOf (take 49 (drop place piece)))) (rw (ne-eqb (f .what) 1 (λ one. omega arith), eq-eqb (f .what) 2 two)) same
+      found-one (whole (frontOf (take 49 (drop place piece))))
+      (rw (ne-eqb (f .what) 1 (λ one. omega arith), eq-eqb (f .what) 2 two)) same
 
-  pub notes-held : {m : Noted} → f .what ≡ 3 → m ≡ partNoted n (whole (frontOf held)) → m ≡ notedBy n (foundParts f held piece place)
+  pub notes-held : {m : Noted} → f .what ≡ 3 → m ≡ partNoted n (whole (frontOf held))
+      → m ≡ notedBy n (foundParts f held piece place)
   unfolding foundParts
   notes-held three is =
       let not-1 : eqb (f .what) 1 ≡ false = ne-eqb (f .what) 1 (λ one. omega arith) in
@@ -209,7 +217,8 @@ module _ {t : Tally} {lent piece : List ℕ} where
       → place < length piece → Steps s held piece place f now → (place < f .next) × (f .next ≤ length piece)
   going-on g here step = turn-on (g .along) here step
 
-  pub going-end : {s : Standing} {n : Noted} {held : List ℕ} {place : ℕ} → Going t lent piece s n held place → length piece ≤ place
+  pub going-end : {s : Standing} {n : Noted} {held : List ℕ} {place : ℕ} → Going t lent piece s n held place
+      → length piece ≤ place
       → Takes t lent piece (record { standing = s; noted = n }) held
   going-end g end =
       let ends = along-end (g .along) end in

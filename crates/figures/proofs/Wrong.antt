@@ -29,7 +29,8 @@ use Rattle.figures.proofs.take.Reads as take-reads
 
 -- every definition on the way down to the numbers
 unfoldable pub unfolded : Unit {0}
-unfolding log.unfolded receiver.unfolded reading.unfolded totalOf countsOf perMillion rowOf tooMany logsOf heardOver rowsOf unlike sheetRefusal
+unfolding log.unfolded receiver.unfolded reading.unfolded totalOf countsOf perMillion rowOf tooMany logsOf heardOver rowsOf
+    unlike sheetRefusal
     sheetOf
 unfolded = tt
 
@@ -57,7 +58,8 @@ module _ (κs : Lfts 3) (p q r : Place) where
   -- the repeat told as sound
   pub repeat-not-sound : Sheet twice (101 ∷ []) 10 (λ x rows. getD rows 0 0 ≡ 2)
   unfolding unfolded
-  repeat-not-sound x v wrong s = let right : getD (v .1 .1 .0) 0 0 ≡ 1 = ap (λ (l : List ℕ). getD l 0 0) (s .rows-after) in omega arith
+  repeat-not-sound x v wrong s = let right : getD (v .1 .1 .0) 0 0 ≡ 1 = ap (λ (l : List ℕ). getD l 0 0) (s .rows-after) in
+      omega arith
 
   -- a log that is cut in its second record counted by what the cut record would be
   pub cut-record-not-refused : Sheet (once ++ (0 ∷ [])) (53 ∷ []) 10 (λ x rows. getD (x .totals) 3 0 ≡ 1)
@@ -68,17 +70,20 @@ module _ (κs : Lfts 3) (p q r : Place) where
   -- a refused sheet that writes its row
   pub refused-rows-not-written : Sheet twice (100 ∷ []) 10 (λ x rows. getD rows 0 0 ≡ 1)
   unfolding unfolded
-  refused-rows-not-written x v wrong s = let right : getD (v .1 .1 .0) 0 0 ≡ 9 = ap (λ (l : List ℕ). getD l 0 0) (s .rows-after) in omega arith
+  refused-rows-not-written x v wrong s = let right : getD (v .1 .1 .0) 0 0 ≡ 9 = ap (λ (l : List ℕ). getD l 0 0)
+      (s .rows-after) in omega arith
 
   -- lengths that add up only after wrapping taken
   pub wrapped-lengths-not-taken : Sheet [] (18446744073709551615 ∷ 1 ∷ []) 20 (λ x rows. x .refusal ≡ 0)
   unfolding unfolded
-  wrapped-lengths-not-taken x v wrong s = let right : x .refusal ≡ 5 = ap (λ (a : Answer). a .refusal) (s .answered) in omega arith
+  wrapped-lengths-not-taken x v wrong s = let right : x .refusal ≡ 5 = ap (λ (a : Answer). a .refusal) (s .answered) in omega
+      arith
 
 module _ (κs : Lfts 2) (p q : Place) where
   abbrev Taken : List ℕ → (Tally → List ℕ → Type 0) → Type 0
   Taken piece Wrong =
-      Never take-kinds.ps take-kinds.r take-reads.Post κs (startTally, (lent p (replicate 49 0), (lent q piece, tt))) (λ x v. Wrong x (v .1 .0))
+      Never take-kinds.ps take-kinds.r take-reads.Post κs (startTally, (lent p (replicate 49 0), (lent q piece, tt)))
+      (λ x v. Wrong x (v .1 .0))
 
   -- samples of a cell that is taken left out
   pub marks-not-left-out : Taken once (λ x held. x .noted .counts .«marked_0» ≡ 0)
@@ -102,4 +107,5 @@ module _ (κs : Lfts 0) where
       let right : x .standing .left ≡ 18446744073709551615 = ap (λ (t : Tally). t .standing .left) s in omega arith
 
   pub start-counts-nothing : Started (λ x. x .noted .counts .sound ≡ 1)
-  start-counts-nothing x v wrong s = let right : x .noted .counts .sound ≡ 0 = ap (λ (t : Tally). t .noted .counts .sound) s in omega arith
+  start-counts-nothing x v wrong s = let right : x .noted .counts .sound ≡ 0 = ap (λ (t : Tally). t .noted .counts .sound)
+      s in omega arith

@@ -40,7 +40,8 @@ rowsOf (log ∷ logs) = rowOf (countsOf (heardIn log)) ++ rowsOf logs
 abbrev pub sumOf : List ℕ → ℕ
 sumOf lengths = totalOf (λ n. n) lengths
 
--- 5: "where the lengths don't add up to the octets or rows and logs differ in number"; the octets and the rows are told by how many
+-- 5: "where the lengths don't add up to the octets or rows and logs differ in number"; the octets and the rows are told by
+-- how many
 -- they are
 unfoldable pub unlike : ℕ → List ℕ → ℕ → Bool
 unlike octets lengths rows = not (eqb (sumOf lengths) octets) || not (eqb rows (10 * length lengths))

@@ -1,4 +1,5 @@
--- `figures::add_up` meets its contract. The loop: the lengths so far and what is left are all octets. The measure is what is left.
+-- `figures::add_up` meets its contract. The loop: the lengths so far and what is left are all octets. The measure is what is
+-- left.
 -- Assumes nothing.
 use mathlib.Core.Path.{_≡_, refl}
 use Prim.Native.Nat.{_+_, _-_, _≤_}
@@ -24,19 +25,27 @@ loop-holds c = (omega arith, omega arith)
 returns : tie.Need-returns Inv-loop μ-loop
 returns c =
     let l = c .before .before .before in
-    sum-above (c .before .before .before .before .args .lengths .now) (l .loop .i) (c .before .before .loop-test .taken) (l .loop .inv .1) (c .if1 .taken)
+    sum-above (c .before .before .before .before .args .lengths .now) (l .loop .i) (c .before .before .loop-test .taken)
+    (l .loop .inv .1) (c .if1 .taken)
 
 loop-again : tie.Need-loop-again Inv-loop μ-loop
 loop-again c =
     let l = c .before .before .before in
     let within = c .before .before .loop-test .taken in (
       omega (arith, within),
-      omega (arith, l .loop .inv .1, c .if1 .left, sum-next (c .before .before .before .before .args .lengths .now) (l .loop .i) within),
+      omega (
+        arith,
+        l .loop .inv .1,
+        c .if1 .left,
+        sum-next (c .before .before .before .before .args .lengths .now)
+            (l .loop .i) within,
+      ),
     )
 
 returns-2 : tie.Need-returns-2 Inv-loop μ-loop
 returns-2 c =
-    sum-all (c .before .before .args .lengths .now) (c .before .loop .i) (c .before .loop .left) (omega (arith, c .loop-test .left)) (c .before .loop .inv .1)
+    sum-all (c .before .before .args .lengths .now) (c .before .loop .i) (c .before .loop .left)
+    (omega (arith, c .loop-test .left)) (c .before .loop .inv .1)
 
 pub add-up-spec : {M : Type 1} → statement M
 add-up-spec =

@@ -20,7 +20,8 @@ loop-holds : tie.Need-loop-holds Inv-loop μ-loop
 loop-holds c = filling-start (c .before .before .before .before .pre .0) (c .none .ensures)
 
 within : (c : tie.After-shared-slice-known3 Inv-loop μ-loop)
-    → c .before .before .loop .at + getD (c .before .before .before .before .before .before .before .args .lengths .now) (c .before .before .loop .i) 0
+    → c .before .before .loop .at + getD (c .before .before .before .before .before .before .before .args .lengths .now)
+    (c .before .before .loop .i) 0
     ≤ length (c .before .before .before .before .before .before .before .args .octets .now)
 within c = log-within (c .before .before .loop .inv) (c .before .loop-test .taken)
 
@@ -51,7 +52,8 @@ loop-again c =
     let at-put = c .before .before in
     let at-plus = at-put .before .before .before in
     let at-known = at-plus .before .before .before in
-    filling-turn (at-known .before .before .loop .inv) (at-known .before .loop-test .taken) refl (at-plus .before .of-log .ensures) (at-plus .plus .ensures)
+    filling-turn (at-known .before .before .loop .inv) (at-known .before .loop-test .taken) refl
+    (at-plus .before .of-log .ensures) (at-plus .plus .ensures)
     (at-put .before .row-of .ensures) (at-put .put .ensures) (at-put .put .kept .0)
 
 same-length : tie.Need-same-length Inv-loop μ-loop
@@ -61,4 +63,6 @@ returns : tie.Need-returns Inv-loop μ-loop
 returns c = filling-end (c .before .loop .inv) (c .loop-test .left)
 
 pub fill-spec : {M : Type 1} → statement M
-fill-spec = tie.close (tie.spec Inv-loop μ-loop (search needs) loop-holds (search needs) (search needs) add-end (search needs) (search needs) part-of-log-end (search needs) (search needs) (search needs) row-of-requires put-requires add-i (search needs) loop-again same-length returns)
+fill-spec = tie.close (tie.spec Inv-loop μ-loop (search needs) loop-holds (search needs) (search needs) add-end (search needs)
+    (search needs) part-of-log-end (search needs) (search needs) (search needs) row-of-requires put-requires add-i
+    (search needs) loop-again same-length returns)

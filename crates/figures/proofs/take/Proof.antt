@@ -39,4 +39,5 @@ returns : tie.Need-returns Inv-loop μ-loop
 returns c = going-end (c .before .loop .inv) (c .loop-test .left)
 
 pub take-spec : {M : Type 1} → statement M
-take-spec = tie.close (tie.spec Inv-loop μ-loop (search needs) loop-holds (search needs) step-requires loop-less loop-again returns)
+take-spec = tie.close (tie.spec Inv-loop μ-loop (search needs) loop-holds (search needs) step-requires loop-less loop-again
+    returns)

@@ -7,7 +7,8 @@ use Rattle.figures.proofs.record.begun.Tie as tie
 
 returns : tie.Need-returns
 returns c =
-    past-header (c .before .before .before .before .args .noted) (c .before .before .before .before .args .held) (c .before .before .before .header-of .ensures)
+    past-header (c .before .before .before .before .args .noted) (c .before .before .before .before .args .held)
+    (c .before .before .before .header-of .ensures)
     (c .before .before .opened .ensures)
 
 pub begun-spec : {M : Type 1} → statement M

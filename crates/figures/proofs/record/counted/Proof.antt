@@ -10,7 +10,8 @@ returns : tie.Need-returns
 unfolding frontOf
 returns c =
     let start = c .before .before .before .before .before .before in
-    past-record (start .args .noted) (start .args .octets .now) (c .before .before .before .before .read-record .ensures) (c .before .before .before .read-cell .ensures .0)
+    past-record (start .args .noted) (start .args .octets .now) (c .before .before .before .before .read-record .ensures)
+    (c .before .before .before .read-cell .ensures .0)
     (c .before .before .heard .ensures) (c .plus .ensures)
 
 pub counted-spec : {M : Type 1} → statement M

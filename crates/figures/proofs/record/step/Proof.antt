@@ -15,7 +15,8 @@ part-counted-end c = c .before .before .before .pre (c .if1 .taken)
 returns : tie.Need-returns
 returns c =
     let start = c .before .before .before .before .before in
-    notes-in-piece (start .args .noted) (start .args .found) (start .args .held .now) (start .args .piece .now) (start .args .place)
+    notes-in-piece (start .args .noted) (start .args .found) (start .args .held .now) (start .args .piece .now)
+    (start .args .place)
     (c .before .before .if1 .taken) (c .counted .ensures)
 
 returns-2 : tie.Need-returns-2
@@ -33,8 +34,10 @@ returns-3 c =
 returns-4 : tie.Need-returns-4
 returns-4 c =
     let start = c .before .before .before .before .before .before .before in
-    notes-nothing (start .args .noted) (start .args .found) (start .args .held .now) (start .args .piece .now) (start .args .place)
+    notes-nothing (start .args .noted) (start .args .found) (start .args .held .now) (start .args .piece .now)
+    (start .args .place)
     (c .if3 .left) (c .before .before .before .before .if1 .left) (c .before .before .if2 .left)
 
 pub step-spec : {M : Type 1} → statement M
-step-spec = tie.close (tie.spec add-end (search needs) (search needs) part-counted-end (search needs) returns (search needs) returns-2 (search needs) returns-3 returns-4)
+step-spec = tie.close (tie.spec add-end (search needs) (search needs) part-counted-end (search needs) returns (search needs)
+    returns-2 (search needs) returns-3 returns-4)

@@ -26,7 +26,8 @@ loop-again c =
     let loop = c .before .before .loop in
     let size = length-take-le (length (start .args .rows .now)) (start .args .held .now) (start .pre) in
     turned-front _ _ (loop .inv) (omega (arith, size)) (omega (arith, size, c .before .loop-test .taken, loop .inv .same))
-    (sym (getD-take (length (start .args .rows .now)) (start .args .held .now) (loop .i) 0 (omega (arith, c .before .loop-test .taken, loop .inv .same))))
+    (sym (getD-take (length (start .args .rows .now)) (start .args .held .now) (loop .i) 0
+    (omega (arith, c .before .loop-test .taken, loop .inv .same))))
 
 same-length : tie.Need-same-length Inv-loop μ-loop
 same-length c = c .before .loop .inv .same
@@ -34,7 +35,9 @@ same-length c = c .before .loop .inv .same
 returns : tie.Need-returns Inv-loop μ-loop
 returns c =
     let start = c .before .before in
-    copied (start .args .rows .now) (start .args .held .now) (start .pre) (c .before .loop .inv) (omega (arith, c .loop-test .left, c .before .loop .inv .same))
+    copied (start .args .rows .now) (start .args .held .now) (start .pre) (c .before .loop .inv)
+    (omega (arith, c .loop-test .left, c .before .loop .inv .same))
 
 pub copy-spec : {M : Type 1} → statement M
-copy-spec = tie.close (tie.spec Inv-loop μ-loop loop-holds (search needs) (search needs) (search needs) (search needs) (search needs) (search needs) loop-again same-length returns)
+copy-spec = tie.close (tie.spec Inv-loop μ-loop loop-holds (search needs) (search needs) (search needs) (search needs)
+    (search needs) (search needs) loop-again same-length returns)

@@ -20,7 +20,8 @@ loop-holds c = begun _ _ _
 loop-again : tie.Need-loop-again Inv-loop μ-loop
 loop-again c =
     let start = c .before .before in
-    turned _ _ _ (c .before .loop .inv) (omega (arith, start .pre .0, start .pre .1)) (omega (arith, start .pre .1, c .loop-test .taken)) refl
+    turned _ _ _ (c .before .loop .inv) (omega (arith, start .pre .0, start .pre .1))
+    (omega (arith, start .pre .1, c .loop-test .taken)) refl
 
 same-length : tie.Need-same-length Inv-loop μ-loop
 same-length c = c .before .loop .inv .same

@@ -16,8 +16,10 @@ returns c =
     let b3 = b4 .before in
     let b2 = b3 .before in
     let b1 = b2 .before in
-    row-held (b1 .before .before .args .c) (b1 .before .per-million .ensures) (b1 .low .ensures) (b2 .low2 .ensures) (b3 .low3 .ensures) (b4 .low4 .ensures)
+    row-held (b1 .before .before .args .c) (b1 .before .per-million .ensures) (b1 .low .ensures) (b2 .low2 .ensures)
+    (b3 .low3 .ensures) (b4 .low4 .ensures)
     (b5 .low5 .ensures) (b6 .low6 .ensures) (b7 .low7 .ensures) (b8 .low8 .ensures) (b9 .low9 .ensures) (c .low10 .ensures)
 
 pub row-of-spec : {M : Type 1} → statement M
-row-of-spec = tie.close (tie.spec (search needs) (search needs) (search needs) (search needs) (search needs) (search needs) (search needs) (search needs) (search needs) (search needs) (search needs) returns)
+row-of-spec = tie.close (tie.spec (search needs) (search needs) (search needs) (search needs) (search needs) (search needs)
+    (search needs) (search needs) (search needs) (search needs) (search needs) returns)

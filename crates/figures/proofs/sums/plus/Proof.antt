@@ -16,8 +16,10 @@ returns c =
     let b4 = b5 .before in
     let b3 = b4 .before in
     let b2 = b3 .before in
-    same-counts (b2 .before .sum .ensures) (b2 .sum2 .ensures) (b3 .sum3 .ensures) (b4 .sum4 .ensures) (b5 .sum5 .ensures) (b6 .sum6 .ensures)
+    same-counts (b2 .before .sum .ensures) (b2 .sum2 .ensures) (b3 .sum3 .ensures) (b4 .sum4 .ensures) (b5 .sum5 .ensures)
+    (b6 .sum6 .ensures)
     (b7 .sum7 .ensures) (b8 .sum8 .ensures) (c .sum9 .ensures)
 
 pub plus-spec : {M : Type 1} → statement M
-plus-spec = tie.close (tie.spec (search needs) (search needs) (search needs) (search needs) (search needs) (search needs) (search needs) (search needs) (search needs) returns)
+plus-spec = tie.close (tie.spec (search needs) (search needs) (search needs) (search needs) (search needs) (search needs)
+    (search needs) (search needs) (search needs) returns)

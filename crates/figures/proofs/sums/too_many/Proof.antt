@@ -75,12 +75,13 @@ returns-7 c =
 returns-8 : tie.Need-returns-8
 unfolding tooMany
 returns-8 c =
+    let e = c .before .before .before .before .before .before in
     rw (
-      le-ltb _ _ (c .before .before .before .before .before .before .before .before .before .before .before .before .before .before .if1 .left),
-      le-ltb _ _ (c .before .before .before .before .before .before .before .before .before .before .before .before .if2 .left),
-      le-ltb _ _ (c .before .before .before .before .before .before .before .before .before .before .if3 .left),
-      le-ltb _ _ (c .before .before .before .before .before .before .before .before .if4 .left),
-      le-ltb _ _ (c .before .before .before .before .before .before .if5 .left),
+      le-ltb _ _ (e .before .before .before .before .before .before .before .before .if1 .left),
+      le-ltb _ _ (e .before .before .before .before .before .before .if2 .left),
+      le-ltb _ _ (e .before .before .before .before .if3 .left),
+      le-ltb _ _ (e .before .before .if4 .left),
+      le-ltb _ _ (e .if5 .left),
       le-ltb _ _ (c .before .before .before .before .if6 .left),
       le-ltb _ _ (c .before .before .if7 .left),
       lt-ltb _ _ (c .if8 .taken),
@@ -89,12 +90,13 @@ returns-8 c =
 returns-9 : tie.Need-returns-9
 unfolding tooMany
 returns-9 c =
+    let e = c .before .before .before .before .before .before .before in
     rw (
-      le-ltb _ _ (c .before .before .before .before .before .before .before .before .before .before .before .before .before .before .before .if1 .left),
-      le-ltb _ _ (c .before .before .before .before .before .before .before .before .before .before .before .before .before .if2 .left),
-      le-ltb _ _ (c .before .before .before .before .before .before .before .before .before .before .before .if3 .left),
-      le-ltb _ _ (c .before .before .before .before .before .before .before .before .before .if4 .left),
-      le-ltb _ _ (c .before .before .before .before .before .before .before .if5 .left),
+      le-ltb _ _ (e .before .before .before .before .before .before .before .before .if1 .left),
+      le-ltb _ _ (e .before .before .before .before .before .before .if2 .left),
+      le-ltb _ _ (e .before .before .before .before .if3 .left),
+      le-ltb _ _ (e .before .before .if4 .left),
+      le-ltb _ _ (e .if5 .left),
       le-ltb _ _ (c .before .before .before .before .before .if6 .left),
       le-ltb _ _ (c .before .before .before .if7 .left),
       le-ltb _ _ (c .before .if8 .left),
