@@ -1,7 +1,7 @@
 /*
  * Refusal 19 met by one call. In 52 hex with 24 channels C x T is 24, and each record after a gap of 14 hands out 15 x 24
- * them marked 2. After the first record 12,782,640 of those make 4,294,967,040 such marks, which a sheet can still say; one record more
- * is refused, with the rows untouched.
+ * entries, 336 of them marked 2. After the first record 12,782,640 of those make 4,294,967,040 such marks, which a sheet can
+ * still say; one record more is refused, with the rows untouched.
  */
 #include <stdint.h>
 #include <stdio.h>
