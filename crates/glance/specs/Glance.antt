@@ -1,4 +1,5 @@
--- What a cell's own entries hold: a sample marked 0 that isn't zero, and how many are marked 0 and 1. A gap's entries are no part of it:
+-- What a cell's own entries hold: a sample marked 0 that isn't zero, and how many are marked 0 and 1. A gap's entries are no part
+-- of it:
 -- they are zero and their marks are 2.
 -- Assumes nothing.
 use mathlib.Core.Bool.{Bool, false, cond, not, _&&_, _||_}

@@ -35,11 +35,14 @@ fn number_in(cell: &[u8], at: usize, width: usize) -> u64
     number
 }
 
-// The subframe of a slot.
+// The subframe of a slot. With the width as a constant the compiler reads it without a loop.
 fn subframe_in(format: Format, cell: &[u8], slot: usize) -> u64
     requires { ⌜ Sound format × (length (now cell) ≡ 48) × (slot < format .slots) ⌝ }
     ensures { λ r. ⌜ (r ≡ subframeAt format (now (cell .entry)) slot) × (r < 2 ^ 48) ⌝ }
 {
+    if format.width == 4 {
+        return number_in(cell, slot * 4, 4);
+    }
     let width = format.width;
     number_in(cell, slot * width, width)
 }
@@ -134,7 +137,8 @@ fn damaged_in(set: Settled, used: usize, cell: &[u8]) -> usize
     count
 }
 
-// Whether one of the cell's own samples is marked 0 and isn't zero. Not so where the state's settings are refused, or the cell isn't
+// Whether one of the cell's own samples is marked 0 and isn't zero. Not so where the state's settings are refused, or the cell
+// isn't
 // of 48 octets.
 pub fn sounds(state: Receiver, cell: &[u8]) -> bool
     ensures { λ r. ⌜ r ≡ soundsOf state (now (cell .entry)) ⌝ }
@@ -154,7 +158,8 @@ pub fn sounds(state: Receiver, cell: &[u8]) -> bool
     among(set.format, cell, used)
 }
 
-// How many of the cell's own entries are marked 0, and how many 1. Zeros where the state's settings are refused, or the cell isn't of
+// How many of the cell's own entries are marked 0, and how many 1. Zeros where the state's settings are refused, or the cell
+// isn't of
 // 48 octets.
 pub fn marked(state: Receiver, cell: &[u8]) -> Marks
     ensures { λ r. ⌜ r ≡ markedOf state (now (cell .entry)) ⌝ }

@@ -13,10 +13,10 @@ use Rattle.table.proofs.put_row.Statement.{statement}
 use Rattle.table.proofs.put_row.Tie as tie
 
 abbrev Inv-loop : tie.InvT-loop
-Inv-loop run₀ row past₀ i₀ run past i = Puts run₀ past₀ run past (cellsOf (take i row)) × (length run ≡ length run₀)
+Inv-loop run₀ at row past₀ i₀ run past i = Puts run₀ past₀ run past (cellsOf (take i row)) × (length run ≡ length run₀)
 
 abbrev μ-loop : tie.MeasureT-loop
-μ-loop run₀ row past₀ i₀ run past i = length row - i
+μ-loop run₀ at row past₀ i₀ run past i = length row - i
 
 loop-holds : tie.Need-loop-holds Inv-loop μ-loop
 unfolding cellsOf
