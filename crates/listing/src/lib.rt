@@ -65,7 +65,12 @@ pub fn take(listing: Listing, held: &mut [u8; 49], piece: &[u8], run: &mut [u8])
         let stepped = parts::step(run, past, tally, found, held, piece, place);
         standing = found.standing;
         tally = stepped.tally;
-        past = stepped.past;
+        // field by field: a copy of the whole struct waits for its last bytes, which nobody reads
+        let told = stepped.past;
+        past = Put {
+            octets: told.octets,
+            whole: told.whole,
+        };
         place = found.next;
     }
     Printed {

@@ -62,7 +62,8 @@ pub(crate) fn format_line(
     )
 }
 
-// This is the line of most records: with its words as constants it takes fewer instructions than by `three`.
+// This is the line of most records: with its words as constants it takes fewer instructions than by `three`, and words of six octets
+// and one are stored faster than of seven.
 pub(crate) fn sound_line(
     run: &mut [u8],
     at: Put,
@@ -73,7 +74,8 @@ pub(crate) fn sound_line(
     ensures { λ r. ⌜ Puts (now (run .entry)) at (now (run .exit)) r (soundLine index missing number) ⌝ }
 {
     let past_index = put_number(run, at, index);
-    let past_missing = put_item(run, past_index, b" sound ", missing);
+    let past_sound = put_all(run, past_index, b" sound");
+    let past_missing = put_item(run, past_sound, b" ", missing);
     let past_number = put_item(run, past_missing, b" number ", number);
     put_all(run, past_number, b"\n")
 }
