@@ -11,6 +11,7 @@ help:
 	@echo 'make test               the gate: prove all from nothing, try the must-fail edits, run every test'
 	@echo 'make mutants            try the wrong programs of tests/mutants; CRATES="sender log" for some crates'
 	@echo 'make fuzz               compare N=1000000 calls with another implementation, from SEED=2; memory checks'
+	@echo 'make sheet-19           one sheet over 626 MB, which is refused 19, and over one record less, which is given'
 	@echo 'make bench              speed beside plain C: instructions and nanoseconds; ROWS=56-C2 for some rows'
 	@echo 'make bench-count        the same, instructions alone'
 	@echo 'make bench-table        write the tables of docs/SPEED.md anew: instructions'
