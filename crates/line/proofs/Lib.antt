@@ -8,6 +8,7 @@ pub mod Demands
 pub mod Ensures
 pub mod Examples
 pub mod Frames
+pub mod Losses
 pub mod Opened
 pub mod Places
 pub mod Recounts

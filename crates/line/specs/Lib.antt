@@ -2,4 +2,5 @@ pub mod Cases
 pub mod Contracts
 pub mod Demands
 pub mod Line
+pub mod Losses
 pub mod Units
