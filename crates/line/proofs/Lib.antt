@@ -16,5 +16,6 @@ pub mod Refused
 pub mod Repeats
 pub mod Rows
 pub mod Sharp
+pub mod Slips
 pub mod Steps
 pub mod Units
