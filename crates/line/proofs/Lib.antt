@@ -8,9 +8,11 @@ pub mod Demands
 pub mod Ensures
 pub mod Examples
 pub mod Frames
+pub mod Logs
 pub mod Losses
 pub mod Opened
 pub mod Places
+pub mod Played
 pub mod Recounts
 pub mod Refused
 pub mod Repeats
@@ -18,4 +20,5 @@ pub mod Rows
 pub mod Sharp
 pub mod Slips
 pub mod Steps
+pub mod Tools
 pub mod Units

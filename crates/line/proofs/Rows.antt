@@ -179,7 +179,7 @@ some-gap (after k) e = let other : k % 16 ≡ 15 → ⊥ = eqb-false _ _ e in om
 none-lost : (n : ℕ) → n + 1 ≡ n + 1 + 0
 none-lost n = omega arith
 
-refused-so : (whole : Bool) → cond {A = ℕ} whole 8 5 ≡ 0 → ⊥
+pub refused-so : (whole : Bool) → cond {A = ℕ} whole 8 5 ≡ 0 → ⊥
 refused-so true = suc-ne-zero 7
 refused-so false = suc-ne-zero 4
 

@@ -48,7 +48,7 @@ missing = (0, (0, 2))
 
 -- lists side by side, both cut alike, and both with a row of one value before them
 module _ {A B : Type 0} where
-  take-zip : (n : ℕ) (xs : List A) (ys : List B) → take n (zip xs ys) ≡ zip (take n xs) (take n ys)
+  pub take-zip : (n : ℕ) (xs : List A) (ys : List B) → take n (zip xs ys) ≡ zip (take n xs) (take n ys)
   unfolding zip zipWith
   take-zip zero xs ys = refl
   take-zip (suc n) [] ys = refl

@@ -3,4 +3,5 @@ pub mod Contracts
 pub mod Demands
 pub mod Line
 pub mod Losses
+pub mod Tools
 pub mod Units
