@@ -69,10 +69,10 @@ Between row since (t ∷ ts) =
     × (isLost (t .fate) ≡ false → (lostSince since ≤ row) × Between row (after 0) ts)
 
 -- all cells of a row have as many places
-abbrev Alike : ℕ → List Trip → Type 0
+abbrev pub Alike : ℕ → List Trip → Type 0
 Alike used ts = Each (λ t. S.usedNow (t .sent .state) ≡ used) ts
 
-all-alike : (st : Sender) (ts : List Trip) → Sending Wrote st (map (λ t. t .sent) ts) → Alike (S.usedNow st) ts
+pub all-alike : (st : Sender) (ts : List Trip) → Sending Wrote st (map (λ t. t .sent) ts) → Alike (S.usedNow st) ts
 unfolding Row Each S.after
 all-alike st [] row = tt
 all-alike st (t ∷ ts) row =

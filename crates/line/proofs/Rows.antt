@@ -80,6 +80,11 @@ only-written (s ∷ sends) st row =
     let stays = sends-or-nothing s (row .1) .then-nothing (eqb-false _ 0 e) .state-as-given in
     rw e (subst (λ (x : Sender). Sending Wrote x (wrote sends)) (stays ∙ row .0) (only-written sends (s .answer .state) (row .2))))
 
+pub each-wrote : (st : Sender) (ts : List Trip) → Sending Wrote st (map (λ t. t .sent) ts) → Each (λ t. Wrote (t .sent)) ts
+unfolding Row Each
+each-wrote st [] row = tt
+each-wrote st (t ∷ ts) row = (row .1, each-wrote (t .sent .answer .state) ts (row .2))
+
 -- a receiver's state beside the sender's
 abbrev Stands : Sender → Receiver → Since → Type 0
 Stands st rc never = (rc .started ≡ false) × (rc .last ≡ 0) × (rc .count ≡ 0)

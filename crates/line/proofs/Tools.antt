@@ -26,7 +26,6 @@ use Rattle.listing.specs.Lines.{formatLine, endLine}
 use Rattle.listing.specs.List.{linesOf}
 use Rattle.line.specs.Contracts.{SendCall, MeetsSend, ReceiveCall}
 use Rattle.line.specs.Line.{
-  Row,
   Sending,
   wrote,
   Fate,
@@ -79,7 +78,7 @@ use Rattle.line.proofs.Played.{
   calls-hand,
   heard-marks,
 }
-use Rattle.line.proofs.Rows.{Wrote, only-written, refused-so}
+use Rattle.line.proofs.Rows.{Wrote, only-written, each-wrote, refused-so}
 use Rattle.line.proofs.Steps.{missing}
 
 -- sums over lists
@@ -327,11 +326,6 @@ there-inside ts each =
     ∙ total-to-last there none-there (fromFirst ts)
     ∙ total-from-first there none-there ts
     ∙ all-there ts each
-
-each-wrote : (st : Sender) (ts : List Trip) → Sending Wrote st (map (λ t. t .sent) ts) → Each (λ t. Wrote (t .sent)) ts
-unfolding Row Each
-each-wrote st [] row = tt
-each-wrote st (t ∷ ts) row = (row .1, each-wrote (t .sent .answer .state) ts (row .2))
 
 -- what a fresh receiver makes of what arrives
 module _ (st : Receiver) (trips : List Trip) (none : st .count ≡ 0)

@@ -5,7 +5,7 @@ use mathlib.Core.List.{List, [], _∷_, _++_, map, flatMap}
 use mathlib.Core.Path.{_≡_}
 use Prim.Native.Nat.{ℕ, suc, _+_, _*_, _/_, _%_}
 use lib.Dec.{eqb}
-use lib.ListN.{replicate}
+use lib.ListN.{take, drop, replicate}
 use Rattle.sender.specs.Sender as S
 use Rattle.receiver.specs.declared.Receiver.{Receiver}
 use Rattle.reading.specs.Totals.{totalOf, those}
@@ -104,13 +104,19 @@ unfoldable pub pastPlace : ℕ → List Told → ℕ
 pastPlace past [] = past
 pastPlace past (x ∷ xs) = pastPlace (suc (x .place)) xs
 
--- "places slip back by whole multiples of 16 cells, never forward and never by another number": cells that are handed out one after
--- the other, so many cells being shown before them, stand in the row so many places further on, and the multiple never falls
-unfoldable pub SlipBack : ℕ → ℕ → ℕ → List Told → Type 0
-SlipBack first slips shown [] = Unit {0}
-SlipBack first slips shown (x ∷ xs) =
-    (x .place ≡ first + (shown + missingBefore x) + 16 * (slips + sixteens x))
-    × SlipBack first (slips + sixteens x) (suc (shown + missingBefore x)) xs
+-- the cell's places are handed out behind those of so many cells
+abbrev pub StandsAt : List Place → ℕ → Told → Type 0
+StandsAt out at x =
+    take (S.usedNow (x .trip .sent .state)) (drop (at * S.usedNow (x .trip .sent .state)) out) ≡ placesOf (x .trip)
+
+-- "places slip back by whole multiples of 16 cells, never forward and never by another number": each cell that is taken is handed
+-- out so many sixteens of cells before its true place, counted from the first one's, and that number never falls
+unfoldable pub SlipBack : List Place → ℕ → ℕ → ℕ → List Told → Type 0
+SlipBack out first slips shown [] = Unit {0}
+SlipBack out first slips shown (x ∷ xs) =
+    StandsAt out (shown + missingBefore x) x
+    × (x .place ≡ first + (shown + missingBefore x) + 16 * (slips + sixteens x))
+    × SlipBack out first (slips + sixteens x) (suc (shown + missingBefore x)) xs
 
 -- what holds whatever is lost
 pub record Shows (fresh : Receiver) (trips : List Trip) (receives : List ReceiveCall) : Type 0 where
@@ -122,7 +128,7 @@ pub record Shows (fresh : Receiver) (trips : List Trip) (receives : List Receive
   pub sound : those isMarkedSound (handed receives) ≡ flatMap (λ x. placesOf (x .trip)) (takenIn trips)
   pub as-sent : map (λ x. x .trip) (story trips) ≡ trips
   -- "places slip back by whole multiples of 16 cells"
-  pub slip-back : SlipBack (firstPlace (takenIn trips)) 0 0 (takenIn trips)
+  pub slip-back : SlipBack (handed receives) (firstPlace (takenIn trips)) 0 0 (takenIn trips)
   -- "the count of request 5 falls short of the true place by just such a multiple"
   pub counted : firstPlace (takenIn trips) + leftBy fresh receives .count + 16 * totalOf sixteens (takenIn trips)
       ≡ pastPlace 0 (takenIn trips)
