@@ -1,3 +1,4 @@
+pub mod Beyond
 pub mod Bound
 pub mod Calls
 pub mod Cases
@@ -20,5 +21,6 @@ pub mod Rows
 pub mod Sharp
 pub mod Slips
 pub mod Steps
+pub mod Told
 pub mod Tools
 pub mod Units

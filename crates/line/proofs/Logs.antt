@@ -58,8 +58,13 @@ module _ {refusal place : ℕ} {octets log after : List ℕ} {answer : Kept} (ke
 
     pub kept-within : answer .next ≤ length after
     kept-within =
-        rw (kept-next, kept-log, length-append (take place log ++ octets) (drop (place + length octets) log),
-        length-append (take place log) octets, length-take-le place log here) (omega arith)
+        rw (
+          kept-next,
+          kept-log,
+          length-append (take place log ++ octets) (drop (place + length octets) log),
+          length-append (take place log) octets,
+          length-take-le place log here,
+        ) (omega arith)
 
 pub record Written (log : List ℕ) (place : ℕ) (calls : List KeepCall) : Type 0 where
   pub octets : writtenBy log place calls ≡ take place log ++ octetsIn (map (λ c. wholeOf (c .came)) calls)

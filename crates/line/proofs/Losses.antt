@@ -161,12 +161,11 @@ module _ (out : List Place) (used : ℕ) where
         subst (λ (n : ℕ). take n (drop ((shown + k % 16) * n) out) ≡ placesOf t) (sym (alike .0))
             (stands (from .0) lost (placesOf t) rest used shown (k % 16) is (from .2) missed long),
         place-is,
-        slip-after first (slips + k / 16) (suc (shown + k % 16)) (suc place) 0 ts (alike .1) (sent .1)
-            (
-              from .0 ++ (lost ++ placesOf t),
-              goes-on (from .0) lost (placesOf t) rest used shown (k % 16) is (from .2) missed long,
-              longer (from .0) lost (placesOf t) rest used shown (k % 16) is (from .2) missed long,
-            )
+        slip-after first (slips + k / 16) (suc (shown + k % 16)) (suc place) 0 ts (alike .1) (sent .1) (
+          from .0 ++ (lost ++ placesOf t),
+          goes-on (from .0) lost (placesOf t) rest used shown (k % 16) is (from .2) missed long,
+          longer (from .0) lost (placesOf t) rest used shown (k % 16) is (from .2) missed long,
+        )
             next,
       )))
 
@@ -192,12 +191,11 @@ module _ (out : List Place) (used : ℕ) where
         subst (λ (n : ℕ). take n (drop (0 * n) out) ≡ placesOf t) (sym (alike .0))
             (stands [] lost (placesOf t) rest used 0 0 is none missed long),
         place-is,
-        slip-after place 0 1 (suc place) 0 ts (alike .1) (sent .1)
-            (
-              [] ++ (lost ++ placesOf t),
-              goes-on [] lost (placesOf t) rest used 0 0 is none missed long,
-              longer [] lost (placesOf t) rest used 0 0 is none missed long,
-            )
+        slip-after place 0 1 (suc place) 0 ts (alike .1) (sent .1) (
+          [] ++ (lost ++ placesOf t),
+          goes-on [] lost (placesOf t) rest used 0 0 is none missed long,
+          longer [] lost (placesOf t) rest used 0 0 is none missed long,
+        )
             next,
       ))
 

@@ -150,8 +150,7 @@ not-by-eight meets =
     let second = call st tenth (slipped st (tenth .cell) false) (past st (R.samplesNow st (tenth .cell)))
     (past st (R.ancillaryNow st (tenth .cell))) (past st (R.marksNow st (tenth .cell))) in
     let kept = shows Eights meets lost-eight refl (omega arith)
-    (tt, (tt, (tt, (tt, (tt, (tt, (tt, (tt, (tt, (tt, tt)))))))))) (first ∷ second ∷ [])
-    (
+    (tt, (tt, (tt, (tt, (tt, (tt, (tt, (tt, (tt, (tt, tt)))))))))) (first ∷ second ∷ []) (
       refl,
       promised _ _,
       (refl, record { answer-slips = refl; samples-slip = refl; ancillary-slips = refl; marks-slip = refl }, tt),
