@@ -58,14 +58,14 @@ fn row(gap: usize, lost_every: usize) -> impl Iterator<Item = Fate> {
     })
 }
 
-/// Rows of more than fourteen cells. Behind them stand one, two or three whole cells: after fifteen the first of them is lost too.
+/// Rows of more than fourteen cells. Behind them stand one or two whole cells: after fifteen the first of them is lost too.
 const OUTAGES: [usize; 6] = [15, 16, 17, 31, 32, 200];
 
 fn outages() -> Vec<Fate> {
     let mut fates = vec![Fate::Lost, Fate::Whole];
-    for whole in [1, 2, 3] {
-        for (gap, lost_every) in OUTAGES.into_iter().flat_map(|gap| [1, 2].map(|every| (gap, every))) {
-            fates.extend(row(gap, lost_every));
+    for whole in [1, 2] {
+        for gap in OUTAGES {
+            fates.extend(row(gap, whole));
             fates.extend(vec![Fate::Whole; whole]);
         }
     }
@@ -167,7 +167,9 @@ fn expected(trips: &[Trip], sent: &[Vec<Entry>]) -> Vec<Entry> {
     let end = trips.iter().rposition(|&(fate, _)| fate == Fate::Whole).map_or(0, |last| last + 1);
     let places = trips[first..end].iter().zip(&sent[first..end]);
     places
-        .flat_map(|(&(fate, _), entries)| if fate == Fate::Whole { entries.clone() } else { vec![MISSING; entries.len()] })
+        .flat_map(
+            |(&(fate, _), entries)| if fate == Fate::Whole { entries.clone() } else { vec![MISSING; entries.len()] },
+        )
         .collect()
 }
 
@@ -215,7 +217,13 @@ impl Ends {
     }
 
     /// A cell that comes, and again so many times: the entries handed out, all of them by the first delivery.
-    fn deliver(&mut self, cell: &[u8], indication: bool, (fate, again): Trip, takes: bool) -> Result<Vec<Entry>, String> {
+    fn deliver(
+        &mut self,
+        cell: &[u8],
+        indication: bool,
+        (fate, again): Trip,
+        takes: bool,
+    ) -> Result<Vec<Entry>, String> {
         let copies = if fate == Fate::Whole { 9 } else { 8 };
         let first = if takes { 0 } else { copies };
         let (refusal, handed) = self.receive(cell, indication)?;
