@@ -1,9 +1,8 @@
 -- A log that the library wrote is its header and its records, and is read back so.
 -- Assumes nothing.
-use mathlib.Core.Bool.{true}
 use mathlib.Core.List.{List, [], _∷_, _++_, map, append-assoc, append-nil}
 use mathlib.Core.Path.{_≡_, refl, sym, _∙_, ap, ap₂, subst}
-use Prim.Native.Nat.{ℕ, _+_, _-_, _≤_}
+use Prim.Native.Nat.{ℕ, _+_, _≤_}
 use native.Mathlib.Omega.{arith}
 use borrow.Author.Tests.{eq-eqb, le-leb}
 use lib.ListN.{length, take, drop, length-append}
@@ -14,21 +13,20 @@ use Rattle.sender.specs.declared.Sender.{Sender}
 use Rattle.log.specs.declared.Header.{Header}
 use Rattle.log.specs.declared.keep.Kept.{Kept}
 use Rattle.log.specs.Records.{headerOf, recordAt}
-use Rattle.log.specs.Written.{Keeps, headerOctets, recordOctets}
+use Rattle.log.specs.Written.{Keeps, recordOctets}
 use Rattle.log.proofs.Headers.{header-octets, header-fits}
 use Rattle.log.proofs.Keeping.{record-fits}
 use Rattle.log.proofs.Refused.{keeps-refusal}
 use Rattle.receiver.specs.Receiver as R
-use Rattle.reading.specs.Heard.{Heard, heardFrom, soundIn, missingIn, refusedIn}
-use Rattle.reading.specs.Reading.{Reading, freshOf, behindHeader, readingOf}
+use Rattle.reading.specs.Heard.{heardFrom, soundIn, missingIn, refusedIn}
+use Rattle.reading.specs.Reading.{freshOf, behindHeader, readingOf}
 use Rattle.reading.specs.Records.{Whole, Framed, recordsIn, faultIn, walkIn, octetsIn}
 use Rattle.reading.specs.Totals as T
-use Rattle.reading.proofs.Reading.{header-of-three, wrote-reading}
+use Rattle.reading.proofs.Reading.{header-of-three}
 use Rattle.reading.proofs.Records.{walk-written, walk-stop, not-whole}
 use Rattle.pieces.specs.Limit.{recordsTo, faultTo}
 use Rattle.listing.specs.Lines.{formatLine, endLine}
 use Rattle.listing.specs.List.{linesOf, endLines, heardTo, listTo, listOf}
-use Rattle.line.specs.Contracts.{MeetsWriteRecord}
 use Rattle.line.specs.Line.{Row, Arrival}
 use Rattle.line.specs.Tools.{KeepCall, Keeping, writtenBy, LogOf}
 
@@ -70,7 +68,8 @@ pub record Written (log : List ℕ) (place : ℕ) (calls : List KeepCall) : Type
   pub octets : writtenBy log place calls ≡ take place log ++ octetsIn (map (λ c. wholeOf (c .came)) calls)
   pub framed : T.Each Framed (map (λ c. wholeOf (c .came)) calls)
 
-records-kept : (log : List ℕ) (place : ℕ) (calls : List KeepCall) → place ≤ length log → Keeping log place calls → Written log place calls
+records-kept : (log : List ℕ) (place : ℕ) (calls : List KeepCall) → place ≤ length log → Keeping log place calls
+    → Written log place calls
 unfolding Row writtenBy octetsIn T.Each
 records-kept log place [] here row = record { octets = sym (append-nil (take place log)); framed = tt }
 records-kept log place (c ∷ cs) here row =
@@ -87,7 +86,7 @@ records-kept log place (c ∷ cs) here row =
           ∙ ap (λ (l : List ℕ). l ++ octetsIn (map (λ c. wholeOf (c .came)) cs))
           (kept-octets meets taken within
           ∙ ap₂ (λ (n : ℕ) (l : List ℕ). take n l ++ recordOctets (c .came .indication) (c .came .cell)) place-is log-is)
-          ∙ append-assoc (take place log) (recordOctets (c .came .indication) (c .came .cell)) (octetsIn (map (λ c. wholeOf (c .came)) cs));
+          ∙ append-assoc (take place log) (recordOctets (c .came .indication) (c .came .cell)) _;
       framed = (fits .0, on .framed);
     }
 
@@ -107,7 +106,8 @@ module _ {st : Sender} {came : List Arrival} {log : List ℕ} (is : LogOf st cam
   none-before = omega arith
 
   all-kept : Written (is .headed) (is .opening .next) (is .calls)
-  all-kept = records-kept (is .headed) (is .opening .next) (is .calls) (kept-within (is .header) (is .taken) none-before) (is .in-a-row)
+  all-kept =
+      records-kept (is .headed) (is .opening .next) (is .calls) (kept-within (is .header) (is .taken) none-before) (is .in-a-row)
 
   these-records : map (λ c. wholeOf (c .came)) (is .calls) ≡ records
   these-records = map-twice wholeOf (λ c. c .came) (is .calls) ∙ ap (map wholeOf) (is .these)

@@ -1,6 +1,6 @@
 -- Whatever is lost: what is marked sound is exact, and places slip back by whole multiples of 16 cells.
 -- Assumes nothing.
-use mathlib.Core.Bool.{Bool, true, false}
+use mathlib.Core.Bool.{Bool, false}
 use mathlib.Core.List.{List, [], _∷_, _++_, map, flatMap, zip, zipWith, append-assoc}
 use mathlib.Core.Path.{_≡_, refl, sym, _∙_, ap, ap₂, subst}
 use Prim.Native.Nat.{ℕ, zero, suc, _+_, _*_, _/_, _%_}
@@ -19,7 +19,6 @@ use Rattle.line.specs.Losses.{
   after,
   comesRound,
   Told,
-  isTaken,
   storyFrom,
   takenFrom,
   takenIn,
@@ -68,7 +67,8 @@ sound-with x here =
     ∙ ap₂ (λ (a b : List Place). a ++ b) (none-sound lost) (sound-own (x .trip) here)
 
 sound-places : (place : ℕ) (since : Since) (ts : List Trip)
-    → those isMarkedSound (flatMap placesWith (takenFrom place since ts)) ≡ flatMap (λ x. placesOf (x .trip)) (takenFrom place since ts)
+    → those isMarkedSound (flatMap placesWith (takenFrom place since ts))
+    ≡ flatMap (λ x. placesOf (x .trip)) (takenFrom place since ts)
 unfolding storyFrom those flatMap
 sound-places place since [] = refl
 sound-places place since (t ∷ ts) =
@@ -140,7 +140,8 @@ module _ (out : List Place) (used : ℕ) where
       split (isLost (t .fate))
       (λ gone.
       rw gone
-      (slip-after first slips shown (suc place) (suc k) ts (alike .1) (sent .1) (from .0, rw gone at (from .1), from .2) (omega arith)))
+      (slip-after first slips shown (suc place) (suc k) ts (alike .1) (sent .1) (from .0, rw gone at (from .1), from .2)
+      (omega arith)))
       (λ here.
       split (comesRound (after k))
       (λ round.
@@ -246,7 +247,9 @@ any-loss longest-row st sends trips receives with-overhead row these within fair
       sound = ap (those isMarkedSound) (all .hands) ∙ sound-places 0 never trips;
       as-sent = tells-all 0 never trips;
       slip-back =
-          slip-first (handed receives) (S.usedNow st) 0 trips (all-alike st trips in-a-row) (each-wrote st trips in-a-row) (all .hands);
+          slip-first (handed receives) (S.usedNow st) 0 trips (all-alike st trips in-a-row) (each-wrote st trips in-a-row)
+          (all .hands);
       counted =
-          ap (λ (n : ℕ). firstPlace (takenIn trips) + n + 16 * totalOf sixteens (takenIn trips)) (all .counts) ∙ past-first 0 trips;
+          ap (λ (n : ℕ). firstPlace (takenIn trips) + n + 16 * totalOf sixteens (takenIn trips)) (all .counts)
+          ∙ past-first 0 trips;
     }

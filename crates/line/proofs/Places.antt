@@ -1,4 +1,5 @@
--- Demand 3 is the case of rows of at most fourteen lost cells: each unaltered cell is taken, and all that were lost before it are shown.
+-- Demand 3 is the case of rows of at most fourteen lost cells: each unaltered cell is taken, and all that were lost before it are
+-- shown.
 -- Assumes nothing.
 use mathlib.Core.Bool.{Bool, true, false, true≢false, cond}
 use mathlib.Core.List.{List, [], _∷_, _++_, map, flatMap, append-assoc}
@@ -52,7 +53,6 @@ use Rattle.line.specs.Losses.{
   comesRound,
   storyFrom,
   takenFrom,
-  missingBefore,
   placesWith,
   refusalsAt,
   refusalsWith,
@@ -101,7 +101,8 @@ unfolding flatMap
 none-waits used ts e =
     split (allLost ts) (λ all. e ∙ rw (all, none-to-last ts all)) (λ some. e ∙ rw (some, zero-mul used))
 
-lost-places : (used : ℕ) (t : Trip) → S.usedNow (t .sent .state) ≡ used → isLost (t .fate) ≡ true → placesOf t ≡ replicate used missing
+lost-places : (used : ℕ) (t : Trip) → S.usedNow (t .sent .state) ≡ used → isLost (t .fate) ≡ true
+    → placesOf t ≡ replicate used missing
 unfolding placesOf
 lost-places used t alike lost = rw (lost, alike)
 
@@ -302,7 +303,11 @@ whatever st sends trips receives with-overhead row these within fair meets came 
     let bound : 0 + 0 + length trips ≤ 4294967295 = omega arith in
     comes trips st (R.openState (st .format) (st .channels) (st .order)) 0 never receives
     (subst (Sending Wrote st) (sym these) (only-written sends st row)) fair
-    (record { with-overhead = with-overhead; same = record { format = refl; channels = refl; order = refl }; stands = (refl, refl, refl) })
+    (record {
+      with-overhead = with-overhead;
+      same = record { format = refl; channels = refl; order = refl };
+      stands = (refl, refl, refl);
+    })
     bound (record { meets = meets; these = came; room = room })
 
 -- What the calls come to, and a little more than demand 3 asks: cells lost before the first unaltered one and after the last may be

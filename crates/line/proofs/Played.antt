@@ -1,9 +1,9 @@
 -- The records of a log as calls of `receive`: what is made of them is what the calls answer and hand out.
 -- Assumes nothing.
-use mathlib.Core.Bool.{Bool, cond, not}
+use mathlib.Core.Bool.{cond}
 use mathlib.Core.List.{List, [], _∷_, _++_, map, flatMap, zip, zipWith}
 use mathlib.Core.Path.{_≡_, refl, sym, _∙_, ap, ap₂}
-use Prim.Native.Nat.{ℕ, suc, _+_, _*_, _-_}
+use Prim.Native.Nat.{ℕ, _+_, _*_, _-_}
 use native.Mathlib.Nat.{suc-mul}
 use native.Mathlib.Numerals.{add-one}
 use native.Mathlib.Omega.{arith}
@@ -16,15 +16,30 @@ use Rattle.runs.proofs.Laws.{split, length-tab}
 use Rattle.cells.specs.Cells.{entriesOf}
 use Rattle.receiver.specs.declared.Receiver.{Receiver}
 use Rattle.receiver.specs.Receiver as R
-use Rattle.receiver.proofs.Laws.{answer-refusal, answer-missing, passes}
+use Rattle.receiver.proofs.Laws.{answer-refusal, answer-missing}
 use Rattle.receiver.proofs.Room.{room-in-720}
-use Rattle.reading.specs.Heard.{Heard, heardBy, given, hear, onward, heardFrom, soundIn, missingIn, markedWith}
+use Rattle.reading.specs.Heard.{heardBy, given, hear, onward, heardFrom, soundIn, missingIn, markedWith}
 use Rattle.reading.specs.Records.{Whole}
 use Rattle.reading.specs.Totals.{totalOf, countOf}
 use Rattle.reading.proofs.Heard.{refused-gives}
 use Rattle.reading.proofs.Totals.{total-joined}
 use Rattle.line.specs.Contracts.{ReceiveCall, MeetsReceive}
-use Rattle.line.specs.Line.{Row, Receiving, Each, Arrival, taken, WithRoom, Place, places, handedBy, handed, refusals, total, soundBy, missingBy}
+use Rattle.line.specs.Line.{
+  Row,
+  Receiving,
+  Each,
+  Arrival,
+  taken,
+  WithRoom,
+  Place,
+  places,
+  handedBy,
+  handed,
+  refusals,
+  total,
+  soundBy,
+  missingBy,
+}
 use Rattle.line.specs.Tools.{placesHeard, hasMark}
 use Rattle.line.proofs.Logs.{wholeOf}
 use Rattle.line.proofs.Steps.{take-zip}
@@ -83,7 +98,8 @@ unfolding callsFor heardBy
 calls-refuse st [] = refl
 calls-refuse st (r ∷ rs) = ap (λ (l : List ℕ). hear st r .answer .refusal ∷ l) (calls-refuse (onward (hear st r)) rs)
 
-pub calls-take-cells : (st : Receiver) (records : List Whole) → total soundBy (callsFor st records) ≡ soundIn (heardFrom st records)
+pub calls-take-cells : (st : Receiver) (records : List Whole)
+    → total soundBy (callsFor st records) ≡ soundIn (heardFrom st records)
 unfolding callsFor heardBy total totalOf
 calls-take-cells st [] = refl
 calls-take-cells st (r ∷ rs) =
@@ -135,7 +151,8 @@ hands-heard st r =
     let nothing = refused-gives st r e (R.samplesNow st (r .cell)) in
     rw (e, nothing))
 
-pub calls-hand : (st : Receiver) (records : List Whole) → handed (callsFor st records) ≡ flatMap placesHeard (heardFrom st records)
+pub calls-hand : (st : Receiver) (records : List Whole)
+    → handed (callsFor st records) ≡ flatMap placesHeard (heardFrom st records)
 unfolding callsFor heardBy flatMap
 calls-hand st [] = refl
 calls-hand st (r ∷ rs) = ap₂ (λ (a b : List Place). a ++ b) (hands-heard st r) (calls-hand (onward (hear st r)) rs)

@@ -196,7 +196,8 @@ placed-on : {left now before first : ℕ} (k rest : ℕ) → left ≡ now + rest
     → left ≡ first + (suc k + rest)
 placed-on k rest here there start = omega arith
 
-within-lost : (since : Since) (rc : Receiver) (t : Trip) (ts : List Trip) → Within rc since (t ∷ ts) → Within rc (oneMore since) ts
+within-lost : (since : Since) (rc : Receiver) (t : Trip) (ts : List Trip) → Within rc since (t ∷ ts)
+    → Within rc (oneMore since) ts
 within-lost never rc t ts few = let less : rc .count + 0 + suc (length ts) ≤ 4294967295 = few in omega arith
 within-lost (after k) rc t ts few = let less : rc .count + k + suc (length ts) ≤ 4294967295 = few in omega arith
 
@@ -241,7 +242,8 @@ module _ (t : Trip) (ts : List Trip) (sends : MeetsSend (t .sent)) (sent : t .se
           stands = stands-on rc since (beside .stands);
         }
 
-    module _ (rc : Receiver) (place : ℕ) (since : Since) (beside : Beside (s .state) rc since) (within : Within rc since (t ∷ ts)) where
+    module _ (rc : Receiver) (place : ℕ) (since : Since) (beside : Beside (s .state) rc since)
+        (within : Within rc since (t ∷ ts)) where
       abbrev ComesOf : Fate → Type 0
       ComesOf fate =
           t .fate ≡ fate → (calls : List ReceiveCall) → Takes rc calls (arrivalOf s fate ++ arrivals ts)
@@ -253,7 +255,8 @@ module _ (t : Trip) (ts : List Trip) (sends : MeetsSend (t .sent)) (sent : t .se
       answered e here there = here ∙ ap₂ (λ (f : Fate) (l : List ℕ). refusalsAt (comesRound since) f ++ l) (sym e) there
 
       -- a cell that is not taken: calls that are all refused alike, and then those that follow
-      not-taken : {fate : Fate} (again refusal : ℕ) → t .fate ≡ fate → isTaken (record { trip = t; place = place; since = since }) ≡ false
+      not-taken : {fate : Fate} (again refusal : ℕ) → t .fate ≡ fate
+          → isTaken (record { trip = t; place = place; since = since }) ≡ false
           → refusalsAt (comesRound since) fate ≡ replicate again refusal → {calls : List ReceiveCall}
           → Skipped again refusal rc calls (arrivals ts) → Comes rc place since (t ∷ ts) calls
       unfolding storyFrom those totalOf flatMap
@@ -264,12 +267,14 @@ module _ (t : Trip) (ts : List Trip) (sends : MeetsSend (t .sent)) (sent : t .se
             hands = skipped .hands ∙ on .hands ∙ rw lost;
             counts = ap (λ (x : Receiver). x .count) (skipped .leaves) ∙ on .counts ∙ rw lost;
             answers =
-                answered e (skipped .answers ∙ ap (λ (l : List ℕ). l ++ refusals (skipped .rest)) (sym these)) (on .answers) ∙ rw lost;
+                answered e (skipped .answers ∙ ap (λ (l : List ℕ). l ++ refusals (skipped .rest)) (sym these)) (on .answers)
+                ∙ rw lost;
           }
 
       trip-dropped : ComesOf dropped
       trip-dropped e calls takes =
-          not-taken 0 8 e (rw (ap isLost e)) refl (record { rest = calls; takes = takes; hands = refl; leaves = refl; answers = refl })
+          not-taken 0 8 e (rw (ap isLost e)) refl
+          (record { rest = calls; takes = takes; hands = refl; leaves = refl; answers = refl })
 
       trip-spoiled : {came : List ℕ} {indication : Bool} {again : ℕ} → ComesOf (spoiled came indication again)
       trip-spoiled {came} {again = again} e calls takes =

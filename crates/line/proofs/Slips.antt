@@ -1,4 +1,5 @@
--- Any loss is sharp: sixteen cells in a row do slip, and receivers that slip by eight or give sound samples out of order don't meet it.
+-- Any loss is sharp: sixteen cells in a row do slip, and receivers that slip by eight or give sound samples out of order don't
+-- meet it.
 -- Assumes nothing.
 use mathlib.Core.Bool.{Bool, true, false}
 use mathlib.Core.List.{List, [], _∷_, _++_, map, reverse}
@@ -61,8 +62,8 @@ outage n = ((1, unaltered 0) ∷ replicate n (0, dropped)) ++ ((2, unaltered 1) 
 abbrev pub plays : List (ℕ × Fate) → List ReceiveCall
 plays xs = receives fresh (arrivals (trips studio xs))
 
--- what is shown of a row of cells: how many cells it was, from the first unaltered one to the last, what the calls answered, how many
--- cells they placed, and the marks
+-- what is shown of a row of cells: how many cells it was, from the first unaltered one to the last, what the calls answered, how
+-- many cells they placed, and the marks
 pub record Shown (sent placed : ℕ) (answers marks : List ℕ) (these : List Trip) (calls : List ReceiveCall) : Type 0 where
   pub were : pastLast (fromFirst these) ≡ sent
   pub placed-so : leftBy fresh calls .count ≡ placed
@@ -90,14 +91,15 @@ module _ (Box : ReceiveCall → Type 0) (meets : AnyLoss 3 4294967295 MeetsSend 
     (none-refused : sends studio xs ≡ wrote (sends studio xs)) (within : length (trips studio xs) ≤ 4294967295)
     (fair : Each (λ t. Fair 3 (t .sent) (t .fate)) (trips studio xs))
   where
-    shows : (calls : List ReceiveCall) → Receiving Box fresh calls → map taken calls ≡ arrivals (trips studio xs) → Each WithRoom calls
-        → Shows fresh (trips studio xs) calls
+    shows : (calls : List ReceiveCall) → Receiving Box fresh calls → map taken calls ≡ arrivals (trips studio xs)
+        → Each WithRoom calls → Shows fresh (trips studio xs) calls
     unfolding opened
     shows calls =
         meets (longest 0 (trips studio xs)) studio (sends studio xs) (trips studio xs) calls (λ e. suc-ne-zero 3 e)
         (sends-in-a-row studio xs) none-refused within fair (le-refl _)
 
--- A receiver that tells numbers apart modulo 8 only: eight cells too few are missing where there are so many, and places slip by 8.
+-- A receiver that tells numbers apart modulo 8 only: eight cells too few are missing where there are so many, and places slip by
+-- 8.
 abbrev slipped : Receiver → List ℕ → Bool → Received
 slipped st cell indication =
     record {
@@ -159,7 +161,8 @@ not-by-eight meets =
     let lengths : _≡_ {A = ℕ} 10 50 = ap length (kept .handed-out) in
     omega arith
 
--- A receiver that is right in all but the order of a cell's samples: it gives them from the last to the first, and marks them sound.
+-- A receiver that is right in all but the order of a cell's samples: it gives them from the last to the first, and marks them
+-- sound.
 pub record Reverses (c : ReceiveCall) : Type 0 where
   pub answer-right : c .answer
       ≡ R.receivedOf (c .state) (c .cell) (c .indication) (length (c .samples)) (length (c .ancillary)) (length (c .marks))
@@ -186,6 +189,7 @@ pub not-sixteen : Demand3 3 16 4294967295 MeetsSend MeetsReceive → ⊥
 unfolding opened trips receives
 not-sixteen meets =
     let kept = honest-plays 3 16 4294967295 meets (outage 16) refl (omega arith)
-    (tt, (tt, (tt, (tt, (tt, (tt, (tt, (tt, (tt, (tt, (tt, (tt, (tt, (tt, (tt, (tt, (tt, (tt, (tt, tt))))))))))))))))))) (omega arith) in
+    (tt, (tt, (tt, (tt, (tt, (tt, (tt, (tt, (tt, (tt, (tt, (tt, (tt, (tt, (tt, (tt, (tt, (tt, (tt, tt)))))))))))))))))))
+    (omega arith) in
     let places : _≡_ {A = ℕ} 15 95 = ap length (kept .handed-out) in
     omega arith

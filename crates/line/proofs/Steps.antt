@@ -158,7 +158,8 @@ module _ (s : SendCall) (sends : MeetsSend s) (sent : s .answer .refusal ≡ 0) 
 
     -- an unaltered one with the number of the one taken last is refused
     pub round-gets : c .cell ≡ s .written → c .indication ≡ s .indication → WithRoom c
-        → R.lastRefused (c .state) || R.countRefused (c .state) ≡ false → R.gapOf (c .state) (c .cell) ≡ 0 → c .answer .refusal ≡ 9
+        → R.lastRefused (c .state) || R.countRefused (c .state) ≡ false → R.gapOf (c .state) (c .cell) ≡ 0
+        → c .answer .refusal ≡ 9
     unfolding refusalOf
     round-gets arrived indicated room fourth-passes none =
         received-refusal c receives

@@ -1,13 +1,13 @@
 -- What the tools tell is sharp: a reading that counts a copy as missing doesn't tell the story, and a log as it asks can be had.
 -- Assumes nothing.
-use mathlib.Core.Bool.{true, false, cond}
-use mathlib.Core.List.{List, [], _∷_, _++_, map}
+use mathlib.Core.Bool.{false, cond}
+use mathlib.Core.List.{List, [], _∷_, map}
 use mathlib.Core.Path.{_≡_, refl}
-use Prim.Native.Nat.{ℕ, _+_, _*_}
+use Prim.Native.Nat.{ℕ, _+_}
 use native.Mathlib.Nat.{suc-ne-zero}
 use native.Mathlib.Omega.{arith}
 use lib.Dec.{eqb}
-use lib.ListN.{length, replicate}
+use lib.ListN.{replicate}
 use Rattle.runs.specs.Runs.{written}
 use Rattle.log.specs.Numbers.{groupsOf}
 use Rattle.log.specs.Written.{kept, headerOctets, headerRefused, recordOctets, recordRefusal}
@@ -116,6 +116,6 @@ pub told-so : Counted (readingOf log .heard)
 unfolding opened trips carried ToolsTell
 told-so =
     let told : ToldBy studio (trips studio carried) log
-    = tools-tell studio (sends studio carried) (trips studio carried) log (λ e. suc-ne-zero 3 e) (sends-in-a-row studio carried) refl
-    (omega arith) (tt, (tt, ((omega arith, omega arith), (tt, tt)))) (omega arith) can-be-told in
+    = tools-tell studio (sends studio carried) (trips studio carried) log (λ e. suc-ne-zero 3 e) (sends-in-a-row studio carried)
+    refl (omega arith) (tt, (tt, ((omega arith, omega arith), (tt, tt)))) (omega arith) can-be-told in
     record { sound = told .tells .sound; missing = told .tells .missing; refused = told .tells .refused }

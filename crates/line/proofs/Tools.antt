@@ -1,17 +1,15 @@
 -- The tools tell the line's story: counts over the records of a log are counts over the trips of its cells.
 -- Assumes nothing.
-use mathlib.Core.Bool.{Bool, true, false, cond, not, _&&_}
+use mathlib.Core.Bool.{Bool, true, false, cond, not}
 use mathlib.Core.List.{List, [], _∷_, _++_, map, flatMap, zip, zipWith}
 use mathlib.Core.Path.{_≡_, refl, sym, _∙_, ap, ap₂, subst}
-use Prim.Native.Nat.{ℕ, zero, suc, _+_, _≤_}
+use Prim.Native.Nat.{ℕ, zero, suc, _+_}
 use native.Mathlib.Nat.{suc-ne-zero, le-trans}
 use native.Mathlib.Omega.{arith}
 use borrow.Author.Tests.{eq-eqb, ne-eqb}
 use lib.Dec.{eqb}
 use lib.ListN.{length, replicate}
 use Rattle.runs.proofs.Laws.{split, both-true}
-use Rattle.formats.specs.Formats.{formatOf}
-use Rattle.sender.specs.declared.Sender.{Sender}
 use Rattle.sender.specs.Sender as S
 use Rattle.receiver.specs.declared.Receiver.{Receiver}
 use Rattle.receiver.specs.Receiver as R
@@ -27,7 +25,6 @@ use Rattle.listing.specs.List.{linesOf}
 use Rattle.line.specs.Contracts.{SendCall, MeetsSend, ReceiveCall}
 use Rattle.line.specs.Line.{
   Sending,
-  wrote,
   Fate,
   dropped,
   spoiled,
@@ -35,8 +32,6 @@ use Rattle.line.specs.Line.{
   isLost,
   Trip,
   Each,
-  Fair,
-  longest,
   Arrival,
   arrivalOf,
   arrivals,
@@ -46,11 +41,9 @@ use Rattle.line.specs.Line.{
   allLost,
   toLast,
   pastLast,
-  refusals,
   refusalsOf,
 }
 use Rattle.line.specs.Tools.{
-  LogOf,
   isUnaltered,
   firstDelivery,
   spoiledTimes,
@@ -60,7 +53,6 @@ use Rattle.line.specs.Tools.{
   notZero,
   soundNotZero,
   TellsStory,
-  ToldBy,
   ToolsTell,
 }
 use Rattle.line.proofs.Cells.{fits}
@@ -132,7 +124,8 @@ unfolding T.Each
 framed-later [] more each = each
 framed-later (a ∷ first) more each = framed-later first more (each .1)
 
-framed-fate : (s : SendCall) (fate : Fate) (more : List Arrival) → T.Each Framed (map wholeOf (arrivalOf s fate ++ more)) → FramedFate fate
+framed-fate : (s : SendCall) (fate : Fate) (more : List Arrival) → T.Each Framed (map wholeOf (arrivalOf s fate ++ more))
+    → FramedFate fate
 unfolding T.Each
 framed-fate s dropped more each = tt
 framed-fate s (spoiled came indication again) more each = each .0
@@ -178,7 +171,8 @@ refused-of : (fate : Fate) → FramedFate fate → countOf (λ k. not (eqb k 0))
 unfolding totalOf
 refused-of dropped whole = refl
 refused-of (spoiled came indication again) whole =
-    answers-spoiled (λ k. not (eqb k 0)) came indication again whole ∙ (let same : suc again ≡ suc again + 0 = omega arith in same)
+    answers-spoiled (λ k. not (eqb k 0)) came indication again whole
+    ∙ (let same : suc again ≡ suc again + 0 = omega arith in same)
 refused-of (unaltered again) whole = answers-unaltered (λ k. not (eqb k 0)) again
 
 -- the lost cells between the first unaltered one and the last, and the unaltered ones, are all there
@@ -241,7 +235,8 @@ unfolding keptBy
 kept-fate s dropped ns more = refl
 kept-fate s (spoiled came indication again) ns more = kept-none (refused-so (eqb (length came) 48)) (suc again) _ ns more
 kept-fate s (unaltered again) ns more =
-    ap (λ (l : List Whole). record { indication = s .indication; cell = s .written } ∷ l) (kept-none (suc-ne-zero 8) again _ ns more)
+    ap (λ (l : List Whole). record { indication = s .indication; cell = s .written } ∷ l)
+    (kept-none (suc-ne-zero 8) again _ ns more)
 
 kept-trips : (ts : List Trip)
     → keptBy (flatMap (λ t. refusalsOf (t .fate)) ts) (map wholeOf (arrivals ts)) ≡ map firstDelivery (those isUnaltered ts)
@@ -274,16 +269,20 @@ own-there : (t : Trip) → Wrote (t .sent) → isLost (t .fate) ≡ false → th
 unfolding there placesOf
 own-there t sent here =
     let fit = fits (t .sent) (sent .0) (sent .1) in
-    rw here (zip-there (t .sent .samples) (t .sent .ancillary) (S.usedNow (t .sent .state)) (fit .samples-length) (fit .ancillary-length))
+    rw here
+    (zip-there (t .sent .samples) (t .sent .ancillary) (S.usedNow (t .sent .state)) (fit .samples-length) (fit .ancillary-length))
 
-none-outside : (f : Trip → ℕ) → ((t : Trip) → isLost (t .fate) ≡ true → f t ≡ 0) → (ts : List Trip) → allLost ts ≡ true → totalOf f ts ≡ 0
+abbrev NoneOf : (Trip → ℕ) → Type 0
+NoneOf f = (t : Trip) → isLost (t .fate) ≡ true → f t ≡ 0
+
+none-outside : (f : Trip → ℕ) → NoneOf f → (ts : List Trip) → allLost ts ≡ true → totalOf f ts ≡ 0
 unfolding totalOf allLost
 none-outside f none [] e = refl
 none-outside f none (t ∷ ts) e =
     let both = both-true (isLost (t .fate)) (allLost ts) e in
     ap₂ (λ (a b : ℕ). a + b) (none t (both .0)) (none-outside f none ts (both .1))
 
-total-to-last : (f : Trip → ℕ) → ((t : Trip) → isLost (t .fate) ≡ true → f t ≡ 0) → (ts : List Trip) → totalOf f (toLast ts) ≡ totalOf f ts
+total-to-last : (f : Trip → ℕ) → NoneOf f → (ts : List Trip) → totalOf f (toLast ts) ≡ totalOf f ts
 unfolding totalOf toLast
 total-to-last f none [] = refl
 total-to-last f none (t ∷ ts) =
@@ -291,8 +290,7 @@ total-to-last f none (t ∷ ts) =
     (λ all. rw all (sym (none-outside f none (t ∷ ts) all)))
     (λ some. rw some (ap (λ (n : ℕ). f t + n) (total-to-last f none ts)))
 
-total-from-first : (f : Trip → ℕ) → ((t : Trip) → isLost (t .fate) ≡ true → f t ≡ 0) → (ts : List Trip)
-    → totalOf f (fromFirst ts) ≡ totalOf f ts
+total-from-first : (f : Trip → ℕ) → NoneOf f → (ts : List Trip) → totalOf f (fromFirst ts) ≡ totalOf f ts
 unfolding totalOf fromFirst
 total-from-first f none [] = refl
 total-from-first f none (t ∷ ts) =

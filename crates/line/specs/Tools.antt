@@ -1,6 +1,6 @@
 -- What the tools tell of a log of the cells as they arrived: the line's own story.
 -- Assumes nothing.
-use mathlib.Core.Bool.{Bool, cond, not, _&&_}
+use mathlib.Core.Bool.{Bool, not, _&&_}
 use mathlib.Core.List.{List, [], _∷_, _++_, map, flatMap}
 use mathlib.Core.Path.{_≡_}
 use Prim.Native.Nat.{ℕ, suc, _+_, _≤_}
@@ -10,7 +10,7 @@ use Rattle.formats.specs.Formats.{formatOf}
 use Rattle.sender.specs.declared.Sender.{Sender}
 use Rattle.log.specs.declared.keep.Kept.{Kept}
 use Rattle.reading.specs.Heard.{Heard, soundIn, missingIn, refusedIn, refusedWith, markedWith, keptOf}
-use Rattle.reading.specs.Reading.{Reading, readingOf}
+use Rattle.reading.specs.Reading.{readingOf}
 use Rattle.reading.specs.Records.{Whole}
 use Rattle.reading.specs.Totals.{totalOf, countOf, those}
 use Rattle.listing.specs.Lines.{formatLine, endLine}
@@ -48,7 +48,8 @@ pub record KeepCall : Type 0 where
 
 abbrev pub KeepsIt : KeepCall → Type 0
 KeepsIt c =
-    MeetsWriteRecord (c .log) (c .place) (c .came .indication) (c .came .cell) (c .answer) (c .log-after) × (c .answer .refusal ≡ 0)
+    MeetsWriteRecord (c .log) (c .place) (c .came .indication) (c .came .cell) (c .answer) (c .log-after)
+    × (c .answer .refusal ≡ 0)
 
 -- such calls in a row, each with the log and the place that the one before it left; and what was written in the end
 abbrev pub Keeping : List ℕ → ℕ → List KeepCall → Type 0
@@ -59,7 +60,8 @@ unfoldable pub writtenBy : List ℕ → ℕ → List KeepCall → List ℕ
 writtenBy log place [] = take place log
 writtenBy log place (c ∷ cs) = writtenBy (c .log-after) (c .answer .next) cs
 
--- "the cells as they arrived, in a log that the library wrote": `write_header` with the sender's settings, then `write_record` for each
+-- "the cells as they arrived, in a log that the library wrote": `write_header` with the sender's settings, then `write_record` for
+-- each
 pub record LogOf (st : Sender) (came : List Arrival) (log : List ℕ) : Type 0 where
   pub lent : List ℕ
   pub opening : Kept

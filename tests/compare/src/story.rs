@@ -129,7 +129,8 @@ fn spoil(cell: &mut [u8], slots: usize, mask: u8, garbage: bool, random: &mut Ra
     }
 }
 
-/// What the receiver makes of each sent cell, however many are lost: how many cells are told missing before it, or that it isn't taken.
+/// What the receiver makes of each sent cell, however many are lost: how many cells are told missing before it, or that it isn't
+/// taken.
 /// After k lost ones since the last that was taken it is k modulo 16; where that is 15 the cell is refused and lost too.
 fn taken(trips: &[Trip]) -> Vec<Option<usize>> {
     let mut lost_since = None;
