@@ -239,7 +239,7 @@ past-first place (t ∷ ts) =
 pub any-loss : AnyLoss 3 4294967295 MeetsSend MeetsReceive
 unfolding AnyLoss
 any-loss longest-row st sends trips receives with-overhead row these within fair few meets came room =
-    let all = whatever st sends trips receives with-overhead row these within fair meets came room in
+    let all = whatever longest-row st sends trips receives with-overhead row these within fair few meets came room in
     let in-a-row = subst (Sending Wrote st) (sym these) (only-written sends st row) in
     record {
       handed-out = all .hands;

@@ -10,18 +10,15 @@ use native.Mathlib.Omega.{arith}
 use borrow.Author.Tests.{ne-eqb}
 use lib.ListN.{length, replicate, replicate-append-replicate}
 use Rattle.runs.proofs.Laws.{split, both-true}
-use Rattle.formats.specs.Formats.{formatOf}
 use Rattle.sender.specs.declared.Sender.{Sender}
 use Rattle.sender.specs.Sender as S
 use Rattle.receiver.specs.declared.Receiver.{Receiver}
 use Rattle.receiver.specs.Receiver as R
 use Rattle.reading.specs.Totals.{totalOf, those}
-use Rattle.line.specs.Contracts.{SendCall, MeetsSend, ReceiveCall, MeetsReceive}
+use Rattle.line.specs.Contracts.{MeetsSend, ReceiveCall, MeetsReceive}
 use Rattle.line.specs.Line.{
   Row,
   Sending,
-  Receiving,
-  wrote,
   Fate,
   dropped,
   spoiled,
@@ -29,17 +26,14 @@ use Rattle.line.specs.Line.{
   isLost,
   Trip,
   Each,
-  Fair,
   longest,
-  arrivals,
-  taken,
-  WithRoom,
   Place,
   placesOf,
   fromFirst,
   allLost,
   toLast,
   pastLast,
+  OverTheLine,
   ComesOut,
   refusals,
   refusalsOf,
@@ -289,17 +283,9 @@ pub longest-inside : (ts : List Trip) → longest 0 (toLast (fromFirst ts)) ≤ 
 longest-inside ts = le-trans (longest-to-last 0 (fromFirst ts)) (longest-from-first ts)
 
 -- What the calls come to, whatever is lost.
-pub whatever : (st : Sender) (sends : List SendCall) (trips : List Trip) (receives : List ReceiveCall)
-    → (formatOf (st .format) .«overhead_bits» ≡ 0 → ⊥)
-    → Sending MeetsSend st sends
-    → map (λ t. t .sent) trips ≡ wrote sends
-    → length trips ≤ 4294967295
-    → Each (λ t. Fair 3 (t .sent) (t .fate)) trips
-    → Receiving MeetsReceive (R.openState (st .format) (st .channels) (st .order)) receives
-    → map taken receives ≡ arrivals trips
-    → Each WithRoom receives
-    → Comes (R.openState (st .format) (st .channels) (st .order)) 0 never trips receives
-whatever st sends trips receives with-overhead row these within fair meets came room =
+pub whatever : (longest-row : ℕ) → OverTheLine 3 longest-row 4294967295 MeetsSend MeetsReceive
+    (λ fresh trips receives. Comes fresh 0 never trips receives)
+whatever longest-row st sends trips receives with-overhead row these within fair few meets came room =
     let bound : 0 + 0 + length trips ≤ 4294967295 = omega arith in
     comes trips st (R.openState (st .format) (st .channels) (st .order)) 0 never receives
     (subst (Sending Wrote st) (sym these) (only-written sends st row)) fair
@@ -310,26 +296,17 @@ whatever st sends trips receives with-overhead row these within fair meets came 
     })
     bound (record { meets = meets; these = came; room = room })
 
--- What the calls come to, and a little more than demand 3 asks: cells lost before the first unaltered one and after the last may be
+-- What they come to, and a little more than demand 3 asks: cells lost before the first unaltered one and after the last may be
 -- more than fourteen.
 pub record Inside (fresh : Receiver) (trips : List Trip) (receives : List ReceiveCall) : Type 0 where
   pub comes-out : ComesOut fresh trips receives
   pub refused-so : refusals receives ≡ flatMap (λ t. refusalsOf (t .fate)) trips
 
-pub demand-3-inside : (st : Sender) (sends : List SendCall) (trips : List Trip) (receives : List ReceiveCall)
-    → (formatOf (st .format) .«overhead_bits» ≡ 0 → ⊥)
-    → Sending MeetsSend st sends
-    → map (λ t. t .sent) trips ≡ wrote sends
-    → length trips ≤ 4294967295
-    → Each (λ t. Fair 3 (t .sent) (t .fate)) trips
-    → longest 0 (toLast (fromFirst trips)) ≤ 14
-    → Receiving MeetsReceive (R.openState (st .format) (st .channels) (st .order)) receives
-    → map taken receives ≡ arrivals trips
-    → Each WithRoom receives
-    → Inside (R.openState (st .format) (st .channels) (st .order)) trips receives
-demand-3-inside st sends trips receives with-overhead row these within fair few meets came room =
-    let bounded = between 14 trips few in
-    let all = whatever st sends trips receives with-overhead row these within fair meets came room in
+pub demand-3-inside : (longest-row : ℕ) → OverTheLine 3 longest-row 4294967295 MeetsSend MeetsReceive
+    (λ fresh trips receives. longest 0 (toLast (fromFirst trips)) ≤ 14 → Inside fresh trips receives)
+demand-3-inside longest-row st sends trips receives with-overhead row these within fair few meets came room inside =
+    let bounded = between 14 trips inside in
+    let all = whatever longest-row st sends trips receives with-overhead row these within fair few meets came room in
     let in-a-row = subst (Sending Wrote st) (sym these) (only-written sends st row) in
     let none : 0 + totalOf cellsWith (takenFrom 0 never trips) ≡ totalOf cellsWith (takenFrom 0 never trips) = omega arith in
     record {

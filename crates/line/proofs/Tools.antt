@@ -392,8 +392,8 @@ tools-tell st sends trips log with-overhead row these within fair few is =
     let fresh = R.openState (st .format) (st .channels) (st .order) in
     let came = arrivals trips in
     let records = map wholeOf came in
-    let inside = demand-3-inside st sends trips (callsFor fresh records) with-overhead row these within fair
-    (le-trans (longest-inside trips) few) (calls-in-a-row fresh records) (calls-take fresh came) (calls-room fresh records) in
+    let inside = demand-3-inside 14 st sends trips (callsFor fresh records) with-overhead row these within fair few
+    (calls-in-a-row fresh records) (calls-take fresh came) (calls-room fresh records) (le-trans (longest-inside trips) few) in
     let in-a-row = subst (Sending Wrote st) (sym these) (only-written sends st row) in
     let story = subst (TellsStory trips) (sym (read-heard is))
     (tells-story fresh trips refl inside (framed is) (each-wrote st trips in-a-row)) in

@@ -60,8 +60,8 @@ unfoldable pub writtenBy : List ℕ → ℕ → List KeepCall → List ℕ
 writtenBy log place [] = take place log
 writtenBy log place (c ∷ cs) = writtenBy (c .log-after) (c .answer .next) cs
 
--- "the cells as they arrived, in a log that the library wrote": `write_header` with the sender's settings, then `write_record` for
--- each
+-- "the cells as they arrived, in a log that the library wrote": `write_header` with the sender's settings, then `write_record`
+-- for each
 pub record LogOf (st : Sender) (came : List Arrival) (log : List ℕ) : Type 0 where
   pub lent : List ℕ
   pub opening : Kept
