@@ -103,6 +103,11 @@ module _ {A : Type 0} where
   total-each f g [] each = refl
   total-each f g (x ∷ xs) each = ap₂ (λ (a b : ℕ). a + b) (each .0) (total-each f g xs (each .1))
 
+  total-none : (xs : List A) → totalOf (λ x. 0) xs ≡ 0
+  unfolding totalOf
+  total-none [] = refl
+  total-none (x ∷ xs) = ap (λ (n : ℕ). 0 + n) (total-none xs)
+
   total-plus : (f g : A → ℕ) (xs : List A) → totalOf (λ x. f x + g x) xs ≡ totalOf f xs + totalOf g xs
   unfolding totalOf
   total-plus f g [] = refl
@@ -166,6 +171,15 @@ unfolding totalOf
 nine-of dropped whole = refl
 nine-of (spoiled came indication again) whole = answers-spoiled (λ k. eqb k 9) came indication again whole
 nine-of (unaltered again) whole = answers-unaltered (λ k. eqb k 9) again ∙ (let same : 0 + again ≡ again = omega arith in same)
+
+else-of : (n : ℕ) → (n ≡ 0 → ⊥) → (n ≡ 8 → ⊥) → (n ≡ 9 → ⊥) → (fate : Fate) → FramedFate fate
+    → countOf (λ k. eqb k n) (refusalsOf fate) ≡ 0
+unfolding totalOf
+else-of n not-0 not-8 not-9 dropped whole = refl
+else-of n not-0 not-8 not-9 (spoiled came indication again) whole =
+    answers-spoiled (λ k. eqb k n) came indication again whole ∙ rw (ne-eqb 8 n (λ e. not-8 (sym e)))
+else-of n not-0 not-8 not-9 (unaltered again) whole =
+    answers-unaltered (λ k. eqb k n) again ∙ rw (ne-eqb 0 n (λ e. not-0 (sym e)), ne-eqb 9 n (λ e. not-9 (sym e)))
 
 refused-of : (fate : Fate) → FramedFate fate → countOf (λ k. not (eqb k 0)) (refusalsOf fate) ≡ spoiledTimes fate + copies fate
 unfolding totalOf
@@ -377,6 +391,9 @@ module _ (st : Receiver) (trips : List Trip) (none : st .count ≡ 0)
               ∙ total-plus (λ t. spoiledTimes (t .fate)) (λ t. copies (t .fate)) trips;
           refused-8 = answered (λ k. eqb k 8) spoiledTimes eight-of;
           refused-9 = answered (λ k. eqb k 9) copies nine-of;
+          refused-else =
+              λ n not-0 not-8 not-9.
+              answered (λ k. eqb k n) (λ fate. 0) (else-of n not-0 not-8 not-9) ∙ total-none trips;
           handed-out = placed;
           marks = λ mark. heard-marks mark st records ∙ ap (λ (l : List Place). countOf (hasMark mark) l) placed;
           kept =

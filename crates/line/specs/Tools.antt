@@ -114,6 +114,7 @@ pub record TellsStory (trips : List Trip) (heard : List Heard) : Type 0 where
   pub refused : refusedIn heard ≡ totalOf (λ t. spoiledTimes (t .fate)) trips + totalOf (λ t. copies (t .fate)) trips
   pub refused-8 : refusedWith 8 heard ≡ totalOf (λ t. spoiledTimes (t .fate)) trips
   pub refused-9 : refusedWith 9 heard ≡ totalOf (λ t. copies (t .fate)) trips
+  pub refused-else : (refusal : ℕ) → (refusal ≡ 0 → ⊥) → (refusal ≡ 8 → ⊥) → (refusal ≡ 9 → ⊥) → refusedWith refusal heard ≡ 0
   -- "the sheet's marks are those of what demand 3 hands out"
   pub handed-out : flatMap placesHeard heard ≡ flatMap placesOf (toLast (fromFirst trips))
   pub marks : (mark : ℕ) → markedWith mark heard ≡ countOf (hasMark mark) (flatMap placesOf (toLast (fromFirst trips)))
