@@ -135,9 +135,9 @@ pub record ToldBy (st : Sender) (trips : List Trip) (log : List ℕ) : Type 0 wh
       ++ endLine (countOf isUnaltered trips) (countOf (λ t. isLost (t .fate)) (toLast (fromFirst trips)))
       (totalOf (λ t. spoiledTimes (t .fate)) trips + totalOf (λ t. copies (t .fate)) trips))
 
--- "under demand 3's conditions (copies included)"
-unfoldable pub ToolsTell : ℕ → ℕ → ℕ → (SendCall → Type 0) → Type 0
-ToolsTell most row cells SendBox =
+-- what holds of every such log "under demand 3's conditions (copies included)"
+abbrev pub OfALog : ℕ → ℕ → ℕ → (SendCall → Type 0) → (Sender → List Trip → List ℕ → Type 0) → Type 0
+OfALog most row cells SendBox Holds =
     (st : Sender) (sends : List SendCall) (trips : List Trip) (log : List ℕ)
     → (formatOf (st .format) .«overhead_bits» ≡ 0 → ⊥)
     → Sending SendBox st sends
@@ -146,4 +146,7 @@ ToolsTell most row cells SendBox =
     → Each (λ t. Fair most (t .sent) (t .fate)) trips
     → longest 0 trips ≤ row
     → LogOf st (arrivals trips) log
-    → ToldBy st trips log
+    → Holds st trips log
+
+unfoldable pub ToolsTell : ℕ → ℕ → ℕ → (SendCall → Type 0) → Type 0
+ToolsTell most row cells SendBox = OfALog most row cells SendBox ToldBy
