@@ -30,7 +30,7 @@ START = ROOT / "line/proofs/Demands.antt"
 BEYOND = ROOT / "line/proofs/Beyond.antt"
 CODE = {"Code", "Packing", "Unpacking", "Marks", "Settings", "Sound", "Steps", "Taken", "Taking"}
 CONTRACTS = ("line", "Contracts")
-MOST = 1006
+MOST = 1007
 
 NAME = r"[^\s(){}\[\],;.:λ∷→«»\"]+"
 DECLARES = re.compile(rf"^(?:unfoldable |abbrev )?(?:pub )?(?:record |data )?({NAME})\s*(?:[:({{]|$)")
