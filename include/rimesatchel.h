@@ -7,9 +7,9 @@
  *
  * Every function but rime_check_character and rime_receiver_placed returns a refusal number, RIME_DONE (0) where there
  * is none. A call never does half of its work. A refusal leaves every lent run and the state as they were, and fills
- * `report`, `out` of rime_status_step, `header`, `record`, `units`, `*entries`, `answer` or the two entries or halves of
- * a frame with zeros; an opening that is refused fills `state` with zeros, which is itself refused 1. Where several
- * refusals apply, the first in the order of the list at each function is given.
+ * `report`, `out` of rime_status_step, `header`, `record`, `counts`, `units`, `*entries`, `answer` or the two entries or
+ * halves of a frame with zeros; an opening that is refused fills `state` with zeros, which is itself refused 1. Where
+ * several refusals apply, the first in the order of the list at each function is given.
  *
  * Lent memory: a run is a pointer and the number of its entries. A pointer is never NULL (a run of no entries may
  * point anywhere else), and no two arguments of one call overlap.
@@ -36,6 +36,7 @@ enum {
     RIME_STATUS_OCTETS = 24,
     RIME_HEADER = 4,
     RIME_RECORD = 4,
+    RIME_COUNTS = 3,
     RIME_UNITS = 3,
     RIME_MOST_SLOTS = 48,
     RIME_MOST_MISSING = 14
@@ -85,6 +86,7 @@ enum {
     RIME_REFUSED_PREAMBLES = 16,  /* the preambles of a frame aren't X then Y, or Z then Y */
     RIME_REFUSED_PARITY = 17,     /* odd parity over slots 4 to 31 in either half of a frame */
     RIME_REFUSED_COUNT = 20,      /* the count of cells placed would pass 4,294,967,295 */
+    RIME_REFUSED_OUTPUT = 21,     /* an output of the salvage is shorter than what goes into it */
     RIME_REFUSED_PLAN = 22,       /* more than 64 circuits or 1,024 channels */
     RIME_REFUSED_FREQUENCY = 23,  /* a sampling frequency of 0 or above 1,000,000 */
     RIME_REFUSED_OVERHEAD = 26,   /* data units: a format with overhead */
@@ -128,6 +130,9 @@ enum { RIME_STATUS_NONE = 0, RIME_STATUS_DOES_NOT_FIT = 1, RIME_STATUS_FITS = 2,
 enum { RIME_HEADER_PLACE = 0, RIME_HEADER_FORMAT = 1, RIME_HEADER_CHANNELS = 2, RIME_HEADER_ORDER = 3 };
 enum { RIME_RECORD_WHAT = 0, RIME_RECORD_INDICATION = 1, RIME_RECORD_START = 2, RIME_RECORD_NEXT = 3 };
 enum { RIME_RECORD_IS_END = 0, RIME_RECORD_IS_CELL = 1 };
+
+/* Places in what rime_salvage counts. */
+enum { RIME_COUNTS_OCTETS = 0, RIME_COUNTS_LEFT_OUT = 1, RIME_COUNTS_CUT = 2 };
 
 /* Places in what rime_units_export tells. */
 enum { RIME_UNITS_OCTETS = 0, RIME_UNITS_FULL = 1, RIME_UNITS_COUNT = 2 };
@@ -231,6 +236,22 @@ uint8_t rime_log_header(const uint8_t *log, size_t log_len, uint32_t header[RIME
  * before the 48 octets do.
  */
 uint8_t rime_log_record(const uint8_t *log, size_t log_len, size_t place, uint64_t record[RIME_RECORD]);
+
+/*
+ * Salvages a log: writes into `out` a new one with the same header and, as they stand and in their order, exactly the
+ * records that a receiver answers as sound, run from fresh with room up to the first framing fault or the end. Writes into
+ * `list` two numbers for each whole record that it leaves out: the record, counted from 0, and its refusal.
+ * What is past the new log and past the list stays. Leaves in `counts` the octets of the new log, the records left out,
+ * and the octets cut, from the first of a faulty record to the end. The log may be of any length; `log_len` octets and
+ * 2 * (`log_len` / 49) numbers are always room enough. A receiver that runs over the new log hands out what it hands out
+ * over the old one up to its first framing fault, and ends in the same state. A new log salvaged again stays as it is:
+ * nothing is left out and nothing cut. `log_len` is the octets of the new log, 49 for each record left out, and the octets
+ * cut.
+ * Refused, with `out` and `list` untouched and `counts` zeros: 11, 1, 2 and 3, as for rime_log_header; then 21, `out` is
+ * shorter than the new log or `list` than two numbers for each record left out.
+ */
+uint8_t rime_salvage(const uint8_t *log, size_t log_len, uint8_t *out, size_t out_len, uint64_t *list, size_t list_len,
+                     uint64_t counts[RIME_COUNTS]);
 
 /* The preambles of an AES3 frame's halves, by their letters. */
 enum { RIME_PREAMBLE_X = 0x58, RIME_PREAMBLE_Y = 0x59, RIME_PREAMBLE_Z = 0x5A };

@@ -45,6 +45,7 @@ ARGUMENTS = {
     "rime_receiver_open": [c_uint32, c_uint32, c_uint32, OCTETS],
     "rime_receive": [OCTETS, OCTETS, c_size_t, c_bool, POINTER(c_uint64), c_size_t, OCTETS, c_size_t, OCTETS, c_size_t,
                      OCTETS],
+    "rime_salvage": [OCTETS, c_size_t, OCTETS, c_size_t, POINTER(c_uint64), c_size_t, POINTER(c_uint64)],
     "rime_aes3_import": [OCTETS, POINTER(c_uint32), POINTER(c_uint64), OCTETS],
     "rime_aes3_export": [POINTER(c_uint64), OCTETS, OCTETS, POINTER(c_uint32)],
     "rime_status_step": [OCTETS, c_uint8, c_uint8, OCTETS],

@@ -27,6 +27,8 @@ use Rattle.log.specs.Written.{numberRefusal, headerRefused, recordRefusal}
 use Rattle.text.specs.declared.Put.{Put}
 use Rattle.listing.specs.declared.Listing.{Listing}
 use Rattle.listing.specs.Lines.{logRefusedLine}
+use Rattle.saving.specs.declared.Salvaged.{Salvaged}
+use Rattle.saving.specs.Salvage.{salvageRefusal}
 use Rattle.text.specs.Put.{listed}
 use Rattle.cable.specs.declared.Imported.{Imported}
 use Rattle.cable.specs.declared.Exported.{Exported}
@@ -53,6 +55,7 @@ use Rattle.line.specs.Contracts.{
   MeetsWriteHeader,
   MeetsWriteRecord,
   MeetsEnd,
+  MeetsSalvage,
   MeetsImport,
   MeetsExport,
   MeetsExportUnits,
@@ -93,6 +96,7 @@ use Rattle.line.proofs.Refused.{
   next-stays,
   keeps,
   lists,
+  salvages,
   imports,
   exports,
   exports-units,
@@ -169,6 +173,11 @@ pub demand-1-list : (l : Listing) (held run : List ℕ) (r : Put) (after : List 
     → (r ≡ listed (length run) (logRefusedLine (headerOf (take (l .standing .count % 9) held) .refusal)))
     × (after ≡ over (take (length run) (logRefusedLine (headerOf (take (l .standing .count % 9) held) .refusal))) run)
 demand-1-list = lists
+
+pub demand-1-salvage : (log out list : List ℕ) (r : Salvaged) (out₁ list₁ : List ℕ) → MeetsSalvage log out list r out₁ list₁
+    → Refuses (r .refusal) (salvageRefusal log (length out) (length list))
+    ((r .octets ≡ 0) × (r .«left_out» ≡ 0) × (r .cut ≡ 0) × (out₁ ≡ out) × (list₁ ≡ list))
+demand-1-salvage = salvages
 
 pub demand-1-import : (preambles subframes : List ℕ) (r : Imported) → MeetsImport preambles subframes r
     → Refuses (r .refusal) (importRefusal preambles subframes) ((r .samples ≡ 0 ∷ 0 ∷ []) × (r .ancillary ≡ 0 ∷ 0 ∷ []))

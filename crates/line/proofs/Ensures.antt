@@ -63,6 +63,8 @@ use Rattle.listing.proofs.end.Kinds as list-end-kinds
 use Rattle.listing.proofs.end.Reads as list-end-reads
 use Rattle.listing.proofs.take.Kinds as list-take-kinds
 use Rattle.listing.proofs.take.Reads as list-take-reads
+use Rattle.saving.proofs.salvage.Kinds as salvage-kinds
+use Rattle.saving.proofs.salvage.Reads as salvage-reads
 use Rattle.cable.proofs.import_frame.Kinds as import-kinds
 use Rattle.cable.proofs.import_frame.Reads as import-reads
 use Rattle.cable.proofs.export_frame.Kinds as export-kinds
@@ -93,6 +95,7 @@ use Rattle.line.specs.Contracts.{
   MeetsWriteRecord,
   MeetsEnd,
   MeetsTake,
+  MeetsSalvage,
   MeetsImport,
   MeetsExport,
   MeetsExportUnits,
@@ -199,6 +202,10 @@ list-take-ensures κs a x v p = p
 pub list-end-ensures : Ensured list-end-kinds.ps list-end-kinds.r list-end-reads.Post
     (λ κs a x v. MeetsEnd (a .0) (a .1 .0) (now (a .1 .1 .0)) x (v .1 .1 .0))
 list-end-ensures κs a x v p = p
+
+pub salvage-ensures : Ensured salvage-kinds.ps salvage-kinds.r salvage-reads.Post
+    (λ κs a x v. MeetsSalvage (now (a .0)) (now (a .1 .0)) (now (a .1 .1 .0)) x (v .1 .0) (v .1 .1 .0))
+salvage-ensures κs a x v p = p
 
 pub import-ensures : Ensured import-kinds.ps import-kinds.r import-reads.Post (λ κs a x v. MeetsImport (a .0) (a .1 .0) x)
 import-ensures κs a x v p = p

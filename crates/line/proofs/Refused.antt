@@ -33,6 +33,9 @@ use Rattle.listing.specs.declared.Listing.{Listing}
 use Rattle.listing.specs.Lines.{logRefusedLine}
 use Rattle.text.specs.Put.{listed}
 use Rattle.listing.proofs.Refused.{refused-end}
+use Rattle.saving.specs.declared.Salvaged.{Salvaged}
+use Rattle.saving.specs.Salvage.{salvageRefusal}
+use Rattle.saving.proofs.Refusals as saving
 use Rattle.cable.specs.declared.Imported.{Imported}
 use Rattle.cable.specs.declared.Exported.{Exported}
 use Rattle.cable.specs.Frames.{importRefusal, exportRefusal}
@@ -53,6 +56,7 @@ use Rattle.line.specs.Contracts.{
   MeetsReadCell,
   MeetsNextPlace,
   MeetsEnd,
+  MeetsSalvage,
   MeetsImport,
   MeetsExport,
   MeetsExportUnits,
@@ -175,6 +179,18 @@ pub lists : (l : Listing) (held run : List ℕ) (r : Put) (after : List ℕ) →
 lists l held run r after meets z =
     let line = refused-end l held z in
     (meets .printed ∙ ap (listed (length run)) line, meets .wrote ∙ ap (λ (text : List ℕ). over (take (length run) text) run) line)
+
+pub salvages : (log out list : List ℕ) (r : Salvaged) (out₁ list₁ : List ℕ) → MeetsSalvage log out list r out₁ list₁
+    → Refuses (r .refusal) (salvageRefusal log (length out) (length list))
+    ((r .octets ≡ 0) × (r .«left_out» ≡ 0) × (r .cut ≡ 0) × (out₁ ≡ out) × (list₁ ≡ list))
+salvages log out list r out₁ list₁ meets =
+    record {
+      by-the-table = saving.refused-by meets;
+      then-nothing =
+          λ some.
+          let counts = saving.counts-none meets some in
+          (counts .0, counts .1, counts .2, saving.out-stays meets some, saving.list-stays meets some);
+    }
 
 pub imports : (preambles subframes : List ℕ) (r : Imported) → MeetsImport preambles subframes r
     → Refuses (r .refusal) (importRefusal preambles subframes) ((r .samples ≡ 0 ∷ 0 ∷ []) × (r .ancillary ≡ 0 ∷ 0 ∷ []))

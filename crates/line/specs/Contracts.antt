@@ -29,6 +29,8 @@ use Rattle.text.specs.declared.Put.{Put}
 use Rattle.listing.specs.declared.Listing.{Listing}
 use Rattle.listing.specs.declared.Printed.{Printed}
 use Rattle.listing.specs.Taking.{Takes, Ends}
+use Rattle.saving.specs.declared.Salvaged.{Salvaged}
+use Rattle.saving.specs.Salvage.{Salvages}
 use Rattle.cable.specs.declared.Imported.{Imported}
 use Rattle.cable.specs.declared.Exported.{Exported}
 use Rattle.cable.specs.Frames.{importOf, exportOf}
@@ -121,6 +123,10 @@ MeetsTake l held piece run r held-after run-after = Takes l held piece run r hel
 
 abbrev pub MeetsEnd : Listing → List ℕ → List ℕ → Put → List ℕ → Type 0
 MeetsEnd l held run r after = Ends l held run r after
+
+-- `salvage`
+abbrev pub MeetsSalvage : List ℕ → List ℕ → List ℕ → Salvaged → List ℕ → List ℕ → Type 0
+MeetsSalvage log out list r out-after list-after = Salvages log out list r out-after list-after
 
 -- `import_frame` and `export_frame`
 abbrev pub MeetsImport : List ℕ → List ℕ → Imported → Type 0

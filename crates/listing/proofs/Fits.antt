@@ -37,42 +37,8 @@ use Rattle.listing.specs.Taking.{
 use Rattle.text.specs.Put.{listed}
 use Rattle.text.specs.Text.{digitsOf, item}
 use Rattle.text.specs.Words.{words}
+use Rattle.text.proofs.Short.{take-to, with-words, one-item, three-short, two-short, listed-whole}
 use Rattle.listing.proofs.Texts.{text-joined}
-use Rattle.listing.proofs.Whole.{take-to}
-
-length-digits : (k n : ℕ) → length (digitsOf k n) ≤ k
-unfolding digitsOf
-length-digits zero n = omega arith
-length-digits (suc k) n =
-    split (ltb n 10)
-    (λ e. rw e (omega arith))
-    (λ e. rw (e, length-append (digitsOf k (n / 10)) ((48 + n % 10) ∷ [])) (omega (arith, length-digits k (n / 10))))
-
--- words and a number behind octets
-with-item : (octets more : List ℕ) (n : ℕ) {a b : ℕ} → length octets ≤ a → length more ≤ b → length (octets ++ item more n) ≤ a + b + 20
-with-item octets more n h l =
-    rw (length-append octets (item more n), length-append more (digitsOf 20 n)) (omega (arith, length-digits 20 n))
-
-with-words : (octets more : List ℕ) {a b : ℕ} → length octets ≤ a → length more ≤ b → length (octets ++ more) ≤ a + b
-with-words octets more h l = rw (length-append octets more) (omega arith)
-
-one-item : (more : List ℕ) (n : ℕ) {b : ℕ} → length more ≤ b → length (item more n) ≤ b + 20
-one-item more n l = rw (length-append more (digitsOf 20 n)) (omega (arith, length-digits 20 n))
-
-three-short : (first second third last : List ℕ) (a b c : ℕ) {i j k l : ℕ} → length first ≤ i → length second ≤ j → length third ≤ k
-    → length last ≤ l → length (item first a ++ item second b ++ item third c ++ last) ≤ i + j + k + l + 60
-three-short first second third last a b c hi hj hk hl =
-    let one = one-item first a hi in
-    let two = with-item (item first a) second b one hj in
-    let three = with-item (item first a ++ item second b) third c two hk in
-    omega (arith, with-words (item first a ++ item second b ++ item third c) last three hl)
-
-two-short : (first second last : List ℕ) (a b : ℕ) {i j l : ℕ} → length first ≤ i → length second ≤ j → length last ≤ l
-    → length (item first a ++ item second b ++ last) ≤ i + j + l + 40
-two-short first second last a b hi hj hl =
-    let one = one-item first a hi in
-    let two = with-item (item first a) second b one hj in
-    omega (arith, with-words (item first a ++ item second b) last two hl)
 
 line-short : (index : ℕ) (got : Received) → length (lineOf index got) ≤ 76
 unfolding lineOf
@@ -218,17 +184,10 @@ module _ (l : Listing) (held : List ℕ) where
       (λ b. rw (a, b) (omega arith)))
 
 -- so a run of that many octets holds all of it
-listed-whole : (text run : List ℕ) {answer : Put} → length text ≤ 131072 → 131072 ≤ length run → answer ≡ listed (length run) text
-    → (answer .whole ≡ true) × (answer .octets ≤ length run)
-listed-whole text run fits room is = (
-  ap (λ (x : Put). x .whole) is ∙ le-leb (length text) (length run) (omega arith),
-  omega (arith, ap (λ (x : Put). x .octets) is, take-to (length run) text),
-)
-
 pub takes-whole : {l : Listing} {held piece run held-after run-after : List ℕ} {answer : Printed} → Takes l held piece run answer held-after run-after
     → length piece ≤ 65536 → 131072 ≤ length run → (answer .listed .whole ≡ true) × (answer .listed .octets ≤ length run)
-takes-whole {l} {held} {piece} {run} takes few room = listed-whole (pieceText l held piece) run (piece-fits l held piece few) room (takes .printed)
+takes-whole {l} {held} {piece} {run} takes few room = listed-whole (pieceText l held piece) run 131072 (piece-fits l held piece few) room (takes .printed)
 
 pub ends-whole : {l : Listing} {held run run-after : List ℕ} {answer : Put} → Ends l held run answer run-after → 131072 ≤ length run
     → (answer .whole ≡ true) × (answer .octets ≤ length run)
-ends-whole {l} {held} {run} ends room = listed-whole (endOfText l held) run (end-fits l held) room (ends .printed)
+ends-whole {l} {held} {run} ends room = listed-whole (endOfText l held) run 131072 (end-fits l held) room (ends .printed)

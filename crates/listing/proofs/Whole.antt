@@ -26,6 +26,7 @@ use Rattle.pieces.specs.Steps.{takingOf, stoodOf, handedOver}
 use Rattle.pieces.specs.Taken.{Taking, after, handed, endParts, joinedOf}
 use Rattle.pieces.proofs.Octets.{handed-joined}
 use Rattle.pieces.proofs.Walks.{stood-state, stood-size, division-parts}
+use Rattle.text.proofs.Short.{take-to}
 use Rattle.listing.specs.declared.Listing.{Listing}
 use Rattle.listing.specs.declared.Tally.{Tally}
 use Rattle.listing.specs.Lines.{formatLine, brokenLine, endLine, logRefusedLine}
@@ -132,11 +133,6 @@ text-records st n s m f (w ∷ ws) fault few s-to m-to f-to =
     ∙ ap (λ (l : List ℕ). line ++ l) more
     ∙ sym (append-assoc line lines end)
     ∙ ap (λ (l : List ℕ). (line ++ lines) ++ l) (end-same (onward h) st fault a b c d))
-
-pub take-to : (n : ℕ) (l : List ℕ) → length (take n l) ≤ n
-take-to zero l = omega arith
-take-to (suc n) [] = omega arith
-take-to (suc n) (x ∷ l) = omega (arith, take-to n l)
 
 module _ (limit : ℕ) (long : limit ≤ 4294967295) (log : List ℕ) where
   abbrev records : List Whole

@@ -8,5 +8,7 @@ pub mod NetworkOne
 pub mod NetworkWrong
 pub mod PlansOne
 pub mod PlansWrong
+pub mod SalvagesOne
+pub mod SalvagesWrong
 pub mod StatusesOne
 pub mod Wrong

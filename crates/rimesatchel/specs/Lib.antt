@@ -3,4 +3,5 @@ pub mod Frames
 pub mod Logs
 pub mod Network
 pub mod Plans
+pub mod Salvages
 pub mod Statuses

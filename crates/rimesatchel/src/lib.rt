@@ -4,4 +4,5 @@ mod frames; // frames.rt: frames of an AES3 cable
 mod logs; // logs.rt: a log's header and records
 mod network; // network.rt: data units for the other network, out and back
 mod plans; // plans.rt: sharing channels out over circuits
+mod salvages; // salvages.rt: the salvage of a log
 mod statuses; // statuses.rt: a step of channel status, and the check character

@@ -17,6 +17,7 @@ pub enum Kind {
     ReadRecord,
     Linelist,
     LinelistLimit,
+    Salvage,
     Aes3Import,
     Aes3Export,
     Equipment,
@@ -34,7 +35,7 @@ impl Kind {
 }
 
 /// Kind, name, and the fields in and out: n a number, r a run of numbers or a state, o octets.
-const KINDS: [(Kind, &str, &str, &str); 19] = [
+const KINDS: [(Kind, &str, &str, &str); 20] = [
     (Kind::SenderOpen, "sender_open", "nnnnnn", "nr"),
     (Kind::ReceiverOpen, "receiver_open", "nnn", "nr"),
     (Kind::Send, "send", "rnrro", "nro"),
@@ -46,6 +47,7 @@ const KINDS: [(Kind, &str, &str, &str); 19] = [
     (Kind::ReadRecord, "read_record", "on", "nnnnn"),
     (Kind::Linelist, "linelist", "o", "o"),
     (Kind::LinelistLimit, "linelist_limit", "on", "o"),
+    (Kind::Salvage, "salvage", "oor", "nornnn"),
     (Kind::Aes3Import, "aes3_import", "or", "nrr"),
     (Kind::Aes3Export, "aes3_export", "rr", "nor"),
     (Kind::Equipment, "equipment", "ooo", "noonnnn"),

@@ -59,6 +59,15 @@ mod raw {
         pub fn rime_check_character(block: *const [u8; 24]) -> u8;
         pub fn rime_log_header(log: *const u8, log_len: usize, header: *mut [u32; 4]) -> u8;
         pub fn rime_log_record(log: *const u8, log_len: usize, place: usize, record: *mut [u64; 4]) -> u8;
+        pub fn rime_salvage(
+            log: *const u8,
+            log_len: usize,
+            out: *mut u8,
+            out_len: usize,
+            list: *mut u64,
+            list_len: usize,
+            counts: *mut [u64; 3],
+        ) -> u8;
         pub fn rime_aes3_import(
             preambles: *const [u8; 2],
             subframes: *const [u32; 2],
@@ -175,6 +184,12 @@ pub fn log_header(log: &[u8], header: &mut [u32; 4]) -> u8 {
 
 pub fn log_record(log: &[u8], place: usize, record: &mut [u64; 4]) -> u8 {
     unsafe { raw::rime_log_record(log.as_ptr(), log.len(), place, record) }
+}
+
+pub fn salvage(log: &[u8], out: &mut [u8], list: &mut [u64], counts: &mut [u64; 3]) -> u8 {
+    let (out_at, out_len) = (out.as_mut_ptr(), out.len());
+    let (list_at, list_len) = (list.as_mut_ptr(), list.len());
+    unsafe { raw::rime_salvage(log.as_ptr(), log.len(), out_at, out_len, list_at, list_len, counts) }
 }
 
 pub fn aes3_import(preambles: &[u8; 2], subframes: &[u32; 2], samples: &mut [u64; 2], ancillary: &mut [u8; 2]) -> u8 {

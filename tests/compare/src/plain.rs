@@ -10,6 +10,7 @@ mod cells;
 mod circuits;
 mod log;
 mod management;
+mod salvage;
 mod status;
 mod units;
 
@@ -19,6 +20,7 @@ pub use cells::Shape;
 pub use circuits::{check_plan, plan, Fault};
 pub use log::{header, listing, listing_to, record, Record};
 pub use management::{controller, equipment};
+pub use salvage::salvage;
 pub use status::{check_character, step, Block, Character};
 pub use units::{export_units, read_unit};
 

@@ -17,6 +17,7 @@ pub fn by_library(case: &Case) -> Option<Answer> {
         Kind::CheckCharacter if cfg!(feature = "status") => check_character(case),
         Kind::ReadHeader if cfg!(feature = "log") => read_header(case),
         Kind::ReadRecord if cfg!(feature = "log") => read_record(case),
+        Kind::Salvage if cfg!(feature = "log") => salvage(case),
         Kind::Aes3Import if cfg!(feature = "cable") => aes3_import(case),
         Kind::Aes3Export if cfg!(feature = "cable") => aes3_export(case),
         Kind::Equipment => management::equipment_by_library(case),
@@ -156,6 +157,16 @@ fn read_record(case: &Case) -> Option<Answer> {
     let refusal = face::log_record(case.octets(0), place, &mut record);
     let mut answer = values![u64::from(refusal)];
     answer.extend(record.map(Value::Number));
+    Some(answer)
+}
+
+fn salvage(case: &Case) -> Option<Answer> {
+    let mut out = Fenced::around(case.octets(1), LEFT_OVER);
+    let mut list = Fenced::around(case.run(2), u64::MAX);
+    let mut counts = [u64::MAX; 3];
+    let refusal = face::salvage(case.octets(0), out.lent(), list.lent(), &mut counts);
+    let mut answer = values![u64::from(refusal), &out.back()[..], &list.back()[..]];
+    answer.extend(counts.map(Value::Number));
     Some(answer)
 }
 

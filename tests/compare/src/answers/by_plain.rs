@@ -21,6 +21,7 @@ pub fn by_plain(case: &Case) -> Answer {
         Kind::Controller => management::controller_by_plain(case),
         Kind::Linelist => values![plain::listing(case.octets(0)).as_bytes()],
         Kind::LinelistLimit => values![plain::listing_to(case.octets(0), case.number(1)).as_bytes()],
+        Kind::Salvage => salvage(case),
         Kind::Aes3Import => aes3_import(case),
         Kind::Aes3Export => aes3_export(case),
         Kind::UnitsExport => units_export(case),
@@ -131,6 +132,27 @@ fn read_record(case: &Case) -> Answer {
         Ok(Record::Cell { indication, start, next }) => values![0, 1, indication, start as u64, next as u64],
         Ok(Record::End) => values![0, 0, 0, 0, place],
         Err(refusal) => values![u64::from(refusal), 0, 0, 0, 0],
+    }
+}
+
+/// 21 where either run is shorter than all that goes into it.
+fn salvage(case: &Case) -> Answer {
+    let (mut out, mut list) = (case.octets(1).to_vec(), case.run(2).to_vec());
+    let saved = plain::salvage(case.octets(0)).and_then(|saved| {
+        if saved.log.len() > out.len() || saved.list.len() > list.len() {
+            Err(21)
+        } else {
+            Ok(saved)
+        }
+    });
+    match saved {
+        Ok(saved) => {
+            out[..saved.log.len()].copy_from_slice(&saved.log);
+            list[..saved.list.len()].copy_from_slice(&saved.list);
+            let (octets, left_out) = (saved.log.len() as u64, saved.list.len() as u64 / 2);
+            values![0, &out[..], &list[..], octets, left_out, saved.cut as u64]
+        }
+        Err(refusal) => values![u64::from(refusal), &out[..], &list[..], 0, 0, 0],
     }
 }
 

@@ -2,8 +2,8 @@
 
 use super::inputs::{alter, cell, indication, setup, wrong_number};
 use super::{Played, Referee};
-use crate::case::{values, Case, Kind};
-use crate::plain::Shape;
+use crate::case::{fields, values, Case, Kind};
+use crate::plain::{self, Shape};
 use crate::random::Random;
 
 /// A log number, one time in twelve longer than its shortest form.
@@ -82,7 +82,39 @@ pub fn list(random: &mut Random, referee: &mut Referee) -> Played {
     let mut log = log(random);
     if random.one_in(8) {
         let whole = log.clone();
-        log = whole.iter().copied().chain(std::iter::repeat(0)).take(random.pick(&[65_535, 65_536, 65_537, 131_072, 200_000])).collect();
+        log = whole
+            .iter()
+            .copied()
+            .chain(std::iter::repeat(0))
+            .take(random.pick(&[65_535, 65_536, 65_537, 131_072, 200_000]))
+            .collect();
     }
     referee.call(Case::new(Kind::Linelist, values![&log[..]])).map(|_| ())
+}
+
+/// A length beside that of a result: one short of it, just as long, longer, or anything up to twice as long.
+fn about(length: usize, random: &mut Random) -> usize {
+    match random.below(6) {
+        0 => length.saturating_sub(1),
+        1 | 2 => length,
+        3 | 4 => length + random.place(60),
+        _ => random.place(2 * length + 1),
+    }
+}
+
+/// A log salvaged, and what came of it salvaged again.
+pub fn salvage(random: &mut Random, referee: &mut Referee) -> Played {
+    let log = log(random);
+    let (octets, numbers) = plain::salvage(&log).map_or((3, 2), |saved| (saved.log.len(), saved.list.len()));
+    let (octets, numbers) = (about(octets, random), about(numbers, random));
+    let (out, list) = (random.octets(octets), random.wide_run(numbers));
+    let answer = referee.call(Case::new(Kind::Salvage, values![&log[..], &out[..], &list[..]]))?;
+    if answer[0].number() != 0 {
+        return Ok(());
+    }
+    let new = &answer[1].octets()[..answer[3].number() as usize];
+    let again = referee.call(Case::new(Kind::Salvage, values![new, &vec![0u8; new.len()][..], &[7u64][..]]))?;
+    let same = values![0, new, &[7u64][..], new.len() as u64, 0, 0];
+    assert!(again == same, "salvaged twice: {}", fields(&again));
+    Ok(())
 }

@@ -8,7 +8,7 @@ const MOST_GROUPS: usize = 3;
 /// The most octets of a log that `linelist` lists.
 const MOST_LISTED: u64 = 4_294_967_295;
 /// The most that one cell brings: fourteen missing and its own, at 48 entries each.
-const AMPLE_ROOM: usize = 15 * 48;
+pub const AMPLE_ROOM: usize = 15 * 48;
 
 /// A log number at `place` and the place after it.
 fn log_number(log: &[u8], place: usize) -> Result<(u64, usize), Refusal> {
