@@ -16,6 +16,9 @@ request 5 by 47 (the count: its refusals, its place in demand 3, the sum over ro
 (`receiver::judged`), request 14 by 1 (a list taken in pieces), request 9 by 224 (where the salvage gives 21 depends on what the
 receiver answers to each record of a log: the reading of a log and the receiver's whole answer; its own words are 25 of them).
 
+How many lines more are reached by the page beside the demands, crates/line/proofs/Beyond.antt, is told too; MOST isn't about
+them.
+
     python3 tools/reading.py [-v]      -v prints each definition with its lines
 """
 
@@ -25,6 +28,7 @@ import sys
 
 ROOT = pathlib.Path(__file__).resolve().parent.parent / "crates"
 START = ROOT / "line/proofs/Demands.antt"
+BEYOND = ROOT / "line/proofs/Beyond.antt"
 CODE = {"Code", "Packing", "Unpacking", "Marks", "Settings", "Sound", "Steps", "Taken", "Taking"}
 CONTRACTS = ("line", "Contracts")
 MOST = 1231
@@ -136,10 +140,10 @@ def resolve(said, names, modules, here):
     return (here.crate, here.module, name) if here and name in here.blocks else None
 
 
-def statements():
-    """The names that the statements of the demands say."""
-    names, modules = imports(START)
-    for _, _, text in blocks(START):
+def statements(page):
+    """The names that the statements of a page say."""
+    names, modules = imports(page)
+    for _, _, text in blocks(page):
         # the statement alone: what stands before the proof
         name = DECLARES.match(text.splitlines()[0]).group(1)
         statement = re.split(rf"^(?:unfolding |{re.escape(name)}(?: .*)? ?=)", text, flags=re.M)[0]
@@ -147,9 +151,9 @@ def statements():
             yield resolve(said, names, modules, None)
 
 
-def reach(behind_contracts):
-    """What the statements reach: each definition's file, lines and name."""
-    waiting, seen, reached = list(statements()), set(), set()
+def reach(page, behind_contracts):
+    """What a page's statements reach: each definition's file, lines and name."""
+    waiting, seen, reached = list(statements(page)), set(), set()
     while waiting:
         what = waiting.pop()
         if what is None or what in seen:
@@ -177,7 +181,7 @@ def reach(behind_contracts):
 
 
 def main():
-    reached, by_file = reach(False), {}
+    reached, by_file = reach(START, False), {}
     for path, lines, name in reached:
         by_file.setdefault(path, []).append((name, lines))
     for path in sorted(by_file):
@@ -187,8 +191,15 @@ def main():
                 print(f"         {lines:3} {name}")
     total = sum(lines for _, lines, _ in reached)
     print(f"{total:5}  lines in {len(by_file)} files, at most {MOST}")
-    print(f"{sum(lines for _, lines, _ in reach(True) - reached):5}  lines more behind the contracts, which are proved and not trusted")
-    wrong = [path for path in by_file if path.suffix == ".antt" and path.stem in CODE]
+    behind = sum(lines for _, lines, _ in reach(START, True) - reached)
+    print(f"{behind:5}  lines more behind the contracts, which are proved and not trusted")
+    beyond = reach(BEYOND, False) - reached
+    print(f"{sum(lines for _, lines, _ in beyond):5}  lines more for {BEYOND.relative_to(ROOT.parent)}")
+    if "-v" in sys.argv[1:]:
+        for path, lines, name in sorted(beyond):
+            print(f"         {lines:3} {path.relative_to(ROOT.parent)} {name}")
+    paths = {path for path, _, _ in reached | beyond}
+    wrong = sorted(path for path in paths if path.suffix == ".antt" and path.stem in CODE)
     for path in wrong:
         print(f"reading: {path.relative_to(ROOT.parent)} has the code's words", file=sys.stderr)
     if wrong or total > MOST:

@@ -26,7 +26,7 @@ one-refused : {left now before first missing : ℕ} (sound more : ℕ) → left 
     → before ≡ first → missing ≡ 0 → left ≡ first + (0 + sound + (missing + more))
 one-refused sound more rest here start none = omega arith
 
-counted-on : (st : Receiver) (calls : List ReceiveCall) → Receiving MeetsReceive st calls
+pub counted-on : (st : Receiver) (calls : List ReceiveCall) → Receiving MeetsReceive st calls
     → leftBy st calls .count ≡ st .count + (total soundBy calls + total missingBy calls)
 unfolding Row leftBy total
 counted-on st [] row = none-yet (st .count)

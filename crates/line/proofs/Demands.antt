@@ -231,14 +231,16 @@ demand-2-numbers = tells
 pub demand-3 : Demand3 3 14 4294967295 MeetsSend MeetsReceive
 unfolding Demand3
 demand-3 st sends trips receives with-overhead row these within fair few meets came room =
-    demand-3-inside st sends trips receives with-overhead row these within fair (le-trans (longest-inside trips) few) meets came room
+    demand-3-inside 14 st sends trips receives with-overhead row these within fair few meets came room
+    (le-trans (longest-inside trips) few)
     .comes-out
 
 -- "Extra copies of an unaltered cell are refused 9 and leave nothing behind": the latter is demand 1's. No call of the row gets 20.
 pub demand-3-copies : OverTheLine 3 14 4294967295 MeetsSend MeetsReceive
     (λ fresh trips receives. refusals receives ≡ flatMap (λ t. refusalsOf (t .fate)) trips)
 demand-3-copies st sends trips receives with-overhead row these within fair few meets came room =
-    demand-3-inside st sends trips receives with-overhead row these within fair (le-trans (longest-inside trips) few) meets came room
+    demand-3-inside 14 st sends trips receives with-overhead row these within fair few meets came room
+    (le-trans (longest-inside trips) few)
     .refused-so
 
 -- Request 5: "Keep it in the receiver's state, true after every call: it equals the sound cells plus the missing counts of the calls

@@ -1,3 +1,4 @@
+pub mod Beyond
 pub mod Bound
 pub mod Calls
 pub mod Cases
@@ -8,12 +9,18 @@ pub mod Demands
 pub mod Ensures
 pub mod Examples
 pub mod Frames
+pub mod Logs
+pub mod Losses
 pub mod Opened
 pub mod Places
+pub mod Played
 pub mod Recounts
 pub mod Refused
 pub mod Repeats
 pub mod Rows
 pub mod Sharp
+pub mod Slips
 pub mod Steps
+pub mod Told
+pub mod Tools
 pub mod Units

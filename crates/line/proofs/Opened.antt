@@ -12,7 +12,9 @@ use Rattle.cells.specs.Cells as C
 use Rattle.cells.specs.Placement.{slotOf, slotOfEntry, entryOfSlot, carried}
 use Rattle.sender.specs.Sender as S
 use Rattle.receiver.specs.Receiver as R
+use Rattle.reading.specs.Totals.{totalOf, those}
 use Rattle.line.specs.Line as L
+use Rattle.line.specs.Losses.{storyFrom, pastPlace, SlipBack, AnyLoss}
 
 runs : Unit {0}
 unfolding flatMap zip zipWith ones onesIn coefficients divided takenDown orElse tab joined octetsOf readOn over
@@ -56,6 +58,10 @@ line : Unit {0}
 unfolding L.Row L.wrote L.Each L.longest L.placesOf L.fromFirst L.allLost L.toLast L.pastLast L.leftBy L.total L.CountsCells L.Demand3
 line = tt
 
+losses : Unit {0}
+unfolding totalOf those storyFrom pastPlace SlipBack AnyLoss
+losses = tt
+
 unfoldable pub opened : Unit {0}
-unfolding runs formats numbers found cells placement sender sent receiver line
+unfolding runs formats numbers found cells placement sender sent receiver line losses
 opened = tt

@@ -197,7 +197,7 @@ not-misreported meets =
 -- What demand 3 asks can be had: cells lost before the first unaltered one, between, and after the last, copies of lost and of unaltered
 -- cells, and a refused call of `send`.
 -- a cell with its first sequencing bit as this octet has it
-abbrev altered : ℕ → ℕ → List ℕ
+abbrev pub altered : ℕ → ℕ → List ℕ
 altered n octet = set (sending (studioAt n) n .written) 5 octet
 
 unfoldable pub lossy : List (ℕ × Fate)

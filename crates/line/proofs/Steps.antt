@@ -48,7 +48,7 @@ missing = (0, (0, 2))
 
 -- lists side by side, both cut alike, and both with a row of one value before them
 module _ {A B : Type 0} where
-  take-zip : (n : ℕ) (xs : List A) (ys : List B) → take n (zip xs ys) ≡ zip (take n xs) (take n ys)
+  pub take-zip : (n : ℕ) (xs : List A) (ys : List B) → take n (zip xs ys) ≡ zip (take n xs) (take n ys)
   unfolding zip zipWith
   take-zip zero xs ys = refl
   take-zip (suc n) [] ys = refl
@@ -60,17 +60,16 @@ module _ {A B : Type 0} where
   row-zip zero x y xs ys = refl
   row-zip (suc n) x y xs ys = ap (λ l. (x, y) ∷ l) (row-zip n x y xs ys)
 
--- k cells after the last one, the difference is k + 1
-pub difference-after : (last k : ℕ) → last ≤ 15 → k ≤ 14 → differenceOf ((last + 1 + k) % 16) last ≡ k + 1
+-- k cells after the last one, the difference is k + 1 modulo 16
+pub difference-after : (last k : ℕ) → last ≤ 15 → differenceOf ((last + 1 + k) % 16) last ≡ (k + 1) % 16
 unfolding differenceOf
-difference-after last k within few =
+difference-after last k within =
     let low : last % 16 ≡ last = mod-eq-of-lt (omega arith) in
     let whole : last + 1 + k + (16 - last) ≡ k + 1 + 16 = omega arith in
     ap (λ (n : ℕ). ((last + 1 + k) % 16 + (16 - n)) % 16) low
     ∙ mod-add-mod (last + 1 + k) 16 (16 - last)
     ∙ ap (λ (n : ℕ). n % 16) whole
     ∙ add-mod-right (k + 1) 16
-    ∙ mod-eq-of-lt (omega arith)
 
 pub number-after : (last k : ℕ) → ((last + 1 + k) % 16 + 1) % 16 ≡ (last + 1 + suc k) % 16
 number-after last k =
@@ -156,6 +155,17 @@ module _ (s : SendCall) (sends : MeetsSend s) (sent : s .answer .refusal ≡ 0) 
           ∙ then-later _ (state-none fourth-passes)
           ∙ rw (eq-eqb _ _ (room .ancillary-equal), eq-eqb _ _ (room .marks-equal))
           (by-length (eqb (length (c .cell)) 48) _ no-number ∙ ap (λ (l : List ℕ). cond (eqb (length l) 48) 8 5) arrived)
+
+    -- an unaltered one with the number of the one taken last is refused
+    pub round-gets : c .cell ≡ s .written → c .indication ≡ s .indication → WithRoom c
+        → R.lastRefused (c .state) || R.countRefused (c .state) ≡ false → R.gapOf (c .state) (c .cell) ≡ 0
+        → c .answer .refusal ≡ 9
+    unfolding refusalOf
+    round-gets arrived indicated room fourth-passes none =
+        received-refusal c receives
+        ∙ late (c .state) (c .cell) (c .indication) _ _ _ (state-none fourth-passes) (ap length arrived ∙ cell-48 s sends sent)
+        (room .ancillary-equal) (room .marks-equal) (ap refusalOf (found-there s sends sent with-overhead c same arrived))
+        ∙ rw (rightly-there s sends sent with-overhead c same arrived indicated, eq-eqb _ 0 none)
 
     -- an unaltered one is taken where the state passes and the gap is some
     module _ (arrived : c .cell ≡ s .written) (indicated : c .indication ≡ s .indication) (room : WithRoom c)

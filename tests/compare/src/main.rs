@@ -24,7 +24,7 @@ compare fuzz COUNT [SEED [LINELIST]]
 compare replay SEED SCENARIO [LINELIST]
                                  play one scenario of a fuzz run again
 compare list                     print the plain implementation's list of the log on standard input
-compare story                    play demand 3: a sender, a line that drops, spoils and repeats, a receiver";
+compare story                    play demand 3 and longer outages: a sender, a line that drops, spoils and repeats, a receiver";
 
 /// The program, if it stands there: while the crates grow it may not be built yet.
 fn built(program: &str) -> Option<&Path> {

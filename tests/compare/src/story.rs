@@ -1,4 +1,5 @@
-//! Demand 3 played out: a sender, a line that drops, spoils and repeats cells by a fixed pattern, a fresh receiver with room.
+//! Demand 3 played out: a sender, a line that drops, spoils and repeats cells by a fixed pattern, a fresh receiver with room;
+//! and what holds beyond fourteen lost cells in a row.
 //!
 //! What must be handed out is worked out here from what was sent and from each cell's fate alone.
 
@@ -40,14 +41,35 @@ fn pattern() -> Vec<Fate> {
     }
     for gap in [1, 13, 14] {
         for lost_every in [1, 2, 20] {
-            fates.extend((0..gap).map(|cell| match cell % lost_every {
-                0 => Fate::Lost,
-                nth => Fate::Spoiled(masks[(7 * cell + gap) % masks.len()], nth % 2 == 0),
-            }));
+            fates.extend(row(gap, lost_every));
             fates.push(Fate::Whole);
         }
     }
     fates.extend([Fate::Lost, Fate::Spoiled(0x91, true), Fate::Lost]);
+    fates
+}
+
+/// So many cells in a row, each of them lost or spoiled.
+fn row(gap: usize, lost_every: usize) -> impl Iterator<Item = Fate> {
+    let masks = masks();
+    (0..gap).map(move |cell| match cell % lost_every {
+        0 => Fate::Lost,
+        nth => Fate::Spoiled(masks[(7 * cell + gap) % masks.len()], nth % 2 == 0),
+    })
+}
+
+/// Rows of more than fourteen cells. Behind them stand one or two whole cells: after fifteen the first of them is lost too.
+const OUTAGES: [usize; 6] = [15, 16, 17, 31, 32, 200];
+
+fn outages() -> Vec<Fate> {
+    let mut fates = vec![Fate::Lost, Fate::Whole];
+    for whole in [1, 2] {
+        for gap in OUTAGES {
+            fates.extend(row(gap, whole));
+            fates.extend(vec![Fate::Whole; whole]);
+        }
+    }
+    fates.extend([Fate::Lost, Fate::Spoiled(0x91, true)]);
     fates
 }
 
@@ -107,13 +129,48 @@ fn spoil(cell: &mut [u8], slots: usize, mask: u8, garbage: bool, random: &mut Ra
     }
 }
 
-/// What must be handed out: from the first whole cell to the last, each in its place, nothing else.
+/// What the receiver makes of each sent cell, however many are lost: how many cells are told missing before it, or that it isn't
+/// taken.
+/// After k lost ones since the last that was taken it is k modulo 16; where that is 15 the cell is refused and lost too.
+fn taken(trips: &[Trip]) -> Vec<Option<usize>> {
+    let mut lost_since = None;
+    let mut take = |fate: Fate| {
+        let missing = lost_since.unwrap_or(0) % 16;
+        let takes = fate == Fate::Whole && missing != 15;
+        lost_since = if takes { Some(0) } else { lost_since.map(|lost: usize| lost + 1) };
+        takes.then_some(missing)
+    };
+    trips.iter().map(|&(fate, _)| take(fate)).collect()
+}
+
+/// What must be handed out whatever is lost: each cell that is taken, behind the places of the cells told missing before it.
+fn shown(trips: &[Trip], sent: &[Vec<Entry>]) -> Vec<Entry> {
+    let cells = taken(trips).into_iter().zip(sent).filter_map(|(missing, entries)| Some((missing?, entries)));
+    cells.flat_map(|(missing, entries)| [vec![MISSING; missing * entries.len()], entries.clone()].concat()).collect()
+}
+
+/// By how many cells each cell that is taken is shown before its true place, both counted from the first one's.
+fn slips(trips: &[Trip]) -> Vec<usize> {
+    let cells: Vec<(usize, usize)> =
+        taken(trips).into_iter().enumerate().filter_map(|(place, missing)| Some((place, missing?))).collect();
+    let mut before = 0;
+    let mut slip = |(place, missing): (usize, usize)| {
+        let at = before + missing;
+        before = at + 1;
+        place - cells[0].0 - at
+    };
+    cells.iter().map(|&cell| slip(cell)).collect()
+}
+
+/// What must be handed out by demand 3: from the first whole cell to the last, each in its place, nothing else.
 fn expected(trips: &[Trip], sent: &[Vec<Entry>]) -> Vec<Entry> {
     let first = trips.iter().position(|&(fate, _)| fate == Fate::Whole).unwrap_or(0);
     let end = trips.iter().rposition(|&(fate, _)| fate == Fate::Whole).map_or(0, |last| last + 1);
     let places = trips[first..end].iter().zip(&sent[first..end]);
     places
-        .flat_map(|(&(fate, _), entries)| if fate == Fate::Whole { entries.clone() } else { vec![MISSING; entries.len()] })
+        .flat_map(
+            |(&(fate, _), entries)| if fate == Fate::Whole { entries.clone() } else { vec![MISSING; entries.len()] },
+        )
         .collect()
 }
 
@@ -161,8 +218,15 @@ impl Ends {
     }
 
     /// A cell that comes, and again so many times: the entries handed out, all of them by the first delivery.
-    fn deliver(&mut self, cell: &[u8], indication: bool, (fate, again): Trip) -> Result<Vec<Entry>, String> {
-        let (first, copies) = if fate == Fate::Whole { (0, 9) } else { (8, 8) };
+    fn deliver(
+        &mut self,
+        cell: &[u8],
+        indication: bool,
+        (fate, again): Trip,
+        takes: bool,
+    ) -> Result<Vec<Entry>, String> {
+        let copies = if fate == Fate::Whole { 9 } else { 8 };
+        let first = if takes { 0 } else { copies };
         let (refusal, handed) = self.receive(cell, indication)?;
         if refusal != first {
             return Err(format!("a cell got {refusal} for {first}"));
@@ -178,13 +242,19 @@ impl Ends {
     }
 }
 
+/// A line's pattern, and what must be handed out of it.
+type Row = (Vec<Trip>, fn(&[Trip], &[Vec<Entry>]) -> Vec<Entry>);
+
 /// The entries that had to be handed out and were, or what went wrong.
-fn play(mut ends: Ends, trips: &[Trip]) -> Result<usize, String> {
+fn play(mut ends: Ends, (trips, must_show): &Row) -> Result<usize, String> {
     let call = ends.call;
+    if let Some(slip) = slips(trips).iter().find(|&slip| slip % 16 != 0) {
+        return Err(format!("a slip of {slip} cells"));
+    }
     let mut random = Random::for_scenario(SEED, call.format * 1000 + call.channels as u64 * 2 + call.order);
     let mut sent = vec![];
     let mut handed = vec![];
-    for &trip in trips {
+    for (&trip, missing) in trips.iter().zip(taken(trips)) {
         let entries: Vec<Entry> = (0..call.entries()).map(|_| call.entry(&mut random)).collect();
         let (mut cell, mut indication) = ends.send(&entries).ok_or("a cell was refused by the sender")?;
         sent.push(entries);
@@ -196,13 +266,13 @@ fn play(mut ends: Ends, trips: &[Trip]) -> Result<usize, String> {
                 indication ^= garbage;
             }
         }
-        handed.extend(ends.deliver(&cell, indication, trip)?);
+        handed.extend(ends.deliver(&cell, indication, trip, missing.is_some())?);
     }
-    let must_be = expected(trips, &sent);
+    let must_be = must_show(trips, &sent);
     match must_be.iter().zip(&handed).position(|(wanted, given)| wanted != given) {
         Some(at) => Err(format!("entry {at}: {:?} handed out where {:?} must stand", handed[at], must_be[at])),
         None if handed.len() != must_be.len() => Err(format!("{} entries for {}", handed.len(), must_be.len())),
-        // from the first whole cell to the last: so many cells were placed
+        // so many cells were placed
         None if ends.receiver[5] * call.entries() as u64 != must_be.len() as u64 => {
             Err(format!("{} cells placed for {}", ends.receiver[5], must_be.len() / call.entries()))
         }
@@ -211,25 +281,25 @@ fn play(mut ends: Ends, trips: &[Trip]) -> Result<usize, String> {
 }
 
 /// A format's readings with a few C and both orders: true where all come out right.
-fn play_format(who: &str, answer: Answerer, (format, slots, ancillaries): (u64, usize, u64), rows: &[Vec<Trip>]) -> bool {
+fn play_format(who: &str, answer: Answerer, (format, slots, ancillaries): (u64, usize, u64), rows: &[Row]) -> bool {
     let calls = [1, 2, 3, 5, slots - 1, slots]
         .into_iter()
         .flat_map(|channels| [0, 1].map(|order| Call { format, slots, ancillaries, channels, order }));
     let (mut readings, mut cells, mut copies, mut entries) = (0, 0, 0, 0);
-    for (call, trips) in calls.flat_map(|call| rows.iter().map(move |trips| (call, trips))) {
+    for (call, row) in calls.flat_map(|call| rows.iter().map(move |row| (call, row))) {
         let Some(ends) = Ends::open(answer, call) else {
             println!("{who}: {format:02X} hex: not linked");
             return true;
         };
-        match play(ends, trips) {
+        match play(ends, row) {
             Ok(handed) => (readings, entries) = (readings + 1, entries + handed),
             Err(fault) => {
                 println!("{who}: {format:02X} hex, C = {}, order {}: {fault}", call.channels, call.order);
                 return false;
             }
         }
-        cells += trips.len();
-        copies += trips.iter().filter(|trip| trip.0 != Fate::Lost).map(|trip| trip.1).sum::<usize>();
+        cells += row.0.len();
+        copies += row.0.iter().filter(|trip| trip.0 != Fate::Lost).map(|trip| trip.1).sum::<usize>();
     }
     println!(
         "{who}: {format:02X} hex: {readings} readings, {cells} cells sent, {copies} copies, {entries} entries as they must be"
@@ -239,7 +309,12 @@ fn play_format(who: &str, answer: Answerer, (format, slots, ancillaries): (u64, 
 
 /// True where every format's story comes out right.
 pub fn run() -> bool {
-    let rows = [once(&pattern()), repeated(&pattern())];
+    let rows: [Row; 4] = [
+        (once(&pattern()), expected),
+        (repeated(&pattern()), expected),
+        (once(&outages()), shown),
+        (repeated(&outages()), shown),
+    ];
     let verdicts: Vec<bool> = ANSWERERS
         .iter()
         .flat_map(|&(who, answer)| WITH_OVERHEAD.map(|format| play_format(who, answer, format, &rows)))
