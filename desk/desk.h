@@ -26,6 +26,10 @@ enum { DESK_ROOM = (RIME_MOST_MISSING + 1) * RIME_MOST_SLOTS };
 int desk_send(int argc, char **argv);
 int desk_receive(int argc, char **argv);
 int desk_list(int argc, char **argv);
+int desk_anything(int argc, char **argv);
+int desk_sheet(int argc, char **argv);
+int desk_add(int argc, char **argv);
+int desk_salvage(int argc, char **argv);
 int desk_labels(int argc, char **argv);
 int desk_picture(int argc, char **argv);
 
@@ -33,6 +37,7 @@ int desk_picture(int argc, char **argv);
 int say_failed(const char *name);                                      /* what errno says; returns STATUS_FILE */
 int say_unfit(const char *name, const char *why);                      /* returns STATUS_FILE */
 int say_refused(const char *name, const char *what, unsigned refusal); /* the number and its words; STATUS_REFUSED */
+int printed(int status); /* the status, or STATUS_FILE where standard output can't be written; that is said */
 enum { DURATION = 48 };
 const char *duration(double seconds, char words[DURATION]); /* "2.500 s", or "1:02:03.500" from a minute on */
 const char *plural(uint64_t count);                         /* "s", or nothing of one */
@@ -49,6 +54,7 @@ struct format format_of(uint32_t octet);
 /* progress.c: how far the work is, on a terminal, where it takes longer than a second. */
 void progress_begin(const char *name, uint64_t total, bool quiet); /* total 0: not known */
 void progress_at(uint64_t done);
+void progress_clear(void); /* for a line of text; the bar is drawn again after it */
 void progress_end(void);
 
 /*
@@ -78,6 +84,7 @@ struct reading {
     size_t held, place;
     bool ended;
     uint64_t octets; /* read so far */
+    uint64_t limit;  /* the most octets of a log, by refusal 13; 0 where there is no limit */
 
     uint32_t header[RIME_HEADER];
     struct format format;
@@ -85,6 +92,8 @@ struct reading {
     uint8_t state[RIME_RECEIVER_STATE];
 
     /* of the last record */
+    const uint8_t *cell;
+    bool indication;
     uint64_t samples[DESK_ROOM];
     uint8_t ancillary[DESK_ROOM], marks[DESK_ROOM];
     uint8_t report[RIME_REPORT];
@@ -111,6 +120,7 @@ int reading_open(struct reading *reading, const char *name, bool quiet);  /* a s
 int reading_header(struct reading *reading);                              /* the refusal; -1 where reading failed */
 int reading_begin(struct reading *reading, const char *name, bool quiet); /* both; a status, and says what is wrong */
 enum step reading_step(struct reading *reading);
+bool reading_cut(struct reading *reading, uint64_t *cut); /* of a broken log: octets from the fault's record to the end */
 void reading_close(struct reading *reading);
 int say_broken(const struct reading *reading); /* says where the log is broken; returns STATUS_REFUSED */
 

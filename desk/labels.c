@@ -130,6 +130,5 @@ int desk_labels(int argc, char **argv) {
     if (status != STATUS_WELL) return status;
     status = label_all(&labels);
     reading_close(&labels.reading);
-    if (fflush(stdout) != 0 || ferror(stdout)) return say_failed("standard output");
-    return status;
+    return printed(status);
 }

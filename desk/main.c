@@ -13,7 +13,9 @@ static const struct {
     int (*run)(int argc, char **argv);
 } commands[] = {
     {"send", "rimesatchel send", desk_send},          {"receive", "rimesatchel receive", desk_receive},
-    {"list", "rimesatchel list", desk_list},          {"labels", "rimesatchel labels", desk_labels},
+    {"list", "rimesatchel list", desk_list},          {"anything", "rimesatchel anything", desk_anything},
+    {"sheet", "rimesatchel sheet", desk_sheet},       {"add", "rimesatchel add", desk_add},
+    {"salvage", "rimesatchel salvage", desk_salvage}, {"labels", "rimesatchel labels", desk_labels},
     {"picture", "rimesatchel picture", desk_picture},
 };
 
@@ -23,6 +25,10 @@ static const char about[] =
     "  send IN.wav OUT.log      packs a sound file into a log\n"
     "  receive IN.log OUT.wav   writes a log's sound, and shows what is missing\n"
     "  list FILE..              what the receiver makes of each record\n"
+    "  anything FILE..          whether there is any sound on a log at all\n"
+    "  sheet FILE..             figures of many logs: cells sound, missing and refused, samples by their marks\n"
+    "  add SHEET.csv..          adds sheets of parts into the sheet of all\n"
+    "  salvage IN.log OUT.log   a new log of the records that the receiver takes\n"
     "  labels IN.log            the channel status blocks that a log carries\n"
     "  picture IN.log OUT.png   draws the reading over time\n"
     "\n"

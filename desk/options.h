@@ -9,6 +9,19 @@
 
 #include "desk.h"
 
+/* Names of files, at least one. */
+struct names {
+    char **words;
+    int count;
+};
+
+static inline error_t option_names(struct argp_state *state, int key, struct names *names) {
+    if (key == ARGP_KEY_NO_ARGS) argp_usage(state);
+    if (key != ARGP_KEY_ARGS) return ARGP_ERR_UNKNOWN;
+    *names = (struct names){state->argv + state->next, state->argc - state->next};
+    return 0;
+}
+
 /* A number; any other word ends the program with a line of usage. */
 static inline unsigned option_number(const struct argp_state *state, const char *name, const char *word, int base) {
     char *end;

@@ -49,7 +49,11 @@ void progress_at(uint64_t done) {
     fflush(stderr);
 }
 
-void progress_end(void) {
+void progress_clear(void) {
     if (bar.on && bar.shown != 0) fputs("\r\033[K", stderr);
+}
+
+void progress_end(void) {
+    progress_clear();
     bar.on = false;
 }

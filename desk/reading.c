@@ -91,25 +91,44 @@ static enum step taken(struct reading *reading) {
     return STEP_SOUND;
 }
 
+/* Whether the limit lies before a place of what is held. */
+static bool past_limit(const struct reading *reading, uint64_t place) {
+    return reading->limit != 0 && reading->octets - reading->held + place > reading->limit;
+}
+
 enum step reading_step(struct reading *reading) {
     reading->time += reading->given / reading->channels;
     reading->given = 0;
     if (!hold(reading, RIME_RECORD_OCTETS)) return STEP_FAILED;
     uint64_t found[RIME_RECORD];
     reading->refusal = rime_log_record(reading->buffer, reading->held, reading->place, found);
+    uint64_t past = reading->refusal == RIME_DONE ? found[RIME_RECORD_NEXT] : reading->held;
+    if (reading->refusal != RIME_REFUSED_LOG_NUMBER && past_limit(reading, past))
+        reading->refusal = RIME_REFUSED_LOG_LENGTH;
     if (reading->refusal != RIME_DONE) return STEP_BROKEN;
     if (found[RIME_RECORD_WHAT] == RIME_RECORD_IS_END) return STEP_END;
-    const uint8_t *cell = reading->buffer + found[RIME_RECORD_START];
+    reading->cell = reading->buffer + found[RIME_RECORD_START];
+    reading->indication = found[RIME_RECORD_INDICATION] == 1;
     reading->place = found[RIME_RECORD_NEXT];
     reading->refusal =
-        rime_receive(reading->state, cell, RIME_CELL_OCTETS, found[RIME_RECORD_INDICATION] == 1, reading->samples,
-                     DESK_ROOM, reading->ancillary, DESK_ROOM, reading->marks, DESK_ROOM, reading->report);
+        rime_receive(reading->state, reading->cell, RIME_CELL_OCTETS, reading->indication, reading->samples, DESK_ROOM,
+                     reading->ancillary, DESK_ROOM, reading->marks, DESK_ROOM, reading->report);
     reading->record++;
     if (reading->refusal == RIME_DONE) return taken(reading);
     reading->refused++;
     reading->refused_by[reading->refusal]++;
     reading->refused_last++;
     return STEP_REFUSED;
+}
+
+bool reading_cut(struct reading *reading, uint64_t *cut) {
+    *cut = reading->held - reading->place;
+    while (!reading->ended) {
+        reading->place = reading->held;
+        if (!hold(reading, 1)) return false;
+        *cut += reading->held - reading->place;
+    }
+    return true;
 }
 
 int say_broken(const struct reading *reading) {

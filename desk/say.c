@@ -20,6 +20,11 @@ int say_refused(const char *name, const char *what, unsigned refusal) {
     return STATUS_REFUSED;
 }
 
+int printed(int status) {
+    if (fflush(stdout) == 0 && !ferror(stdout)) return status;
+    return say_failed("standard output");
+}
+
 const char *duration(double seconds, char words[DURATION]) {
     uint64_t thousandths = (uint64_t)(seconds * 1000 + 0.5), whole = thousandths / 1000;
     if (whole < 60) snprintf(words, DURATION, "%.3f s", seconds);
