@@ -22,7 +22,7 @@ count = int(sys.argv[2]) if len(sys.argv) > 2 else 200
 chance = random.Random(int(sys.argv[3]) if len(sys.argv) > 3 else 1)
 linelist = pathlib.Path('target/bin/linelist').resolve()
 os.environ['ASAN_OPTIONS'] = 'detect_leaks=0'
-FORMATS = ['02', '04', '06', '08', '43', '45', '47', '52', '54', '56', '5A']
+FORMATS = ['02', '04', '06', '08', '13', '15', '17', '43', '45', '47', '52', '54', '56', '5A']
 
 
 def fail(words):
@@ -73,15 +73,36 @@ def spoiled(log):
     return bytes(log)
 
 
+def salvaged(folder, name, listed, sheet, answer):
+    """What is salvaged has the sound records and no other, and the figures and the answer of the log itself."""
+    new = str(folder / 'new.log')
+    run('salvage', '--force', name, new)
+    kept = run('list', new, may=(0,)).stdout.decode().splitlines()
+    words = [line.split() for line in listed.splitlines()]
+    if [line.split()[1:] for line in kept[1:-1]] != [line[1:] for line in words[1:-1] if line[1] == 'sound']:
+        fail(f'salvage kept other records than are sound of\n{listed}')
+    old, new_sheet = (text.splitlines()[1].split(',') for text in (sheet, run('sheet', new).stdout.decode()))
+    if old[1:3] + old[7:] != new_sheet[1:3] + new_sheet[7:] or old[1] != words[-1][1] or old[2] != words[-1][3]:
+        fail(f'{sheet} of\n{listed}')
+    if sum(map(int, old[3:7])) != int(words[-1][5]) or answer[:3] != run('anything', new).stdout.decode()[:3]:
+        fail(f'{sheet} and {answer} of\n{listed}')
+
+
 def try_log(folder, log):
     name = str(folder / 'spoiled.log')
     pathlib.Path(name).write_bytes(log)
     listed = run('list', name).stdout.decode()
-    if linelist.exists() and len(log) <= 65536:
+    if linelist.exists():
         expected = subprocess.run([linelist], input=log, capture_output=True, check=True).stdout.decode()
         if listed != expected:
             fail(f'list prints\n{listed}and linelist\n{expected}')
     run('labels', name)
+    sheet = run('sheet', name).stdout.decode()
+    answer = run('anything', name).stdout.decode()
+    if listed.startswith('log refused'):
+        run('salvage', name, str(folder / 'no.log'), may=(2,))
+    else:
+        salvaged(folder, name, listed, sheet, answer)
     run('picture', '-q', '--force', name, str(folder / 'out.png'))
     marks = folder / 'out.marks'
     received = run('receive', '-q', '--force', name, str(folder / 'out.wav'), '--marks', str(marks), '--labels',

@@ -3,7 +3,7 @@
 # taken out and spoiled, and the labels that name them; bad input, its message, its exit status, and no half file left.
 set -eu -o pipefail
 export LC_ALL=C
-bash tests/need.sh sox flac sndfile-programs netpbm util-linux
+bash tests/need.sh sox flac sndfile-programs netpbm util-linux parallel
 make --no-print-directory -f desk/desk.mk desk
 here=$PWD
 desk=$here/target/desk/rimesatchel
@@ -71,6 +71,11 @@ cmp <(sox in-16-2.wav -t s16 -) <(sox out.wav -t s16 -)
 "$desk" receive -q other.log out.wav --force
 [ "$(soxi -b out.wav)" = 32 ] || fail "32 bits"
 same in-16-2.wav out.wav
+for format in 15 17; do
+    "$desk" send -q in-16-2.wav other.log --format $format --second 15 --force
+    "$desk" receive -q other.log out.wav --force --strict
+    same in-16-2.wav out.wav
+done
 
 # A last cell that isn't full, samples of too many bits, and those of a 40-bit format.
 sox in-24-2.wav part.wav trim 0 1000s
@@ -145,7 +150,7 @@ ends 2 "record 20 broken 12: a record of the log is cut" "$desk" receive torn.lo
 # Lists: linelist's lines. Channel status: what was sent.
 if [ -x "$here/target/bin/linelist" ]; then
     for log in "$here/examples/reading.log" in-24-1.log torn.log; do
-        "$desk" list "$log" > list.txt || true
+        "$desk" list "$log" > list.txt 2> /dev/null || true
         "$here/target/bin/linelist" < "$log" | diff - list.txt
     done
 fi
@@ -159,6 +164,41 @@ channel 2: 0.000000 to 1.000000 s, 250 blocks: fits, professional, 48000 Hz, 24 
 TXT
 "$desk" labels long.log | diff expected.txt -
 ends 0 "channel 5: no channel status block" "$desk" labels in-16-5.log
+
+# Requests 7, 9 and 3: their vectors, and the logs that were made here.
+python3 "$here/tests/desk_vectors.py" "$desk" "$here/tests/vectors"
+sox -n -r 48000 -b 24 -c 2 silence.wav trim 0 1200s
+"$desk" send -q silence.wav silence.log
+head -c 1000 silence.log > still.log
+ends 0 "yes 0" "$desk" anything long.log
+ends 1 "no 200" "$desk" anything - < silence.log
+ends 1 "long.log: yes 0" "$desk" anything silence.log long.log
+ends 2 "no 20" "$desk" anything still.log
+ends 0 "end 7982 kept 2 left out 0 cut" "$desk" salvage flawed.log saved.log
+"$desk" receive -q saved.log saved.wav --marks saved.marks
+cmp out.wav saved.wav && cmp out.marks saved.marks || fail "the salvaged log is another reading"
+ends 0 "end 7982 kept 0 left out 0 cut" "$desk" salvage saved.log again.log
+cmp saved.log again.log || fail "a log that is salvaged twice"
+ends 2 "end 20 kept 0 left out 17 cut" "$desk" salvage torn.log whole.log
+cmp <(head -c 983 torn.log) whole.log
+"$desk" sheet -q ./*.log > sheet.csv || [ $? = 2 ] # torn logs are among them
+grep -qx "$(ls ./*.log | grep -nx ./flawed.log | cut -d : -f 1 | awk '{print $1 - 1}'),7982,18,1,1,0,0,95781,3,216,2250" sheet.csv
+parallel -k -N 3 "$desk" sheet -q ::: ./*.log > parts.csv || true
+"$desk" add parts.csv | cmp sheet.csv -
+programs=$here/target/bin
+if [ -x "$programs/anything" ]; then
+    for log in ./*.log; do
+        "$programs/anything" "$log" | diff - <("$desk" anything "$log" 2> /dev/null || true)
+    done
+fi
+if [ -x "$programs/salvage" ]; then
+    for log in flawed torn still; do
+        "$programs/salvage" < $log.log > theirs 2> theirs.txt
+        "$desk" salvage $log.log ours --force 2> ours.txt || [ $? = 2 ]
+        cmp theirs ours && grep -v '^rimesatchel' ours.txt | diff theirs.txt -
+    done
+fi
+if [ -x "$programs/sheet" ]; then "$programs/sheet" ./*.log | cmp sheet.csv -; fi
 
 # The picture: both colours under the legend where there is something to show, and neither where not.
 "$desk" picture flawed.log flawed.png
@@ -179,10 +219,10 @@ assert missing in flawed and damaged in flawed, 'a colour is missing in the pict
 assert missing not in sound and damaged not in sound, 'a colour too many in the picture'
 PY
 
-# The man page has every option of every subcommand, and nothing in it that the formatter warns of.
-for command in send receive list labels picture; do
-    "$desk" "$command" --help | grep -o -- '--[a-z]*' | grep -vx -- '--help\|--usage\|--version' | sort -u > options
-    sed -n "/^\.SS $command /,/^\.S[SH] /p" "$here/desk/rimesatchel.1" | grep -o -- '\\-\\-[a-z]*' | tr -d '\\' | sort -u |
+# The man page has every option of every subcommand, and no other.
+for command in send receive list anything sheet add salvage labels picture; do
+    "$desk" "$command" --help | grep -o -- '--[a-z]*' | sed '/--help/d; /--usage/d; /--version/d' | sort -u > options
+    sed -n "/^\.SS $command /,/^\.S[SH] /p" "$here/desk/rimesatchel.1" | sed -n 's/.*\\-\\-\([a-z]*\).*/--\1/p' | sort -u |
         diff options - || fail "$command: the man page has other options"
 done
 
@@ -196,6 +236,13 @@ for kind in wav aiff flac; do
     head -c $(($(stat -c %s "in-16-2.$kind") / 2)) "in-16-2.$kind" > "cut.$kind"
 done
 sox -V1 in-16-2.wav -t wav - | cat > piped.wav
+head -n 4 sheet.csv > cut.csv
+sed '3s/,/,1/' sheet.csv > wrong.csv # a sheet that doesn't add up
+{
+    head -n 1 sheet.csv
+    echo '0,4294967295,0,0,0,0,0,0,0,0,0'
+    echo 'all,4294967295,0,0,0,0,0,0,0,0,0'
+} > most.csv
 mkdir none full locked
 ls > before
 ends 3 "isn't a sound file" "$desk" send no.wav none/x.log
@@ -211,6 +258,17 @@ ends 2 "refused 6: a sample or an ancillary number is too large" "$desk" send in
 ends 2 "the log is refused 1" "$desk" receive noise.log none/x.wav
 ends 2 "the log is refused 11" "$desk" receive /dev/null none/x.wav
 ends 2 "log refused 11" "$desk" list /dev/null
+ends 2 "log refused 11" "$desk" anything /dev/null
+ends 2 "the log is refused 1: " "$desk" salvage noise.log none/x.log
+ends 2 "the log is refused 1: " "$desk" sheet noise.log
+ends 3 "No such file or directory" "$desk" sheet long.log nosuch.log
+ends 3 "no.wav: line 1 isn't that of a sheet" "$desk" add sheet.csv no.wav
+ends 3 "cut.csv: line 5 isn't that of a sheet" "$desk" add cut.csv
+ends 3 "wrong.csv: line 3 isn't that of a sheet" "$desk" add wrong.csv
+# shellcheck disable=SC2046
+ends 2 "the sheet is refused 18: there are more than 4,096 logs" "$desk" sheet $(yes still.log | head -n 4097)
+ends 0 "all,4294967295,0," "$desk" add most.csv
+ends 2 "the sheet is refused 19: a total would pass 4,294,967,295" "$desk" add most.csv sheet.csv
 ends 3 "can't hold 2 channels of 32 bits" "$desk" receive wide.log none/x.flac
 ends 3 "doesn't end in" "$desk" receive long.log none/x.mp3
 ends 3 "is there already, and is kept" "$desk" receive long.log long.wav
@@ -234,7 +292,7 @@ ends 3 "Permission denied" "${other[@]}" "$desk" send long.wav locked/x.log
 [ -z "$(ls -A locked)" ] || fail "left behind in a read-only folder"
 if mount -t tmpfs -o size=64k tmpfs full 2> /dev/null; then
     for call in "send long.wav full/x.log" "receive long.log full/x.wav" "receive long.log full/x.flac" \
-        "receive long.log ok.wav --marks full/m"; do
+        "receive long.log ok.wav --marks full/m" "salvage long.log full/x.log"; do
         # shellcheck disable=SC2086
         ends 3 "No space left on device" "$desk" $call
         [ -z "$(ls -A full)" ] || fail "left behind on a full disk: $(ls -A full)"
@@ -266,7 +324,8 @@ exec 7>&-
 # Memory: a buffer at a time, so that a long reading takes no more.
 gcc -O1 -std=c11 -D_GNU_SOURCE -Wall -Wextra -Werror "$here/tests/peak.c" -o peak
 sox long.wav long.wav long.wav long.wav long.wav longer.wav
-for call in "send longer.wav longer.log" "receive longer.log longer-back.wav" "list longer.log"; do
+for call in "send longer.wav longer.log" "receive longer.log longer-back.wav" "list longer.log" "sheet longer.log" \
+    "salvage longer.log longer-new.log"; do
     # shellcheck disable=SC2086
     ./peak "$desk" $call -q 2> said > /dev/null
     held=$(sed 's/.* \([0-9]*\) KiB/\1/' said)
