@@ -7,7 +7,10 @@ all:
 
 help:
 	@echo 'make                    prove every crate that changed, and build the programs'
-	@echo 'make demo               build linelist and list an example log'
+	@echo 'make demo               a reading made on the spot into a log, some cells lost, and back: summary, labels, picture'
+	@echo 'make desk               build the desk tool, target/desk/rimesatchel'
+	@echo 'make desk-fuzz          spoiled logs through the desk tool, with memory checks'
+	@echo 'make desk-hour          a reading of one hour through the desk tool: time and memory'
 	@echo 'make test               the gate: prove all from nothing, try the must-fail edits, run every test'
 	@echo 'make mutants            try the wrong programs of tests/mutants; CRATES="sender log" for some crates'
 	@echo 'make fuzz               compare N=1000000 calls with another implementation, from SEED=2; memory checks'
@@ -32,7 +35,6 @@ reading:
 	python3 tools/reading.py
 
 include tests/face.mk
+include desk/desk.mk
 
-demo:
-	rt check linelist
-	target/bin/linelist < examples/reading.log
+demo: desk-demo

@@ -24,6 +24,10 @@ tried "receive" "$desk" receive -q hour.log back.wav
 sndfile-cmp hour.wav back.wav
 rm back.wav
 tried "list" "$desk" list -q hour.log
+tried "sheet" "$desk" sheet -q hour.log
+tried "salvage" "$desk" salvage -q hour.log saved.log
+cmp hour.log saved.log
+rm saved.log
 tried "labels" "$desk" labels -q hour.log
 tried "picture" "$desk" picture -q hour.log hour.png
 tried "cat of the log" cat hour.log

@@ -31,10 +31,11 @@ static bool sounds(const struct reading *reading) {
 
 /* The first record that sounds, or what the reading ended with. */
 static enum step look(struct reading *reading, bool *found) {
-    enum step step;
-    *found = false;
-    while (!*found && ((step = reading_step(reading)) == STEP_SOUND || step == STEP_REFUSED))
+    enum step step = STEP_SOUND;
+    for (*found = false; !*found && (step == STEP_SOUND || step == STEP_REFUSED);) {
+        step = reading_step(reading);
         *found = step == STEP_SOUND && sounds(reading);
+    }
     return step;
 }
 

@@ -1,6 +1,6 @@
 #!/usr/bin/env bash
 # A reading made on the spot goes into a log, the line loses some of its cells and spoils one, and what is left is taken back:
-# the summary, the labels and the picture. `make desk-demo` runs it; the files are in target/demo.
+# the summary, the labels and the picture. `make demo` runs it; the files are in target/demo.
 set -eu
 export LC_ALL=C
 bash tests/need.sh sox

@@ -11,6 +11,11 @@ DESK_FLAGS := -std=c11 -D_GNU_SOURCE -O2 -Wall -Wextra -Werror -Iinclude
 .PHONY: desk desk-needs
 desk: $(DESK)/rimesatchel
 
+# Where the library isn't there yet it is proved and built, with all that it needs.
+$(RIME_LIB)/librimesatchel.a:
+	@echo 'the library is proved and built first: some five minutes on two cores'
+	rt staticlib rimesatchel
+
 # What it is built with, by the names of Debian's packages.
 desk-needs:
 	@bash tests/need.sh pkg-config libsndfile1-dev libcairo2-dev
