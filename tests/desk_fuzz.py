@@ -3,9 +3,9 @@
 
 usage: desk_fuzz.py PROGRAM [COUNT [SEED]]
 
-Each log is a whole one in some format, with octets changed, taken out or put in. Every call must end with 0, 1 or 2 and say nothing of
-memory; the marks that `receive` writes must be as many as the records that `list` shows call for; and `list` must print what
-linelist does, where that is built.
+Each log is a whole one in some format, with octets changed, taken out or put in. Every call must end with 0, 1 or 2 and say
+nothing of memory; the marks that `receive` writes must be as many as the records that `list` shows call for; and `list` must
+print what linelist does, where that is built.
 """
 import os
 import pathlib

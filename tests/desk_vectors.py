@@ -3,8 +3,8 @@
 
 usage: desk_vectors.py PROGRAM FOLDER
 
-FOLDER is tests/vectors. A file that isn't there is left out. Cases whose answer is about lent runs (5 and 21) are left out too: the
-tool lends enough. Every sheet is also made in two parts, which `add` joins.
+FOLDER is tests/vectors. A file that isn't there is left out. Cases whose answer is about lent runs (5 and 21) are left out
+too: the tool lends enough. Every sheet is also made in two parts, which `add` joins.
 """
 import pathlib
 import subprocess

@@ -1,6 +1,6 @@
 #!/usr/bin/env bash
-# Sees that Debian packages, or programs of their names, are there. A missing one is installed where this runs as root, and that is said; else it fails
-# with a line that names the package.
+# Sees that Debian packages, or programs of their names, are there. A missing one is installed where this runs as root, and
+# that is said; else it fails with a line that names the package.
 #
 #   bash tests/need.sh PACKAGE...
 set -eu
