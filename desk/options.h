@@ -22,6 +22,14 @@ static inline error_t option_names(struct argp_state *state, int key, struct nam
     return 0;
 }
 
+/* The name of a file to read, then that of one to write. */
+static inline error_t option_pair(struct argp_state *state, int key, char *word, const char **in, const char **out) {
+    if (key == ARGP_KEY_ARG && state->arg_num < 2) *(state->arg_num == 0 ? in : out) = word;
+    else if (key == ARGP_KEY_ARG || (key == ARGP_KEY_END && state->arg_num < 2)) argp_usage(state);
+    else return key == ARGP_KEY_END ? 0 : ARGP_ERR_UNKNOWN;
+    return 0;
+}
+
 /* A number; any other word ends the program with a line of usage. */
 static inline unsigned option_number(const struct argp_state *state, const char *name, const char *word, int base) {
     char *end;

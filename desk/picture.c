@@ -49,15 +49,7 @@ static error_t parse(int key, char *word, struct argp_state *state) {
     case 'r': picture->rate = option_rate(state, word); break;
     case 'F': picture->force = true; break;
     case 'q': picture->quiet = true; break;
-    case ARGP_KEY_ARG:
-        if (state->arg_num == 0) picture->in_name = word;
-        else if (state->arg_num == 1) picture->out_name = word;
-        else argp_usage(state);
-        break;
-    case ARGP_KEY_END:
-        if (state->arg_num < 2) argp_usage(state);
-        break;
-    default: return ARGP_ERR_UNKNOWN;
+    default: return option_pair(state, key, word, &picture->in_name, &picture->out_name);
     }
     return 0;
 }

@@ -50,15 +50,7 @@ static error_t parse(int key, char *word, struct argp_state *state) {
     case 's': receive->strict = true; break;
     case 'F': receive->force = true; break;
     case 'q': receive->quiet = true; break;
-    case ARGP_KEY_ARG:
-        if (state->arg_num == 0) receive->in_name = word;
-        else if (state->arg_num == 1) receive->out_name = word;
-        else argp_usage(state);
-        break;
-    case ARGP_KEY_END:
-        if (state->arg_num < 2) argp_usage(state);
-        break;
-    default: return ARGP_ERR_UNKNOWN;
+    default: return option_pair(state, key, word, &receive->in_name, &receive->out_name);
     }
     return 0;
 }

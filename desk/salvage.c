@@ -28,15 +28,7 @@ static error_t parse(int key, char *word, struct argp_state *state) {
     switch (key) {
     case 'F': salvage->force = true; break;
     case 'q': salvage->quiet = true; break;
-    case ARGP_KEY_ARG:
-        if (state->arg_num == 0) salvage->in_name = word;
-        else if (state->arg_num == 1) salvage->out_name = word;
-        else argp_usage(state);
-        break;
-    case ARGP_KEY_END:
-        if (state->arg_num < 2) argp_usage(state);
-        break;
-    default: return ARGP_ERR_UNKNOWN;
+    default: return option_pair(state, key, word, &salvage->in_name, &salvage->out_name);
     }
     return 0;
 }

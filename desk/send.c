@@ -65,15 +65,7 @@ static error_t parse(int key, char *word, struct argp_state *state) {
     case 'c': send->cut = true; break;
     case 'F': send->force = true; break;
     case 'q': send->quiet = true; break;
-    case ARGP_KEY_ARG:
-        if (state->arg_num == 0) send->in_name = word;
-        else if (state->arg_num == 1) send->out_name = word;
-        else argp_usage(state);
-        break;
-    case ARGP_KEY_END:
-        if (state->arg_num < 2) argp_usage(state);
-        break;
-    default: return ARGP_ERR_UNKNOWN;
+    default: return option_pair(state, key, word, &send->in_name, &send->out_name);
     }
     return 0;
 }

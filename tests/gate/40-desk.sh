@@ -176,13 +176,13 @@ ends 1 "long.log: yes 0" "$desk" anything silence.log long.log
 ends 2 "no 20" "$desk" anything still.log
 ends 0 "end 7982 kept 2 left out 0 cut" "$desk" salvage flawed.log saved.log
 "$desk" receive -q saved.log saved.wav --marks saved.marks
-cmp out.wav saved.wav && cmp out.marks saved.marks || fail "the salvaged log is another reading"
+{ cmp out.wav saved.wav && cmp out.marks saved.marks; } || fail "the salvaged log is another reading"
 ends 0 "end 7982 kept 0 left out 0 cut" "$desk" salvage saved.log again.log
 cmp saved.log again.log || fail "a log that is salvaged twice"
 ends 2 "end 20 kept 0 left out 17 cut" "$desk" salvage torn.log whole.log
 cmp <(head -c 983 torn.log) whole.log
 "$desk" sheet -q ./*.log > sheet.csv || [ $? = 2 ] # torn logs are among them
-grep -qx "$(ls ./*.log | grep -nx ./flawed.log | cut -d : -f 1 | awk '{print $1 - 1}'),7982,18,1,1,0,0,95781,3,216,2250" sheet.csv
+ends 0 "0,7982,18,1,1,0,0,95781,3,216,2250" "$desk" sheet flawed.log
 parallel -k -N 3 "$desk" sheet -q ::: ./*.log > parts.csv || true
 "$desk" add parts.csv | cmp sheet.csv -
 programs=$here/target/bin
