@@ -9,6 +9,7 @@ help:
 	@echo 'make                    prove every crate that changed, and build the programs'
 	@echo 'make demo               a reading made on the spot into a log, some cells lost, and back: summary, labels, picture'
 	@echo 'make desk               build the desk tool, target/desk/rimesatchel'
+	@echo 'make desk-install       the desk tool and its man page, under PREFIX=/usr/local'
 	@echo 'make desk-fuzz          spoiled logs through the desk tool, with memory checks'
 	@echo 'make desk-hour          a reading of one hour through the desk tool: time and memory'
 	@echo 'make test               the gate: prove all from nothing, try the must-fail edits, run every test'

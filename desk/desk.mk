@@ -25,6 +25,13 @@ $(DESK)/rimesatchel: $(DESK_SOURCES) $(DESK_HEADERS) $(RIME_LIB)/librimesatchel.
 	gcc $(DESK_FLAGS) $$(pkg-config --cflags sndfile cairo) $(DESK_SOURCES) $(RIME_LIB)/librimesatchel.a \
 	    $$(pkg-config --libs sndfile cairo) -lm -o $@
 
+# The tool and its man page, under PREFIX.
+PREFIX ?= /usr/local
+.PHONY: desk-install
+desk-install: desk
+	install -D -m 755 $(DESK)/rimesatchel $(DESTDIR)$(PREFIX)/bin/rimesatchel
+	install -D -m 644 desk/rimesatchel.1 $(DESTDIR)$(PREFIX)/share/man/man1/rimesatchel.1
+
 .PHONY: desk-demo
 desk-demo: desk
 	@bash desk/demo.sh
