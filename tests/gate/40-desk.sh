@@ -183,6 +183,7 @@ ends 2 "end 20 kept 0 left out 17 cut" "$desk" salvage torn.log whole.log
 cmp <(head -c 983 torn.log) whole.log
 "$desk" sheet -q ./*.log > sheet.csv || [ $? = 2 ] # torn logs are among them
 ends 0 "0,7982,18,1,1,0,0,95781,3,216,2250" "$desk" sheet flawed.log
+cat flawed.log | "$desk" sheet - | cmp - <("$desk" sheet flawed.log)
 parallel -k -N 3 "$desk" sheet -q ::: ./*.log > parts.csv || true
 "$desk" add parts.csv | cmp sheet.csv -
 programs=$here/target/bin
@@ -275,6 +276,7 @@ ends 3 "is there already, and is kept" "$desk" receive long.log long.wav
 ends 3 "is there already, and is kept" "$desk" receive long.log none/x.wav --labels out.txt
 ends 3 "No such file or directory" "$desk" receive long.log nowhere/x.wav
 ends 3 "Is a directory" "$desk" list none
+ends 3 "Is a directory" "$desk" anything none
 ends 0 "200 cells" "$desk" send piped.wav piped.log # a header of no known length is no cut
 cmp piped.log in-16-2.log && rm piped.log
 list_to_full() { "$desk" list long.log > /dev/full; }
@@ -324,10 +326,11 @@ exec 7>&-
 # Memory: a buffer at a time, so that a long reading takes no more.
 gcc -O1 -std=c11 -D_GNU_SOURCE -Wall -Wextra -Werror "$here/tests/peak.c" -o peak
 sox long.wav long.wav long.wav long.wav long.wav longer.wav
-for call in "send longer.wav longer.log" "receive longer.log longer-back.wav" "list longer.log" "sheet longer.log" \
-    "salvage longer.log longer-new.log"; do
+{ head -c 3 long.log; head -c $((49 * 500000)) /dev/zero; } > zeros.log
+for call in "send longer.wav longer.log" "receive longer.log longer-back.wav" "list longer.log" "sheet zeros.log" \
+    "anything zeros.log" "salvage longer.log longer-new.log"; do
     # shellcheck disable=SC2086
-    ./peak "$desk" $call -q 2> said > /dev/null
+    ./peak "$desk" $call -q 2> said > /dev/null || [ "$?" = 1 ] # of the zeros the answer is no
     held=$(sed 's/.* \([0-9]*\) KiB/\1/' said)
     [ "$held" -lt 16384 ] || fail "$call: $held KiB of memory"
     echo "desk: $call held $held KiB"
