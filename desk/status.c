@@ -6,7 +6,7 @@
 
 #include <string.h>
 
-enum { PROFESSIONAL = 1, B = 8, C = 4 };
+enum { PROFESSIONAL = 1, COORDINATION = 2, B = 8, C = 4 };
 
 static const struct {
     unsigned rate;
@@ -29,8 +29,10 @@ unsigned status_rate(const uint8_t *block) {
 }
 
 unsigned status_sample_bits(const uint8_t *block) {
+    unsigned code = block[2] & 0x3F;
+    if (code % 8 == COORDINATION) code -= COORDINATION; /* at most 20 bits, as where bits 0 to 2 are 0 */
     for (size_t at = 0; at < sizeof lengths / sizeof *lengths; at++)
-        if ((block[2] & 0x3F) == lengths[at].code) return lengths[at].bits;
+        if (code == lengths[at].code) return lengths[at].bits;
     return 0;
 }
 
