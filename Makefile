@@ -38,10 +38,12 @@ demo:
 	@bash tools/quick.sh linelist
 	target/quick/linelist examples/reading.log
 
-programs:
+programs: $(PROGRAMS:%=target/bin/%)
+	@echo 'programs: $^'
+
+$(PROGRAMS:%=target/bin/%) &: $(SOURCES)
 	@echo 'Proves and builds $(PROGRAMS): some 4 minutes from nothing, on two cores.'
 	@bash tools/prove.sh check $(PROGRAMS)
-	@echo 'programs: $(PROGRAMS:%=target/bin/%)'
 
 lib: $(ARCHIVE) $(MANAGEMENT) $(SHARED) $(SHARED_MANAGEMENT)
 	@echo 'library: $(^:$(CURDIR)/%=%)'

@@ -36,8 +36,8 @@ BENCH_FLAGS := -O3 -std=gnu11 $(WARNINGS) -falign-functions=64 -falign-loops=32
 
 # The archives of this repository are made anew where a source is newer, so that nothing is measured or compared that isn't in the
 # crates. Those of another folder are taken as they are.
-ifeq ($(RIME_LIB),$(CURDIR)/target/staticlib)
 SOURCES := $(shell find crates -name '*.rt' -o -name '*.antt') crates.txt
+ifeq ($(RIME_LIB),$(CURDIR)/target/staticlib)
 $(ARCHIVE) $(MANAGEMENT): $(RIME_LIB)/lib%.a: $(SOURCES)
 	@echo 'Proves $* and what it needs, and writes its archive: some 5 minutes from nothing, on two cores.'
 	@bash tools/prove.sh staticlib $*
