@@ -1,7 +1,7 @@
 #!/usr/bin/env bash
-# A user's first hour: the commands of README.md, "Use it" and "Link it", are run as they stand there, in a copy of what is committed,
-# with a home of its own and nothing else on the path; what they print is what README says. Then a C program elsewhere is built by
-# pkg-config alone, and each rule of docs/RULES.md is cited in docs/PROMISES.md.
+# A user's first hour: the commands of README.md, "Use it" and "Link it", and of docs/LINKING.md are run as they stand there, in a copy
+# of the repository, with a home of its own and nothing else on the path; what they print is what the pages say. Then a C program
+# elsewhere is built by pkg-config alone, and each rule of docs/RULES.md is cited in docs/PROMISES.md.
 #
 # The copy gets target/ as the gate has it: what was proved is found there, and not proved once more.
 set -eu -o pipefail
@@ -10,7 +10,7 @@ dir=$(mktemp -d)
 trap 'rm -rf "$dir"' EXIT
 export CARGO_HOME=${CARGO_HOME:-$HOME/.cargo} RUSTUP_HOME=${RUSTUP_HOME:-$HOME/.rustup}
 mkdir "$dir/home" "$dir/clone" "$dir/bin" "$dir/elsewhere"
-git ls-files -z | xargs -0 cp -a --parents -t "$dir/clone"
+tar --exclude=./target --exclude=./.git -cf - . | tar -xf - -C "$dir/clone"
 mkdir "$dir/clone/target"
 for folder in bin log obj rlib stamp staticlib; do
     [ ! -e "target/$folder" ] || cp -a "target/$folder" "$dir/clone/target/"
@@ -18,20 +18,24 @@ done
 for program in rt cargo rustc python3; do ln -s "$(command -v "$program")" "$dir/bin/$program"; done
 export HOME=$dir/home PATH=$dir/bin:/usr/bin:/bin
 
-(cd "$dir/clone" && python3 - README.md 'Use it' 'Link it' << 'PYTHON'
+cat > "$dir/follow.py" << 'PYTHON'
+"""Runs the commands of a page's sections: the lines that begin with `    $ `, with what they print below them."""
 import pathlib
 import re
 import subprocess
 import sys
 
 page, *wanted = sys.argv[1:]
-commands, section = [], None
+commands, section, printed_here = [], None, False
 for line in pathlib.Path(page).read_text(encoding='utf-8').split('\n'):
     if line.startswith('## '):
         section = line[3:]
     elif section in wanted and line.startswith('    $ '):
         commands.append((line[6:], []))
-    elif section in wanted and line.startswith('    ') and commands:
+        printed_here = True
+    elif not line.startswith('    '):
+        printed_here = False
+    elif printed_here:
         commands[-1][1].append(line[4:])
 script = 'exec 2>&1\n' + ''.join(f'echo "@@"\n{command} || {{ echo "@@failed"; exit 1; }}\n' for command, _ in commands)
 ran = subprocess.run(['bash', '-c', script], stdout=subprocess.PIPE, stdin=subprocess.DEVNULL, text=True)
@@ -41,13 +45,17 @@ for (command, expected), printed in zip(commands, parts):
     # `..` stands for any lines; a command without lines may print anything
     pattern = ''.join('(?:.*\n)*' if line == '..' else re.escape(line) + '\n' for line in expected)
     if expected and not re.fullmatch(pattern, '\n'.join(printed) + '\n'):
-        print(f'README.md: {command}: printed', *printed, sep='\n  ')
+        print(f'{page}: {command}: printed', *printed, sep='\n  ')
         wrong = True
 if wrong:
     print(ran.stdout[-3000:])
     sys.exit(1)
-print(f'README.md: {len(commands)} commands print what they should')
+print(f'{page}: {len(commands)} commands print what they should')
 PYTHON
+(
+    cd "$dir/clone"
+    python3 "$dir/follow.py" README.md 'Use it' 'Link it'
+    python3 "$dir/follow.py" docs/LINKING.md C Rust Python
 )
 
 # What was installed, from a folder that has nothing else.
