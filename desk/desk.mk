@@ -1,20 +1,16 @@
 # The desk tool: target/desk/rimesatchel, over the proved library, libsndfile and cairo. The Makefile includes this file.
 #
 # RIME_LIB   the folder of librimesatchel.a
+# DESK       the folder in which the tool is built
 
 RIME_LIB ?= $(CURDIR)/target/staticlib
-DESK := target/desk
+DESK ?= target/desk
 DESK_SOURCES := $(wildcard desk/*.c)
 DESK_HEADERS := $(wildcard desk/*.h) include/rimesatchel.h
 DESK_FLAGS := -std=c11 -D_GNU_SOURCE -O2 -Wall -Wextra -Werror -Iinclude
 
 .PHONY: desk desk-needs
 desk: $(DESK)/rimesatchel
-
-# Where the library isn't there yet it is proved and built, with all that it needs.
-$(RIME_LIB)/librimesatchel.a:
-	@echo 'the library is proved and built first: some five minutes on two cores'
-	rt staticlib rimesatchel
 
 # What it is built with, by the names of Debian's packages.
 desk-needs:
@@ -25,15 +21,8 @@ $(DESK)/rimesatchel: $(DESK_SOURCES) $(DESK_HEADERS) $(RIME_LIB)/librimesatchel.
 	gcc $(DESK_FLAGS) $$(pkg-config --cflags sndfile cairo) $(DESK_SOURCES) $(RIME_LIB)/librimesatchel.a \
 	    $$(pkg-config --libs sndfile cairo) -lm -o $@
 
-# The tool and its man page, under PREFIX.
-PREFIX ?= /usr/local
-.PHONY: desk-install
-desk-install: desk
-	install -D -m 755 $(DESK)/rimesatchel $(DESTDIR)$(PREFIX)/bin/rimesatchel
-	install -D -m 644 desk/rimesatchel.1 $(DESTDIR)$(PREFIX)/share/man/man1/rimesatchel.1
-
-.PHONY: desk-demo
-desk-demo: desk
+.PHONY: demo
+demo: desk-needs
 	@bash desk/demo.sh
 
 .PHONY: desk-hour
