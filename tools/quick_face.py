@@ -125,7 +125,9 @@ def main():
     for name in ('main', '"face::main"'):
         text = re.sub(r'(?ms)^define [^\n]*@' + name + r'\(.*?^}\n', '', text)
     (OUT / 'face.ll').write_text(text + ''.join(for_c(*face) for face in faces), encoding='utf-8')
-    subprocess.run(clang + ['-fPIC', '-O3', '-c', OUT / 'face.ll', '-o', OUT / 'face.o'], check=True)
+    as_rt = ['-fPIC', '-O3', '-ffunction-sections', '-fdata-sections', '-Xclang', '-fmerge-functions', '-mllvm',
+             '-mergefunc-use-aliases']
+    subprocess.run(clang + as_rt + ['-c', OUT / 'face.ll', '-o', OUT / 'face.o'], check=True)
     (LIB / 'librimesatchel.a').unlink(missing_ok=True)
     subprocess.run(['ar', 'rcs', LIB / 'librimesatchel.a', OUT / 'face.o'], check=True)
 
