@@ -72,7 +72,8 @@ $(EXAMPLES)/cast-c: examples/c/cast.c include/rimesatchel.h $(ARCHIVE)
 # Beside the archive the shared library has the header's words, for callers that can't read a header.
 $(SHARED): $(ARCHIVE) bindings/words.c include/rimesatchel.h
 	mkdir -p target/lib
-	gcc -O2 -std=c99 $(WARNINGS) -shared -fPIC -Iinclude bindings/words.c -Wl,--whole-archive $(ARCHIVE) -Wl,--no-whole-archive -o $@
+	gcc -O2 -std=c99 $(WARNINGS) -shared -fPIC -Iinclude bindings/words.c -Wl,--whole-archive $(ARCHIVE) \
+	    -Wl,--no-whole-archive -o $@
 
 $(SHARED_MANAGEMENT): $(MANAGEMENT)
 	mkdir -p target/lib

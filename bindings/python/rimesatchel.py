@@ -1,8 +1,8 @@
 """The proved sender and receiver of spoken-book readings over ATM cells (IEC 62365), and what stands beside them.
 
 The library is librimesatchel.so, which `make lib` writes. It is looked for in the folder that RIMESATCHEL_LIB names, in the
-repository's target/lib, beside an installed copy of this module, and where the system looks for libraries. What is answered is the
-library's own answer. A call that is refused does nothing and raises Refused, which has the number and its words.
+repository's target/lib, beside an installed copy of this module, and where the system looks for libraries. What is answered is
+the library's own answer. A call that is refused does nothing and raises Refused, which has the number and its words.
 
 56 hex is 24-bit samples; two channels in order 0 are six times two samples a cell:
 
@@ -191,7 +191,7 @@ class Entry(NamedTuple):
 
 
 class Handed(NamedTuple):
-    """What a receiver makes of a cell: those missing before it, and its own. Entries stand time after time, channels side by side."""
+    """What a receiver makes of a cell: those missing before it, and its own. Time after time, channels side by side."""
 
     missing: int
     number: int
@@ -393,8 +393,8 @@ class Units(NamedTuple):
 
 
 def export_units(form: int, channels: int, size: int, samples: Sequence[int], ancillary: Sequence[int] | None = None) -> Units:
-    """Entries as data units of at most `size` octets. Marks don't travel: a gap leaves as silence that looks like sound. Refused 1,
-    2, 5, 6, 26 or 27.
+    """Entries as data units of at most `size` octets. Marks don't travel: a gap leaves as silence that looks like sound.
+    Refused 1, 2, 5, 6, 26 or 27.
 
     >>> units = export_units(0x06, 2, 12, [1, 2, 3, 4, 5, 6])
     >>> [len(unit) for unit in units.parts()], read_unit(0x06, 2, units.parts()[1])
@@ -402,7 +402,8 @@ def export_units(form: int, channels: int, size: int, samples: Sequence[int], an
     """
     beside = [0] * len(samples) if ancillary is None else ancillary
     out, told = _Lent(c_uint8, 4 * len(samples)), (c_uint64 * 3)()  # no entry of these formats is longer
-    _call("rime_units_export", _setting(form), _setting(channels), size, _Lent(c_uint64, samples), _Lent(c_uint8, beside), out, told)
+    lent = _Lent(c_uint64, samples), _Lent(c_uint8, beside)
+    _call("rime_units_export", _setting(form), _setting(channels), size, *lent, out, told)
     return Units(bytes(out.array[:told[0]]), told[1])
 
 
@@ -434,7 +435,7 @@ def plan(form: int, channels: int, circuits: int) -> list[int]:
 
 
 def check_plan(form: int, channels: int, frequency: int, shares: Sequence[int], allowances: Sequence[int]) -> Verdict:
-    """Judges a plan, anyone's: the channels that each circuit carries, and the cells a second that each may. Refused 1, 5, 22, 23."""
+    """Judges a plan, anyone's: the channels of each circuit, and the cells a second that each may carry. Refused 1, 5, 22, 23."""
     answer = (c_uint32 * 2)()
     numbers = map(_setting, (form, channels, frequency))
     _call("rime_circuits_check", *numbers, _Lent(c_uint32, shares), _Lent(c_uint32, allowances), answer)
@@ -443,8 +444,8 @@ def check_plan(form: int, channels: int, frequency: int, shares: Sequence[int], 
 
 
 class Deed(NamedTuple):
-    """What equipment does with a management message: the ports behind it, the answer that is written, and what the network is to be
-    sent: 0 nothing, 1 SETUP, 2 ADD PARTY, 3 RELEASE, 4 DROP PARTY; for which port, and with which endpoint reference."""
+    """What equipment does with a management message: the ports behind it, the answer that is written, and what the network is to
+    be sent: 0 nothing, 1 SETUP, 2 ADD PARTY, 3 RELEASE, 4 DROP PARTY; for which port, and with which endpoint reference."""
 
     ports: bytes
     answer: bytes

@@ -1,7 +1,7 @@
 #!/usr/bin/env bash
-# A user's first hour: the commands of README.md, "Use it" and "Link it", and of docs/LINKING.md are run as they stand there, in a copy
-# of the repository, with a home of its own and nothing else on the path; what they print is what the pages say. Then a C program
-# elsewhere is built by pkg-config alone, and each rule of docs/RULES.md is cited in docs/PROMISES.md.
+# A user's first hour: the commands of README.md, "Use it" and "Link it", and of docs/LINKING.md are run as they stand there, in a
+# copy of the repository, with a home of its own and nothing else on the path; what they print is what the pages say. Then a C
+# program elsewhere is built by pkg-config alone, and each rule of docs/RULES.md is cited in docs/PROMISES.md.
 #
 # The copy gets target/ as the gate has it: what was proved is found there, and not proved once more.
 set -eu -o pipefail
@@ -70,7 +70,8 @@ diff handover.expected printed
 "$HOME/.local/bin/linelist" reading.log > printed
 diff reading.expected printed
 version=$(pkg-config --modversion rimesatchel)
-[ "$(PYTHONPATH=$HOME/.local/lib/python3/dist-packages python3 -c 'import rimesatchel; print(rimesatchel.VERSION)')" = "$version" ]
+export PYTHONPATH=$HOME/.local/lib/python3/dist-packages
+[ "$(python3 -c 'import rimesatchel; print(rimesatchel.VERSION)')" = "$version" ]
 echo "install: a C program elsewhere is built by pkg-config alone; version $version"
 cd "$OLDPWD"
 

@@ -33,8 +33,8 @@ impl Sender {
         unless_refused(refusal, Sender(state))
     }
 
-    /// The next cell: C×T samples and as many ancillary numbers in it. The indication may be given only where the cell's number is
-    /// a multiple of 8. Refused 5, 6 or 7, and then the sender is as it was.
+    /// The next cell: C×T samples and as many ancillary numbers in it. The indication may be given only where the cell's number
+    /// is a multiple of 8. Refused 5, 6 or 7, and then the sender is as it was.
     pub fn send(&mut self, samples: &[u64], ancillary: &[u8], indication: bool) -> Result<[u8; 48], Refusal> {
         let mut cell = [0; 48];
         let refusal = face::send(&mut self.0, indication, samples, ancillary, &mut cell);

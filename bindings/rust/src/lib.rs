@@ -2,8 +2,8 @@
 //! status, logs of cells, frames of an AES3 cable, data units for another network, channels shared out over circuits.
 //!
 //! The library itself is `librimesatchel.a`, which `make lib` writes. This crate links it and has no other package beside it. All
-//! of it is safe to call, and what it answers is the library's own answer. A call that is refused does nothing; the [`Refusal`] has
-//! the number and its words.
+//! of it is safe to call, and what it answers is the library's own answer. A call that is refused does nothing; the [`Refusal`]
+//! has the number and its words.
 //!
 //! ```
 //! use rimesatchel::{Mark, Receiver, Sender, Setup};

@@ -17,8 +17,8 @@ impl Units {
     }
 }
 
-/// Entries as data units of at most `size` octets. Marks don't travel: a gap leaves as silence that looks like sound. Refused 1, 2, 5,
-/// 6, 26 or 27.
+/// Entries as data units of at most `size` octets. Marks don't travel: a gap leaves as silence that looks like sound. Refused 1,
+/// 2, 5, 6, 26 or 27.
 ///
 /// ```
 /// use rimesatchel::{export_units, read_unit};

@@ -27,8 +27,8 @@ pub fn plan(format: u32, channels: u32, circuits: usize) -> Result<Vec<u32>, Ref
     unless_refused(refusal, shares)
 }
 
-/// Judges a plan, anyone's: how many channels each circuit carries, and the cells per second that each may carry. Refused 1, 5, 22 or
-/// 23.
+/// Judges a plan, anyone's: how many channels each circuit carries, and the cells per second that each may carry. Refused 1,
+/// 5, 22 or 23.
 pub fn check_plan(
     format: u32,
     channels: u32,
