@@ -67,6 +67,7 @@ install:
 	done
 
 test:
+	@echo 'The gate: some 12 minutes on two cores with nothing beside it.'
 	.ci/run
 
 mutants:

@@ -111,8 +111,8 @@ face-bindings: $(ARCHIVE) $(SHARED) $(SHARED_MANAGEMENT)
 	@echo "bindings: the pages of the Rust crate and of the Python module say what is so"
 
 # Everything that links the archive. The gate builds it while `rt ci` goes on.
-face-build: face-compare $(EXAMPLES)/handover-c $(EXAMPLES)/handover-rust $(SHARED) $(EXAMPLES)/cast-c \
-    target/bench/bench
+face-build: face-compare $(EXAMPLES)/handover-c $(EXAMPLES)/handover-rust $(SHARED) $(SHARED_MANAGEMENT) \
+    $(EXAMPLES)/cast-c $(EXAMPLES)/management-c target/bench/bench
 
 face-test: face-compare face-examples face-bindings
 	$(COMPARE) vectors tests/vectors $(LINELIST)

@@ -200,7 +200,7 @@ class Handed(NamedTuple):
     entries: list[Entry]
 
 
-_ROOM = 720  # for fourteen missing cells and one more, of 48 slots each
+_ROOM = 721  # for fourteen missing cells and one more, of 48 slots each, and an entry that is never handed out
 _NO_MARK = 3  # an entry that still has it was not handed out
 
 
@@ -221,7 +221,7 @@ class Receiver:
         samples, ancillary, marks = _Lent(c_uint64, _ROOM), _Lent(c_uint8, _ROOM), _Lent(c_uint8, [_NO_MARK] * _ROOM)
         report = (c_uint8 * 4)()
         _call("rime_receive", self._state, _octets(cell), indication, samples, ancillary, marks, report)
-        handed = bytes(marks.array).find(_NO_MARK)
+        handed = bytes(marks.array).index(_NO_MARK)
         entries = zip(samples.array[:handed], ancillary.array[:handed], map(Mark, marks.array[:handed]))
         missing, number, second, came = report
         return Handed(missing, number, second, came == 1, [Entry(*entry) for entry in entries])

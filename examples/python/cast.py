@@ -7,7 +7,10 @@ import pathlib
 import sys
 
 sys.path.insert(0, str(pathlib.Path(__file__).resolve().parents[2] / "bindings" / "python"))
-from rimesatchel import Refused, check_plan, plan
+try:
+    from rimesatchel import Refused, check_plan, plan
+except ImportError as missing:
+    sys.exit(f"cast.py: {missing}")
 
 FORMAT, CAST, FREQUENCY = 0x56, 60, 48000
 ANSWERS = {"yes": "yes", "share": "no, the share of circuit", "allowance": "no, the allowance of circuit", "sum": "no, the sum"}

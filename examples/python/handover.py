@@ -8,7 +8,10 @@ import pathlib
 import sys
 
 sys.path.insert(0, str(pathlib.Path(__file__).resolve().parents[2] / "bindings" / "python"))
-from rimesatchel import Fit, Receiver, Refused, Sender, Setup, Status
+try:
+    from rimesatchel import Fit, Receiver, Refused, Sender, Setup, Status
+except ImportError as missing:
+    sys.exit(f"handover.py: {missing}")
 
 CHANNELS, TIMES = 2, 6
 SETUP = Setup(0x56, CHANNELS)

@@ -6,6 +6,7 @@
 # The copy gets target/ as the gate has it: what was proved is found there, and not proved once more.
 set -eu -o pipefail
 export LC_ALL=C
+bash tests/need.sh pkg-config
 dir=$(mktemp -d)
 trap 'rm -rf "$dir"' EXIT
 export CARGO_HOME=${CARGO_HOME:-$HOME/.cargo} RUSTUP_HOME=${RUSTUP_HOME:-$HOME/.rustup}
