@@ -1,6 +1,10 @@
 pub mod BoxesOne
+pub mod Bytes
 pub mod FramesOne
 pub mod FramesWrong
+pub mod KeptLaws
+pub mod KeptOne
+pub mod KeptWrong
 pub mod Leaves
 pub mod LogsOne
 pub mod NetworkLeaves

@@ -1,5 +1,6 @@
 pub mod Boxes
 pub mod Frames
+pub mod Kept
 pub mod Logs
 pub mod Network
 pub mod Plans

@@ -15,6 +15,9 @@ pub enum Kind {
     CheckCharacter,
     ReadHeader,
     ReadRecord,
+    PutHeader,
+    PutRecord,
+    LogList,
     Linelist,
     LinelistLimit,
     Salvage,
@@ -35,7 +38,7 @@ impl Kind {
 }
 
 /// Kind, name, and the fields in and out: n a number, r a run of numbers or a state, o octets.
-const KINDS: [(Kind, &str, &str, &str); 20] = [
+const KINDS: [(Kind, &str, &str, &str); 24] = [
     (Kind::SenderOpen, "sender_open", "nnnnnn", "nr"),
     (Kind::ReceiverOpen, "receiver_open", "nnn", "nr"),
     (Kind::Send, "send", "rnrro", "nro"),
@@ -45,6 +48,9 @@ const KINDS: [(Kind, &str, &str, &str); 20] = [
     (Kind::CheckCharacter, "check_character", "o", "n"),
     (Kind::ReadHeader, "read_header", "o", "nnnnn"),
     (Kind::ReadRecord, "read_record", "on", "nnnnn"),
+    (Kind::PutHeader, "put_header", "onnn", "non"),
+    (Kind::PutRecord, "put_record", "onon", "non"),
+    (Kind::LogList, "log_list", "oo", "nonn"),
     (Kind::Linelist, "linelist", "o", "o"),
     (Kind::LinelistLimit, "linelist_limit", "on", "o"),
     (Kind::Salvage, "salvage", "oor", "nornnn"),

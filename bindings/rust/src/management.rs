@@ -22,9 +22,7 @@ pub fn equipment(ports: &mut [u8], message: &[u8], answer: &mut [u8], report: &m
     let (ports_at, ports_len) = (ports.as_mut_ptr(), ports.len());
     let (answer_at, answer_len) = (answer.as_mut_ptr(), answer.len());
     // SAFETY: see the head of this file; so below.
-    unsafe {
-        raw::rime_equipment(ports_at, ports_len, message.as_ptr(), message.len(), answer_at, answer_len, report)
-    }
+    unsafe { raw::rime_equipment(ports_at, ports_len, message.as_ptr(), message.len(), answer_at, answer_len, report) }
 }
 
 pub fn controller(ports: &mut [u8], message: &[u8]) -> u8 {

@@ -1,4 +1,5 @@
-//! The proved library's functions as include/rimesatchel.h declares them, and a safe call for each.
+//! The proved library's functions as include/rimesatchel.h declares them, and a safe call for each. Each answers what the header
+//! says, mostly a refusal number; the types of the crate's own page stand above them.
 //!
 //! A slice carries its own length and two `&mut` never overlap, which is all that the header asks of a caller.
 
@@ -9,7 +10,6 @@ pub type StatusBlock = [u8; 25];
 pub type StatusOut = [u8; 25];
 
 /// What `status_step` answers in the first octet of `out`.
-#[allow(dead_code)] // the comparison has its own words for them
 pub mod status_answer {
     pub const NEITHER: u8 = 0;
     pub const DOES_NOT_FIT: u8 = 1;
@@ -68,6 +68,25 @@ mod raw {
             list_len: usize,
             counts: *mut [u64; 3],
         ) -> u8;
+        pub fn rime_log_put_header(
+            log: *mut u8,
+            log_len: usize,
+            format: u32,
+            channels: u32,
+            order: u32,
+            next: *mut u64,
+        ) -> u8;
+        pub fn rime_log_put_record(
+            log: *mut u8,
+            log_len: usize,
+            place: usize,
+            cell: *const u8,
+            cell_len: usize,
+            indication: bool,
+            next: *mut u64,
+        ) -> u8;
+        pub fn rime_log_list(log: *const u8, log_len: usize, run: *mut u8, run_len: usize, listed: *mut [u64; 2])
+            -> u8;
         pub fn rime_aes3_import(
             preambles: *const [u8; 2],
             subframes: *const [u32; 2],
@@ -190,6 +209,19 @@ pub fn salvage(log: &[u8], out: &mut [u8], list: &mut [u64], counts: &mut [u64; 
     let (out_at, out_len) = (out.as_mut_ptr(), out.len());
     let (list_at, list_len) = (list.as_mut_ptr(), list.len());
     unsafe { raw::rime_salvage(log.as_ptr(), log.len(), out_at, out_len, list_at, list_len, counts) }
+}
+
+pub fn log_put_header(log: &mut [u8], [format, channels, order]: [u32; 3], next: &mut u64) -> u8 {
+    unsafe { raw::rime_log_put_header(log.as_mut_ptr(), log.len(), format, channels, order, next) }
+}
+
+pub fn log_put_record(log: &mut [u8], place: usize, cell: &[u8], indication: bool, next: &mut u64) -> u8 {
+    let (log_at, log_len) = (log.as_mut_ptr(), log.len());
+    unsafe { raw::rime_log_put_record(log_at, log_len, place, cell.as_ptr(), cell.len(), indication, next) }
+}
+
+pub fn log_list(log: &[u8], run: &mut [u8], listed: &mut [u64; 2]) -> u8 {
+    unsafe { raw::rime_log_list(log.as_ptr(), log.len(), run.as_mut_ptr(), run.len(), listed) }
 }
 
 pub fn aes3_import(preambles: &[u8; 2], subframes: &[u32; 2], samples: &mut [u64; 2], ancillary: &mut [u8; 2]) -> u8 {
