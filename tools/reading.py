@@ -26,7 +26,7 @@ ROOT = pathlib.Path(__file__).resolve().parent.parent / "crates"
 START = ROOT / "line/proofs/Demands.antt"
 CODE = {"Code", "Packing", "Unpacking", "Marks", "Settings", "Sound", "Steps", "Taken", "Taking"}
 CONTRACTS = ("line", "Contracts")
-MOST = 1006
+MOST = 1007
 
 NAME = r"[^\s(){}\[\],;.:λ∷→«»\"]+"
 DECLARES = re.compile(rf"^(?:unfoldable |abbrev )?(?:pub )?(?:record |data )?({NAME})\s*(?:[:({{]|$)")

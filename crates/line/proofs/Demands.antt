@@ -24,10 +24,10 @@ use Rattle.log.specs.declared.keep.Kept.{Kept}
 use Rattle.log.specs.Numbers.{isCut, isLong, isPadded, numberAt}
 use Rattle.log.specs.Records.{headerRefusal, headerOf, secondNumber, thirdNumber}
 use Rattle.log.specs.Written.{numberRefusal, headerRefused, recordRefusal}
-use Rattle.listing.specs.declared.Listed.{Listed}
+use Rattle.text.specs.declared.Put.{Put}
 use Rattle.listing.specs.declared.Listing.{Listing}
 use Rattle.listing.specs.Lines.{logRefusedLine}
-use Rattle.listing.specs.Text.{listed}
+use Rattle.text.specs.Put.{listed}
 use Rattle.cable.specs.declared.Imported.{Imported}
 use Rattle.cable.specs.declared.Exported.{Exported}
 use Rattle.cable.specs.Frames.{importRefusal, exportRefusal}
@@ -165,7 +165,7 @@ pub demand-1-write-record : (log : List ℕ) (place : ℕ) (indication : Bool) (
 demand-1-write-record log place indication cell r after meets = keeps meets
 
 -- a list has no number of its own to refuse with: of a log that ends in its header just the line is written that says why
-pub demand-1-list : (l : Listing) (held run : List ℕ) (r : Listed) (after : List ℕ) → MeetsEnd l held run r after → l .standing .stage ≡ 0
+pub demand-1-list : (l : Listing) (held run : List ℕ) (r : Put) (after : List ℕ) → MeetsEnd l held run r after → l .standing .stage ≡ 0
     → (r ≡ listed (length run) (logRefusedLine (headerOf (take (l .standing .count % 9) held) .refusal)))
     × (after ≡ over (take (length run) (logRefusedLine (headerOf (take (l .standing .count % 9) held) .refusal))) run)
 demand-1-list = lists

@@ -28,10 +28,10 @@ use Rattle.log.specs.Numbers.{isCut, isLong, isPadded, numberAt}
 use Rattle.log.specs.Records.{headerRefusal, headerOfNumbers, headerOf, secondNumber, thirdNumber, recordAt}
 use Rattle.log.specs.Written.{Keeps}
 use Rattle.log.proofs.Refused.{refused-number, refused-header, refused-record, refused-cell, refused-place, keeps-refusal, refused-keeps}
-use Rattle.listing.specs.declared.Listed.{Listed}
+use Rattle.text.specs.declared.Put.{Put}
 use Rattle.listing.specs.declared.Listing.{Listing}
 use Rattle.listing.specs.Lines.{logRefusedLine}
-use Rattle.listing.specs.Text.{listed}
+use Rattle.text.specs.Put.{listed}
 use Rattle.listing.proofs.Refused.{refused-end}
 use Rattle.cable.specs.declared.Imported.{Imported}
 use Rattle.cable.specs.declared.Exported.{Exported}
@@ -169,7 +169,7 @@ pub keeps : {table place : ℕ} {octets log after : List ℕ} {r : Kept} → Kee
 keeps meets =
     record { by-the-table = keeps-refusal meets; then-nothing = λ some. refused-keeps meets (λ none. some (keeps-refusal meets ∙ none)) }
 
-pub lists : (l : Listing) (held run : List ℕ) (r : Listed) (after : List ℕ) → MeetsEnd l held run r after → l .standing .stage ≡ 0
+pub lists : (l : Listing) (held run : List ℕ) (r : Put) (after : List ℕ) → MeetsEnd l held run r after → l .standing .stage ≡ 0
     → (r ≡ listed (length run) (logRefusedLine (headerOf (take (l .standing .count % 9) held) .refusal)))
     × (after ≡ over (take (length run) (logRefusedLine (headerOf (take (l .standing .count % 9) held) .refusal))) run)
 lists l held run r after meets z =

@@ -25,7 +25,7 @@ use Rattle.log.specs.declared.keep.Kept.{Kept}
 use Rattle.log.specs.Numbers.{numberAt, groupsOf}
 use Rattle.log.specs.Records.{headerOf, recordAt, cellAt, placeAfter}
 use Rattle.log.specs.Written.{Keeps, numberRefusal, headerOctets, headerRefused, recordOctets, recordRefusal}
-use Rattle.listing.specs.declared.Listed.{Listed}
+use Rattle.text.specs.declared.Put.{Put}
 use Rattle.listing.specs.declared.Listing.{Listing}
 use Rattle.listing.specs.declared.Printed.{Printed}
 use Rattle.listing.specs.Taking.{Takes, Ends}
@@ -119,7 +119,7 @@ MeetsWriteRecord log place indication cell r after = Keeps (recordRefusal log pl
 abbrev pub MeetsTake : Listing → List ℕ → List ℕ → List ℕ → Printed → List ℕ → List ℕ → Type 0
 MeetsTake l held piece run r held-after run-after = Takes l held piece run r held-after run-after
 
-abbrev pub MeetsEnd : Listing → List ℕ → List ℕ → Listed → List ℕ → Type 0
+abbrev pub MeetsEnd : Listing → List ℕ → List ℕ → Put → List ℕ → Type 0
 MeetsEnd l held run r after = Ends l held run r after
 
 -- `import_frame` and `export_frame`

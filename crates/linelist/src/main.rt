@@ -1,8 +1,6 @@
 // `linelist`, document 01, "The log", and request 14: prints the list of a log as it reads it, from the file that its argument
 // names or from standard input. Everything that matters is in `listing`; here the log is read piece by piece, and its lines are
 // written.
-use libc::STDERR_FILENO;
-use libc::STDIN_FILENO;
 use libc::STDOUT_FILENO;
 use listing::Listing;
 use listing::Printed;
@@ -14,14 +12,9 @@ ghost use Rattle.io.specs.Counts.{clamped};
 ghost use Rattle.listing.specs.Taking.{Takes};
 ghost use Rattle.linelist.specs.Reads.{readsOn};
 
-fn usage() {
-    io::write_all(STDERR_FILENO, b"usage: linelist [FILE]\n");
-}
-
 // Says what failed, and the system's reason.
 fn told(what: &[u8]) {
-    io::write_all(STDERR_FILENO, b"linelist: ");
-    os::fail(what);
+    source::told(b"linelist", what);
 }
 
 // Whether to read on: not once an octet past the limit is read, nor behind a fault.
@@ -110,53 +103,14 @@ fn list_from(fd: i32, name: &[u8]) {
     list(fd, name, &mut held, &mut buffer, &mut text);
 }
 
-fn list_input() {
-    if libc::isatty(STDIN_FILENO) == 1 {
-        usage();
-        return;
-    }
-    list_from(STDIN_FILENO, b"standard input");
-}
-
-fn list_file(name: &[u8]) {
-    let fd = os::open_read(name);
-    if fd < 0 {
-        told(name);
-        return;
-    }
-    list_from(fd, name);
-    libc::close(fd);
-}
-
-// Lists the log that the one argument names. `-`, or no argument, is standard input; any other word that begins with `-` gets
-// the usage.
+// Lists the log that the one argument names, or the one on standard input.
 fn main() {
-    let words = os::arg_count();
-    if words < 2 {
-        list_input();
-        return;
-    }
-    if 2 < words {
-        usage();
-        return;
-    }
     let mut name = io::buffer();
-    let length = os::arg(1, &mut name);
-    if os::errno() != 0 {
-        told(b"the name of the file");
+    let source = source::chosen(b"linelist", b"[FILE]", &mut name);
+    if source.fd < 0 {
         return;
     }
-    if length == 0 {
-        list_file(&name[..length]);
-        return;
-    }
-    if name[0] != b'-' {
-        list_file(&name[..length]);
-        return;
-    }
-    if length == 1 {
-        list_input();
-        return;
-    }
-    usage();
+    let length = source.length;
+    list_from(source.fd, &name[..length]);
+    source::done(source);
 }

@@ -16,7 +16,7 @@ use Rattle.pieces.specs.declared.Standing.{Standing}
 use Rattle.pieces.specs.Limit.{Part, head, whole, refused, broken, done, endPart}
 use Rattle.pieces.specs.Steps.{heldCount, takingOf}
 use Rattle.pieces.specs.Taken.{Taking, Took, inHeader, inRecord, one, after, handed, endParts}
-use Rattle.listing.specs.declared.Listed.{Listed}
+use Rattle.text.specs.declared.Put.{Put}
 use Rattle.listing.specs.declared.Listing.{Listing}
 use Rattle.listing.specs.declared.Printed.{Printed}
 use Rattle.listing.specs.declared.Tally.{Tally}
@@ -34,8 +34,9 @@ use Rattle.listing.specs.Taking.{
   Takes,
   Ends,
 }
-use Rattle.listing.specs.Text.{digitsOf, item, listed}
-use Rattle.listing.specs.Words.{words}
+use Rattle.text.specs.Put.{listed}
+use Rattle.text.specs.Text.{digitsOf, item}
+use Rattle.text.specs.Words.{words}
 use Rattle.listing.proofs.Texts.{text-joined}
 use Rattle.listing.proofs.Whole.{take-to}
 
@@ -217,17 +218,17 @@ module _ (l : Listing) (held : List ℕ) where
       (λ b. rw (a, b) (omega arith)))
 
 -- so a run of that many octets holds all of it
-listed-whole : (text run : List ℕ) {answer : Listed} → length text ≤ 131072 → 131072 ≤ length run → answer ≡ listed (length run) text
+listed-whole : (text run : List ℕ) {answer : Put} → length text ≤ 131072 → 131072 ≤ length run → answer ≡ listed (length run) text
     → (answer .whole ≡ true) × (answer .octets ≤ length run)
 listed-whole text run fits room is = (
-  ap (λ (x : Listed). x .whole) is ∙ le-leb (length text) (length run) (omega arith),
-  omega (arith, ap (λ (x : Listed). x .octets) is, take-to (length run) text),
+  ap (λ (x : Put). x .whole) is ∙ le-leb (length text) (length run) (omega arith),
+  omega (arith, ap (λ (x : Put). x .octets) is, take-to (length run) text),
 )
 
 pub takes-whole : {l : Listing} {held piece run held-after run-after : List ℕ} {answer : Printed} → Takes l held piece run answer held-after run-after
     → length piece ≤ 65536 → 131072 ≤ length run → (answer .listed .whole ≡ true) × (answer .listed .octets ≤ length run)
 takes-whole {l} {held} {piece} {run} takes few room = listed-whole (pieceText l held piece) run (piece-fits l held piece few) room (takes .printed)
 
-pub ends-whole : {l : Listing} {held run run-after : List ℕ} {answer : Listed} → Ends l held run answer run-after → 131072 ≤ length run
+pub ends-whole : {l : Listing} {held run run-after : List ℕ} {answer : Put} → Ends l held run answer run-after → 131072 ≤ length run
     → (answer .whole ≡ true) × (answer .octets ≤ length run)
 ends-whole {l} {held} {run} ends room = listed-whole (endOfText l held) run (end-fits l held) room (ends .printed)

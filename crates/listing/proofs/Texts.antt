@@ -8,9 +8,7 @@ use native.Mathlib.Omega.{arith}
 use borrow.Author.Tests.{eq-eqb, ne-eqb, eqb-true, le-leb}
 use lib.Dec.{eqb, leb, ltb}
 use lib.ListN.{length, getD, take, drop, set}
-use lib.Seq.{take-nil}
-use Rattle.runs.specs.Runs.{over}
-use Rattle.runs.proofs.Laws.{split}
+use Rattle.runs.proofs.Laws.{split, neither}
 use Rattle.log.specs.declared.Header.{Header}
 use Rattle.log.specs.Records.{headerOf}
 use Rattle.receiver.specs.declared.Receiver.{Receiver}
@@ -23,17 +21,19 @@ use Rattle.pieces.specs.Steps.{takingOf, headerFound, recordFound, liesWhole, b
 use Rattle.pieces.specs.Taken.{Taking, handed, endFault, endParts}
 use Rattle.pieces.proofs.Laws.{lies-facts}
 use Rattle.pieces.proofs.Walks.{Along, along-start, along-turn, along-end, turn-on}
-use Rattle.listing.specs.declared.Listed.{Listed}
+use Rattle.text.specs.declared.Put.{Put}
 use Rattle.listing.specs.declared.Listing.{Listing}
 use Rattle.listing.specs.declared.Printed.{Printed}
 use Rattle.listing.specs.declared.Tally.{Tally}
-use Rattle.listing.specs.Code.{Holds, Puts}
+use Rattle.text.specs.Put.{Puts}
 use Rattle.listing.specs.Lines.{formatLine, soundLine, refusedLine, brokenLine, endLine, logRefusedLine}
 use Rattle.listing.specs.List.{lineOf}
 use Rattle.listing.specs.Taking.{
   freshTally,
   judgedWhole,
   judgedFront,
+  isRecord,
+  recordOctets,
   afterOf,
   endText,
   partText,
@@ -47,8 +47,8 @@ use Rattle.listing.specs.Taking.{
   Takes,
   Ends,
 }
-use Rattle.listing.specs.Text.{listed}
-use Rattle.listing.proofs.Laws.{puts-then, puts-same, puts-none}
+use Rattle.text.specs.Put.{listed}
+use Rattle.text.proofs.Laws.{puts-then, puts-same, puts-none, said-from-start, wrote-from-start}
 
 -- parts one after the other
 pub text-joined : (t : Tally) (a b : List Part) → textOf t (a ++ b) ≡ textOf t a ++ textOf (tallyOf t a) b
@@ -105,80 +105,83 @@ module _ (t : Tally) (got : Received) where
 -- what was found, by its kind
 module _ (t : Tally) (f : Found) (held piece : List ℕ) (place : ℕ) where
   -- what was put and the counts are those of what was found
-  abbrev pub Tells : List ℕ → Listed → List ℕ → Listed → Tally → Type 0
+  abbrev pub Tells : List ℕ → Put → List ℕ → Put → Tally → Type 0
   Tells before at now past tally =
       Puts before at now past (textOf t (foundParts f held piece place)) × (tally ≡ tallyOf t (foundParts f held piece place))
 
-  tells : {before now : List ℕ} {at past : Listed} {tally : Tally} {p : Part} {text : List ℕ} → foundParts f held piece place ≡ p ∷ []
+  tells : {before now : List ℕ} {at past : Put} {tally : Tally} {p : Part} {text : List ℕ} → foundParts f held piece place ≡ p ∷ []
       → text ≡ partText t p → Puts before at now past text → tally ≡ partTally t p → Tells before at now past tally
   tells {p = p} is same puts counts =
       (puts-same (same ∙ sym (one-text t p) ∙ ap (textOf t) (sym is)) puts, counts ∙ sym (one-tally t p) ∙ ap (tallyOf t) (sym is))
 
-  pub tells-in-piece : {before now : List ℕ} {at past : Listed} {tally : Tally} {got : Received} → f .what ≡ 2
-      → got ≡ judgedFront (t .state) (take (place + 49 - place) (drop place piece))
-      → Puts before at now past (lineOf (t .records) got) → tally ≡ afterOf t got → Tells before at now past tally
-  unfolding foundParts partText partTally
-  tells-in-piece {got = got} two is puts counts =
-      let n : place + 49 - place ≡ 49 = omega arith in
-      let same : got ≡ judgedFront (t .state) (take 49 (drop place piece)) = rw n at is in
-      let other : eqb (f .what) 1 ≡ false = ne-eqb (f .what) 1 (λ one. omega arith) in
-      tells {p = whole (frontOf (take 49 (drop place piece)))} (rw (other, eq-eqb (f .what) 2 two)) (ap (lineOf (t
-      .records)) same) puts (counts ∙ ap (afterOf t) same)
+  -- a record, in the piece or held
+  found-record : isRecord (f .what) ≡ true → foundParts f held piece place ≡ whole (frontOf (recordOctets (f .what) held piece place)) ∷ []
+  unfolding foundParts isRecord recordOctets
+  found-record is =
+      split (eqb (f .what) 2)
+      (λ t.
+      let two : f .what ≡ 2 = eqb-true (f .what) 2 t in
+      let not-1 : eqb (f .what) 1 ≡ false = ne-eqb (f .what) 1 (λ one. omega (arith, one, two)) in
+      rw (not-1, t))
+      (λ t.
+      let three : f .what ≡ 3 = eqb-true (f .what) 3 (rw t at is) in
+      let not-1 : eqb (f .what) 1 ≡ false = ne-eqb (f .what) 1 (λ one. omega (arith, one, three)) in
+      rw (not-1, t, eq-eqb (f .what) 3 three))
 
-  pub tells-held : {before now : List ℕ} {at past : Listed} {tally : Tally} {got : Received} → f .what ≡ 3 → got ≡ judgedFront (t .state) held
+  pub tells-record : {before now : List ℕ} {at past : Put} {tally : Tally} {got : Received} → isRecord (f .what) ≡ true
+      → got ≡ judgedFront (t .state) (recordOctets (f .what) held piece place)
       → Puts before at now past (lineOf (t .records) got) → tally ≡ afterOf t got → Tells before at now past tally
-  unfolding foundParts partText partTally
-  tells-held three is puts counts =
-      let not-1 : eqb (f .what) 1 ≡ false = ne-eqb (f .what) 1 (λ one. omega arith) in
-      let not-2 : eqb (f .what) 2 ≡ false = ne-eqb (f .what) 2 (λ two. omega arith) in
-      tells {p = whole (frontOf held)} (rw (not-1, not-2, eq-eqb (f .what) 3 three)) (ap (lineOf (t .records)) is) puts (counts ∙ ap (afterOf t) is)
+  unfolding partText partTally
+  tells-record record-found is puts counts =
+      tells {p = whole (frontOf (recordOctets (f .what) held piece place))} (found-record record-found) (ap (lineOf (t .records)) is) puts
+      (counts ∙ ap (afterOf t) is)
 
-  pub tells-header : {before now : List ℕ} {at past : Listed} {tally : Tally} {h : Header} → f .what ≡ 1 → h ≡ headerOf (take 3 held)
+  pub tells-header : {before now : List ℕ} {at past : Put} {tally : Tally} {h : Header} → f .what ≡ 1 → h ≡ headerOf (take 3 held)
       → Puts before at now past (formatLine (h .format) (h .channels) (h .order)) → tally ≡ freshTally h → Tells before at now past tally
   unfolding foundParts partText partTally
   tells-header one is puts counts =
       tells {p = head (headerOf (take 3 held))} (rw (eq-eqb (f .what) 1 one)) (ap (λ (h : Header). formatLine (h .format) (h
       .channels) (h .order)) is) puts (counts ∙ ap freshTally is)
 
-  module _ (not-1 : f .what ≡ 1 → ⊥) (not-2 : f .what ≡ 2 → ⊥) (not-3 : f .what ≡ 3 → ⊥) where
-    pub tells-nothing : {before : List ℕ} {at : Listed} → (f .what ≡ 4 → ⊥) → Tells before at before at t
+  -- what is no record
+  not-two : isRecord (f .what) ≡ false → eqb (f .what) 2 ≡ false
+  unfolding isRecord
+  not-two none = neither (eqb (f .what) 2) (eqb (f .what) 3) none .0
+
+  not-three : isRecord (f .what) ≡ false → eqb (f .what) 3 ≡ false
+  unfolding isRecord
+  not-three none = neither (eqb (f .what) 2) (eqb (f .what) 3) none .1
+
+  module _ (none : isRecord (f .what) ≡ false) (not-1 : f .what ≡ 1 → ⊥) where
+    pub tells-nothing : {before : List ℕ} {at : Put} → (f .what ≡ 4 → ⊥) → Tells before at before at t
     unfolding foundParts textOf tallyOf
     tells-nothing {before} {at} not-4 =
-        let none : foundParts f held piece place ≡ [] =
-        rw (ne-eqb (f .what) 1 not-1, ne-eqb (f .what) 2 not-2, ne-eqb (f .what) 3 not-3, ne-eqb (f .what) 4 not-4) in
-        (puts-same (ap (textOf t) (sym none)) (puts-none before at), ap (tallyOf t) (sym none))
+        let nothing : foundParts f held piece place ≡ [] =
+        rw (ne-eqb (f .what) 1 not-1, not-two none, not-three none, ne-eqb (f .what) 4 not-4) in
+        (puts-same (ap (textOf t) (sym nothing)) (puts-none before at), ap (tallyOf t) (sym nothing))
 
     module _ (four : f .what ≡ 4) where
       found-fault : {p : Part} → cond (eqb (f .standing .stage) 2) (refused (f .standing .fault)) (broken (f .standing .fault)) ≡ p
           → foundParts f held piece place ≡ p ∷ []
       unfolding foundParts
       found-fault is =
-          rw (ne-eqb (f .what) 1 not-1, ne-eqb (f .what) 2 not-2, ne-eqb (f .what) 3 not-3, eq-eqb (f .what) 4 four)
+          rw (ne-eqb (f .what) 1 not-1, not-two none, not-three none, eq-eqb (f .what) 4 four)
           (ap (λ (p : Part). p ∷ []) is)
 
-      pub tells-refused : {before now : List ℕ} {at past : Listed} → f .standing .stage ≡ 2
+      pub tells-refused : {before now : List ℕ} {at past : Put} → f .standing .stage ≡ 2
           → Puts before at now past (logRefusedLine (f .standing .fault)) → Tells before at now past t
       unfolding partText partTally
       tells-refused two puts =
           tells {p = refused (f .standing .fault)} (found-fault {p = refused (f .standing .fault)} (rw (eq-eqb (f .standing .stage) 2 two))) refl puts refl
 
-      pub tells-broken : {before now : List ℕ} {at past : Listed} → (f .standing .stage ≡ 2 → ⊥)
+      pub tells-broken : {before now : List ℕ} {at past : Put} → (f .standing .stage ≡ 2 → ⊥)
           → Puts before at now past (endText t (f .standing .fault)) → Tells before at now past t
       unfolding partText partTally
       tells-broken other puts =
           tells {p = broken (f .standing .fault)} (found-fault {p = broken (f .standing .fault)} (rw (ne-eqb (f .standing .stage) 2 other))) refl puts refl
 
--- a run of which nothing is written yet
-start-holds : (run : List ℕ) → Holds run [] run (record { octets = 0; whole = true })
-unfolding over
-start-holds run =
-    record {
-      run = rw (take-nil {A = ℕ} (length run));
-      said = rw (take-nil {A = ℕ} (length run), le-leb 0 (length run) (omega arith));
-    }
-
 -- along a piece: the parts so far, their lines written, and the counts behind them
-pub record Going (l : Listing) (lent piece first : List ℕ) (at : Listed) (s : Standing) (t : Tally) (held run : List ℕ) (past : Listed) (place : ℕ)
+pub record Going (l : Listing) (lent piece first : List ℕ) (at : Put) (s : Standing) (t : Tally) (held run : List ℕ) (past : Put) (place : ℕ)
     : Type 0
   where
     pub parts : List Part
@@ -187,7 +190,7 @@ pub record Going (l : Listing) (lent piece first : List ℕ) (at : Listed) (s : 
     pub counts : t ≡ tallyOf (l .tally) parts
     pub same : length run ≡ length first
 
-module _ {l : Listing} {lent piece first : List ℕ} {at : Listed} where
+module _ {l : Listing} {lent piece first : List ℕ} {at : Put} where
   pub going-start : length lent ≡ 49 → Going l lent piece first at (l .standing) (l .tally) lent first at 0
   unfolding textOf tallyOf
   going-start size =
@@ -199,7 +202,7 @@ module _ {l : Listing} {lent piece first : List ℕ} {at : Listed} where
         same = refl;
       }
 
-  pub going-turn : {s : Standing} {t tally : Tally} {held run now wrote : List ℕ} {past next : Listed} {place : ℕ} {f : Found}
+  pub going-turn : {s : Standing} {t tally : Tally} {held run now wrote : List ℕ} {past next : Put} {place : ℕ} {f : Found}
       → Going l lent piece first at s t held run past place → place < length piece → Steps s held piece place f now
       → Tells t f now piece place run past wrote next tally → length wrote ≡ length run
       → Going l lent piece first at (f .standing) tally now wrote next (f .next)
@@ -215,21 +218,21 @@ module _ {l : Listing} {lent piece first : List ℕ} {at : Listed} where
         same = same ∙ g .same;
       }
 
-  pub going-on : {s : Standing} {t : Tally} {held run now : List ℕ} {past : Listed} {place : ℕ} {f : Found}
+  pub going-on : {s : Standing} {t : Tally} {held run now : List ℕ} {past : Put} {place : ℕ} {f : Found}
       → Going l lent piece first at s t held run past place → place < length piece → Steps s held piece place f now
       → (place < f .next) × (f .next ≤ length piece)
   going-on g here step = turn-on (g .along) here step
 
-pub going-end : {l : Listing} {lent piece first held run : List ℕ} {s : Standing} {t : Tally} {past : Listed} {place : ℕ}
+pub going-end : {l : Listing} {lent piece first held run : List ℕ} {s : Standing} {t : Tally} {past : Put} {place : ℕ}
     → Going l lent piece first (record { octets = 0; whole = true }) s t held run past place → length piece ≤ place
     → Takes l lent piece first (record { listed = past; listing = record { standing = s; tally = t } }) held run
 going-end {l} {lent} {piece} {first} {held} {run} {s} {t} {past} g end =
     let ends = along-end (g .along) end in
     let all : textOf (l .tally) (g .parts) ≡ pieceText l lent piece = ap (textOf (l .tally)) (ends .1) in
-    let holds = puts-same all (g .puts) first [] (start-holds first) in
+    let puts = puts-same all (g .puts) in
     record {
-      printed = holds .said;
-      wrote = holds .run;
+      printed = said-from-start puts;
+      wrote = wrote-from-start puts;
       goes-on = λ i. record { standing = ends .0 i .standing; tally = (g .counts ∙ ap (tallyOf (l .tally)) (ends .1)) i };
       holds = λ i. ends .0 i .held;
     }
@@ -270,11 +273,10 @@ module _ (s : Standing) (held : List ℕ) where
     unfolding endParts takingOf
     parts-none not-1 = rw (ne-eqb (s .stage) 0 not-0, ne-eqb (s .stage) 1 not-1)
 
-module _ {l : Listing} {held first run : List ℕ} {past : Listed} where
+module _ {l : Listing} {held first run : List ℕ} {past : Put} where
   ends-with : {text : List ℕ} → text ≡ endOfText l held → Puts first (record { octets = 0; whole = true }) run past text → Ends l held first past run
   ends-with same puts =
-      let holds = puts-same same puts first [] (start-holds first) in
-      record { printed = holds .said; wrote = holds .run }
+      record { printed = said-from-start (puts-same same puts); wrote = wrote-from-start (puts-same same puts) }
 
   pub ends-refused : {refusal : ℕ} → refusal ≡ endFault (takingOf (l .standing) held) → l .standing .stage ≡ 0
       → Puts first (record { octets = 0; whole = true }) run past (logRefusedLine refusal) → Ends l held first past run

@@ -12,14 +12,14 @@ use Rattle.runs.proofs.Wrong.{Never, Place, lent}
 use Rattle.receiver.proofs.Wrong as receiver
 use Rattle.pieces.proofs.Wrong as pieces
 use Rattle.pieces.specs.Steps.{stepsFrom, stoodOf}
-use Rattle.listing.specs.declared.Listed.{Listed}
+use Rattle.text.specs.declared.Put.{Put}
 use Rattle.listing.specs.declared.Listing.{Listing}
 use Rattle.listing.specs.declared.Printed.{Printed}
 use Rattle.listing.specs.declared.Tally.{Tally}
 use Rattle.listing.specs.List.{lineOf}
 use Rattle.listing.specs.Taking.{afterOf, endText, partText, partTally, textOf, tallyOf, startOf}
-use Rattle.listing.specs.Text.{digitsOf}
-use Rattle.listing.specs.Words.{words}
+use Rattle.text.specs.Text.{digitsOf}
+use Rattle.text.specs.Words.{words}
 use Rattle.listing.proofs.end.Kinds as end-kinds
 use Rattle.listing.proofs.end.Reads as end-reads
 use Rattle.listing.proofs.start.Kinds as start-kinds
@@ -92,16 +92,16 @@ module _ (κs : Lfts 3) (p q r : Place) where
   -- a list that its run cuts told as whole
   pub cut-list-not-whole : Taken 1000 (0x56 ∷ 2 ∷ 0 ∷ []) 13 (λ x run. x .listed .whole ≡ true)
   unfolding unfolded
-  cut-list-not-whole x v wrong s = true≢false (sym wrong ∙ ap (λ (l : Listed). l .whole) (s .printed))
+  cut-list-not-whole x v wrong s = true≢false (sym wrong ∙ ap (λ (l : Put). l .whole) (s .printed))
 
 module _ (κs : Lfts 1) (p : Place) where
-  abbrev Ended : Listing → (Listed → List ℕ → Type 0) → Type 0
+  abbrev Ended : Listing → (Put → List ℕ → Type 0) → Type 0
   Ended l Wrong = Never end-kinds.ps end-kinds.r end-reads.Post κs (l, (zeros 49, (lent p (zeros 100), tt))) (λ x v. Wrong x (v .1 .1 .0))
 
   -- nothing said of a log that can't be read
   pub empty-log-not-passed-over : Ended (startOf 1000) (λ x run. x .octets ≡ 0)
   unfolding unfolded
-  empty-log-not-passed-over x v wrong s = let right : x .octets ≡ 15 = ap (λ (l : Listed). l .octets) (s .printed) in omega arith
+  empty-log-not-passed-over x v wrong s = let right : x .octets ≡ 15 = ap (λ (l : Put). l .octets) (s .printed) in omega arith
 
   -- it is told as one that has an end
   pub empty-log-has-no-end-line : Ended (startOf 1000) (λ x run. run ≡ over (words "end 0 sound 0 missing 0 refused\n") (zeros 100))

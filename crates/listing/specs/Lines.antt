@@ -2,8 +2,8 @@
 -- Assumes nothing.
 use mathlib.Core.List.{List, _++_}
 use Prim.Native.Nat.{ℕ}
-use Rattle.listing.specs.Text.{item}
-use Rattle.listing.specs.Words.{words}
+use Rattle.text.specs.Text.{item}
+use Rattle.text.specs.Words.{words}
 
 -- as `format 86 2 0`
 abbrev pub formatLine : ℕ → ℕ → ℕ → List ℕ

@@ -1,11 +1,12 @@
--- The list of a log that is taken in pieces: the text of each part, and the counts behind it.
+-- The list of a log that is taken in pieces: the text of each part, and the counts behind it. These are the code's words: what the list
+-- is stands in List.antt.
 -- Assumes nothing.
-use mathlib.Core.Bool.{cond}
+use mathlib.Core.Bool.{Bool, cond, _||_}
 use mathlib.Core.List.{List, [], _∷_, _++_}
 use mathlib.Core.Path.{_≡_}
 use Prim.Native.Nat.{ℕ, _+_, _%_, _^_}
 use lib.Dec.{eqb}
-use lib.ListN.{length, take}
+use lib.ListN.{length, take, drop}
 use Rattle.runs.specs.Runs.{over}
 use Rattle.log.specs.declared.Header.{Header}
 use Rattle.receiver.specs.declared.Receiver.{Receiver}
@@ -17,13 +18,13 @@ use Rattle.pieces.specs.Limit.{Part, head, whole, refused, broken, done}
 use Rattle.pieces.specs.Steps as pieces
 use Rattle.pieces.specs.Steps.{takingOf, stoodOf}
 use Rattle.pieces.specs.Taken.{handed, endParts}
-use Rattle.listing.specs.declared.Listed.{Listed}
+use Rattle.text.specs.declared.Put.{Put}
 use Rattle.listing.specs.declared.Listing.{Listing}
 use Rattle.listing.specs.declared.Printed.{Printed}
 use Rattle.listing.specs.declared.Tally.{Tally}
 use Rattle.listing.specs.Lines.{formatLine, brokenLine, endLine, logRefusedLine}
 use Rattle.listing.specs.List.{lineOf}
-use Rattle.listing.specs.Text.{listed}
+use Rattle.text.specs.Put.{listed}
 
 -- a receiver opened by a header, and nothing counted yet
 abbrev pub freshTally : Header → Tally
@@ -34,6 +35,13 @@ judgedWhole state w = judgedOf state (w .cell) (w .indication)
 
 abbrev pub judgedFront : Receiver → List ℕ → Received
 judgedFront state octets = judgedWhole state (frontOf octets)
+
+-- the octets of a record that was found: in a piece at a place, or held
+unfoldable pub isRecord : ℕ → Bool
+isRecord what = eqb what 2 || eqb what 3
+
+unfoldable pub recordOctets : ℕ → List ℕ → List ℕ → ℕ → List ℕ
+recordOctets what held piece place = cond (eqb what 2) (take 49 (drop place piece)) held
 
 -- the counts past a record. They are numbers of 64 bits; the theorem of the list says that none wraps.
 unfoldable pub afterOf : Tally → Received → Tally
@@ -114,7 +122,7 @@ pub record Takes (l : Listing) (held piece run : List ℕ) (answer : Printed) (h
   pub holds : held-after ≡ stoodOf (l .standing) held piece .held
 
 -- the whole promise of the end
-pub record Ends (l : Listing) (held run : List ℕ) (answer : Listed) (run-after : List ℕ) : Type 0 where
+pub record Ends (l : Listing) (held run : List ℕ) (answer : Put) (run-after : List ℕ) : Type 0 where
   pub printed : answer ≡ listed (length run) (endOfText l held)
   pub wrote : run-after ≡ over (take (length run) (endOfText l held)) run
 

@@ -2,18 +2,12 @@
 // written into a lent run.
 use pieces::Standing;
 use receiver::Receiver;
+use text::Put;
 ghost use mathlib.Core.Path.{_≡_};
 ghost use Rattle.listing.specs.Taking.{startOf, Takes, Ends};
 
 mod lines; // lines.rt: the lines of a list
 mod parts; // parts.rt: the lines of a log's parts, and the counts
-mod text; // text.rt: octets and numbers put into a lent run
-
-// How many octets of a list were written from a run's start, and whether they are all that were to be written.
-pub struct Listed {
-    pub octets: usize,
-    pub whole: bool,
-}
 
 // The receiver's state and the counts so far: whole records, and the three of the end line.
 pub struct Tally {
@@ -32,7 +26,7 @@ pub struct Listing {
 
 // What was written for a piece, and the list to go on with.
 pub struct Printed {
-    pub listed: Listed,
+    pub listed: Put,
     pub listing: Listing,
 }
 
@@ -61,7 +55,7 @@ pub fn take(listing: Listing, held: &mut [u8; 49], piece: &[u8], run: &mut [u8])
     pieces::sized(*held);
     let mut standing = listing.standing;
     let mut tally = listing.tally;
-    let mut past = Listed {
+    let mut past = Put {
         octets: 0,
         whole: true,
     };
@@ -71,7 +65,12 @@ pub fn take(listing: Listing, held: &mut [u8; 49], piece: &[u8], run: &mut [u8])
         let stepped = parts::step(run, past, tally, found, held, piece, place);
         standing = found.standing;
         tally = stepped.tally;
-        past = stepped.past;
+        // field by field: a copy of the whole struct waits for its last bytes, which nobody reads
+        let told = stepped.past;
+        past = Put {
+            octets: told.octets,
+            whole: told.whole,
+        };
         place = found.next;
     }
     Printed {
@@ -81,10 +80,10 @@ pub fn take(listing: Listing, held: &mut [u8; 49], piece: &[u8], run: &mut [u8])
 }
 
 // Writes what ends the list of a log that ends here: nothing where a fault ended it before.
-pub fn end(listing: Listing, held: [u8; 49], run: &mut [u8]) -> Listed
+pub fn end(listing: Listing, held: [u8; 49], run: &mut [u8]) -> Put
     ensures { λ r. ⌜ Ends listing held (now (run .entry)) r (now (run .exit)) ⌝ }
 {
-    let start = Listed {
+    let start = Put {
         octets: 0,
         whole: true,
     };

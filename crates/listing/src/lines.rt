@@ -1,17 +1,18 @@
 // The lines of a list, each put behind the octets that a lent run holds already.
-use crate::Listed;
-use crate::text::put_all;
-use crate::text::put_item;
+use text::Put;
+use text::put_all;
+use text::put_item;
+use text::put_number;
 ghost use mathlib.Core.List.{_++_};
-ghost use Rattle.listing.specs.Code.{Puts};
-ghost use Rattle.listing.specs.Text.{item};
-ghost use Rattle.listing.specs.Words.{words};
+ghost use Rattle.text.specs.Put.{Puts};
+ghost use Rattle.text.specs.Text.{item};
+ghost use Rattle.text.specs.Words.{words};
 ghost use Rattle.listing.specs.Lines.{formatLine, soundLine, refusedLine, brokenLine, endLine, logRefusedLine};
 
 // A line of three numbers, with words before each and behind the last.
 fn three(
     run: &mut [u8],
-    at: Listed,
+    at: Put,
     first: &[u8],
     a: usize,
     second: &[u8],
@@ -19,7 +20,7 @@ fn three(
     third: &[u8],
     c: usize,
     last: &[u8],
-) -> Listed
+) -> Put
     ensures { λ r. ⌜ Puts (now (run .entry)) at (now (run .exit)) r
         (item (now (first .entry)) a ++ item (now (second .entry)) b ++ item (now (third .entry)) c ++ now (last .entry)) ⌝ }
 {
@@ -30,7 +31,7 @@ fn three(
 }
 
 // A line of a record and a refusal, with words between them.
-fn fault(run: &mut [u8], at: Listed, index: usize, between: &[u8], refusal: usize) -> Listed
+fn fault(run: &mut [u8], at: Put, index: usize, between: &[u8], refusal: usize) -> Put
     ensures { λ r. ⌜ Puts (now (run .entry)) at (now (run .exit)) r
         (item (words "") index ++ item (now (between .entry)) refusal ++ words "\n") ⌝ }
 {
@@ -41,11 +42,11 @@ fn fault(run: &mut [u8], at: Listed, index: usize, between: &[u8], refusal: usiz
 
 pub(crate) fn format_line(
     run: &mut [u8],
-    at: Listed,
+    at: Put,
     octet: usize,
     channels: usize,
     order: usize,
-) -> Listed
+) -> Put
     ensures { λ r. ⌜ Puts (now (run .entry)) at (now (run .exit)) r (formatLine octet channels order) ⌝ }
 {
     three(
@@ -61,35 +62,25 @@ pub(crate) fn format_line(
     )
 }
 
+// This is the line of most records: with its words as constants it takes fewer instructions than by `three`, and words of six octets
+// and one are stored faster than of seven.
 pub(crate) fn sound_line(
     run: &mut [u8],
-    at: Listed,
+    at: Put,
     index: usize,
     missing: usize,
     number: usize,
-) -> Listed
+) -> Put
     ensures { λ r. ⌜ Puts (now (run .entry)) at (now (run .exit)) r (soundLine index missing number) ⌝ }
 {
-    three(
-        run,
-        at,
-        b"",
-        index,
-        b" sound ",
-        missing,
-        b" number ",
-        number,
-        b"\n",
-    )
+    let past_index = put_number(run, at, index);
+    let past_sound = put_all(run, past_index, b" sound");
+    let past_missing = put_item(run, past_sound, b" ", missing);
+    let past_number = put_item(run, past_missing, b" number ", number);
+    put_all(run, past_number, b"\n")
 }
 
-pub(crate) fn end_line(
-    run: &mut [u8],
-    at: Listed,
-    sound: usize,
-    missing: usize,
-    refused: usize,
-) -> Listed
+pub(crate) fn end_line(run: &mut [u8], at: Put, sound: usize, missing: usize, refused: usize) -> Put
     ensures { λ r. ⌜ Puts (now (run .entry)) at (now (run .exit)) r (endLine sound missing refused) ⌝ }
 {
     three(
@@ -105,19 +96,19 @@ pub(crate) fn end_line(
     )
 }
 
-pub(crate) fn refused_line(run: &mut [u8], at: Listed, index: usize, refusal: usize) -> Listed
+pub(crate) fn refused_line(run: &mut [u8], at: Put, index: usize, refusal: usize) -> Put
     ensures { λ r. ⌜ Puts (now (run .entry)) at (now (run .exit)) r (refusedLine index refusal) ⌝ }
 {
     fault(run, at, index, b" refused ", refusal)
 }
 
-pub(crate) fn broken_line(run: &mut [u8], at: Listed, index: usize, refusal: usize) -> Listed
+pub(crate) fn broken_line(run: &mut [u8], at: Put, index: usize, refusal: usize) -> Put
     ensures { λ r. ⌜ Puts (now (run .entry)) at (now (run .exit)) r (brokenLine index refusal) ⌝ }
 {
     fault(run, at, index, b" broken ", refusal)
 }
 
-pub(crate) fn log_refused_line(run: &mut [u8], at: Listed, refusal: usize) -> Listed
+pub(crate) fn log_refused_line(run: &mut [u8], at: Put, refusal: usize) -> Put
     ensures { λ r. ⌜ Puts (now (run .entry)) at (now (run .exit)) r (logRefusedLine refusal) ⌝ }
 {
     let past = put_item(run, at, b"log refused ", refusal);

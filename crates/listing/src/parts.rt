@@ -1,24 +1,24 @@
 // The lines of a log's parts, and the counts behind them.
-use crate::Listed;
 use crate::Tally;
 use crate::lines;
 use log::Header;
 use pieces::Found;
 use receiver::Received;
 use receiver::Receiver;
+use text::Put;
 ghost use mathlib.Core.Path.{_≡_};
 ghost use Prim.Native.Nat.{_+_, _≤_};
-ghost use lib.ListN.{length, take};
+ghost use lib.ListN.{length, take, drop};
 ghost use Rattle.log.specs.Records.{headerOf};
 ghost use Rattle.reading.specs.Reading.{freshOf};
 ghost use Rattle.pieces.specs.Steps.{foundParts};
-ghost use Rattle.listing.specs.Code.{Puts};
+ghost use Rattle.text.specs.Put.{Puts};
 ghost use Rattle.listing.specs.List.{lineOf};
-ghost use Rattle.listing.specs.Taking.{freshTally, judgedFront, afterOf, endText, textOf, tallyOf};
+ghost use Rattle.listing.specs.Taking.{freshTally, judgedFront, isRecord, recordOctets, afterOf, endText, textOf, tallyOf};
 
 // What was written, and the counts to go on with.
 pub(crate) struct Stepped {
-    pub past: Listed,
+    pub past: Put,
     pub tally: Tally,
 }
 
@@ -43,17 +43,46 @@ fn fresh(header: Header) -> Tally
 }
 
 // What the receiver says of the record that octets begin with.
-fn judged_front(state: Receiver, octets: &[u8]) -> Received
-    ensures { λ r. ⌜ r ≡ judgedFront state (now (octets .entry)) ⌝ }
+fn judged_front(state: Receiver, octets: [u8; 49]) -> Received
+    ensures { λ r. ⌜ r ≡ judgedFront state octets ⌝ }
 {
-    let record = log::read_record(octets, 0);
-    receiver::judged(state, log::read_cell(octets, 0), record.indication)
+    let record = log::read_record(&octets, 0);
+    receiver::judged(state, log::read_cell(&octets, 0), record.indication)
 }
 
-fn judged_held(state: Receiver, held: [u8; 49]) -> Received
-    ensures { λ r. ⌜ r ≡ judgedFront state held ⌝ }
+// Whether what was found is a record.
+fn is_record(what: u8) -> bool
+    ensures { λ r. ⌜ r ≡ isRecord what ⌝ }
 {
-    judged_front(state, &held)
+    if what == 2 {
+        return true;
+    }
+    what == 3
+}
+
+// A record that lies in a piece, as an array.
+fn in_piece(piece: &[u8], place: usize) -> [u8; 49]
+    requires { ⌜ place + 49 ≤ length (now piece) ⌝ }
+    ensures { λ r. ⌜ r ≡ take 49 (drop place (now (piece .entry))) ⌝ }
+{
+    let mut octets = [0u8; 49];
+    let mut i = 0;
+    while i < 49 {
+        octets[i] = piece[place + i];
+        i += 1;
+    }
+    octets
+}
+
+// The octets of a record that was found: those in the piece, or those held.
+fn record_octets(what: u8, held: [u8; 49], piece: &[u8], place: usize) -> [u8; 49]
+    requires { ⌜ (what ≡ 2 → place + 49 ≤ length (now piece)) ⌝ }
+    ensures { λ r. ⌜ r ≡ recordOctets what held (now (piece .entry)) place ⌝ }
+{
+    if what == 2 {
+        return in_piece(piece, place);
+    }
+    held
 }
 
 // The counts past a record that the receiver judged. No log is so long that one of them wraps.
@@ -83,7 +112,7 @@ fn after(tally: Tally, got: Received) -> Tally
     }
 }
 
-fn record_line(run: &mut [u8], at: Listed, index: usize, got: Received) -> Listed
+fn record_line(run: &mut [u8], at: Put, index: usize, got: Received) -> Put
     ensures { λ r. ⌜ Puts (now (run .entry)) at (now (run .exit)) r (lineOf index got) ⌝ }
 {
     if got.refusal == 0 {
@@ -93,7 +122,7 @@ fn record_line(run: &mut [u8], at: Listed, index: usize, got: Received) -> Liste
 }
 
 // What ends the list of a log whose header was taken: the fault, where there is one, and the end line.
-pub(crate) fn end_lines(run: &mut [u8], at: Listed, tally: Tally, refusal: u8) -> Listed
+pub(crate) fn end_lines(run: &mut [u8], at: Put, tally: Tally, refusal: u8) -> Put
     ensures { λ r. ⌜ Puts (now (run .entry)) at (now (run .exit)) r (endText tally refusal) ⌝ }
 {
     if refusal == 0 {
@@ -106,7 +135,7 @@ pub(crate) fn end_lines(run: &mut [u8], at: Listed, tally: Tally, refusal: u8) -
 // The lines and the counts of what was found in a piece.
 pub(crate) fn step(
     run: &mut [u8],
-    at: Listed,
+    at: Put,
     tally: Tally,
     found: Found,
     held: &[u8; 49],
@@ -117,18 +146,10 @@ pub(crate) fn step(
     ensures { λ r. ⌜ Puts (now (run .entry)) at (now (run .exit)) (r .past) (textOf tally (foundParts found (now (held .entry)) (now (piece .entry)) place))
         × (r .tally ≡ tallyOf tally (foundParts found (now (held .entry)) (now (piece .entry)) place)) ⌝ }
 {
-    if found.what == 2 {
-        let end = place + 49;
-        let got = judged_front(tally.state, &piece[place..end]);
-        let past = record_line(run, at, tally.records, got);
-        let counted = after(tally, got);
-        return Stepped {
-            past,
-            tally: counted,
-        };
-    }
-    if found.what == 3 {
-        let got = judged_held(tally.state, *held);
+    // a record is handled in one place of the program: what is called in two isn't compiled into this loop
+    if is_record(found.what) {
+        let octets = record_octets(found.what, *held, piece, place);
+        let got = judged_front(tally.state, octets);
         let past = record_line(run, at, tally.records, got);
         let counted = after(tally, got);
         return Stepped {

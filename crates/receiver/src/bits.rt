@@ -44,6 +44,18 @@ pub(crate) fn found_now(format: Format, cell: &[u8]) -> Found
     numbers::number_of(eight_in(format, cell))
 }
 
+// The same for `judged`. It is no second call of `found_now`: what is called in two places isn't compiled into either, and `receive`
+// would take more instructions.
+pub(crate) fn found_alone(format: Format, cell: &[u8]) -> Found
+    requires { ⌜ Sound format × (length (now cell) ≡ 48) ⌝ }
+    ensures { λ r. ⌜ ((st : Receiver) → format ≡ formatOf (st .format) → r ≡ foundNow st (now (cell .entry))) ⌝ }
+{
+    if format.overhead_bits == 0 {
+        return Found::Number(0);
+    }
+    numbers::number_of(eight_in(format, cell))
+}
+
 // The cell's second number in a state of this format, 0 where there is none.
 pub(crate) fn second_now(format: Format, cell: &[u8]) -> u8
     requires { ⌜ Sound format × (length (now cell) ≡ 48) ⌝ }

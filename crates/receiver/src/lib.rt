@@ -130,9 +130,8 @@ pub fn receive(
     receive_any(state, cell, indication, samples, ancillary, marks)
 }
 
-// What `receive` answers to a cell with room for all that one call can write, fifteen cells of up to 48 entries: so refusal 10 is
-// never given. Nothing is unpacked and nothing is lent to be written.
-pub fn judged(state: Receiver, cell: &[u8], indication: bool) -> Received
+// The answer of `judged`, whatever the settings.
+fn judged_any(state: Receiver, cell: &[u8], indication: bool) -> Received
     ensures { λ r. ⌜ r ≡ judgedOf state (now (cell .entry)) indication ⌝ }
 {
     let set = formats::settings(
@@ -144,6 +143,17 @@ pub fn judged(state: Receiver, cell: &[u8], indication: bool) -> Received
     if early != 0 {
         return judge::refused(early, state);
     }
-    let found = bits::found_now(set.format, cell);
+    let found = bits::found_alone(set.format, cell);
     judge::judged(set, state, found, cell, indication, 720)
+}
+
+// What `receive` answers to a cell with room for all that one call can write, fifteen cells of up to 48 entries: so refusal 10 is
+// never given. Nothing is unpacked and nothing is lent to be written.
+pub fn judged(state: Receiver, cell: &[u8], indication: bool) -> Received
+    ensures { λ r. ⌜ r ≡ judgedOf state (now (cell .entry)) indication ⌝ }
+{
+    if formats::is_usual(state.format, state.channels, state.order) {
+        return usual::judged(state, cell, indication);
+    }
+    judged_any(state, cell, indication)
 }

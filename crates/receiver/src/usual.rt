@@ -7,7 +7,7 @@ ghost use Rattle.formats.specs.Code.{isUsual};
 ghost use Rattle.formats.specs.Sound.{Sound};
 ghost use Rattle.numbers.specs.Numbers.{foundOf};
 ghost use Rattle.cells.specs.Cells.{eightIn};
-ghost use Rattle.receiver.specs.Receiver.{Receives};
+ghost use Rattle.receiver.specs.Receiver.{judgedOf, Receives};
 ghost use Rattle.receiver.specs.Unpacking.{Unpacks, Fills, Room, Enters, straight, fours};
 use crate::Received;
 use crate::Receiver;
@@ -98,4 +98,18 @@ pub(crate) fn receive(
     let place = answer.missing as usize * 12;
     write(cell, place, samples, ancillary, marks);
     answer
+}
+
+// What a usual call is answered, with room for all that one call can write.
+pub(crate) fn judged(state: Receiver, cell: &[u8], indication: bool) -> Received
+    requires { ⌜ isUsual (state .format) (state .channels) (state .order) ≡ true ⌝ }
+    ensures { λ r. ⌜ r ≡ judgedOf state (now (cell .entry)) indication ⌝ }
+{
+    let set = formats::usual(state.channels == 2);
+    let early = judge::early_refusal(set, state, cell.len(), 720, 720, 720);
+    if early != 0 {
+        return judge::refused(early, state);
+    }
+    let found = found_in(set.format, cell);
+    judge::judged(set, state, found, cell, indication, 720)
 }

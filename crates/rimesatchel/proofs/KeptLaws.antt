@@ -15,12 +15,12 @@ use Rattle.runs.specs.Runs.{over}
 use Rattle.runs.proofs.Laws.{split}
 use Rattle.pieces.specs.Steps.{stoodOf}
 use Rattle.pieces.specs.Taken.{joinedOf}
-use Rattle.listing.specs.declared.Listed.{Listed}
+use Rattle.text.specs.declared.Put.{Put}
 use Rattle.listing.specs.declared.Listing.{Listing}
 use Rattle.listing.specs.declared.Printed.{Printed}
 use Rattle.listing.specs.List.{listTo, listOf}
 use Rattle.listing.specs.Taking.{startOf, pieceText, listingAfter, endOfText, writtenOver, Takes, Ends}
-use Rattle.listing.specs.Text.{listed}
+use Rattle.text.specs.Put.{listed}
 use Rattle.listing.proofs.Whole.{take-to, any-division-list}
 use Rattle.rimesatchel.proofs.Bytes.{byte-of}
 use Rattle.rimesatchel.specs.Kept.{listedNumbers, EndsFrom, ListedOctets}
@@ -127,7 +127,7 @@ module _ {begun : Listing} {log run held now : List ℕ} {printed : Printed} (is
   took = subst (λ (l : Listing). Takes l held₀ log run printed held now) is takes
 
   here : printed .listed .octets ≡ length (take (length run) (linesOfLog log))
-  here = ap (λ (l : Listed). l .octets) (took .printed)
+  here = ap (λ (l : Put). l .octets) (took .printed)
 
   -- the lines of the log leave a place in the run
   pub place-in : printed .listed .octets ≤ length now
@@ -136,7 +136,7 @@ module _ {begun : Listing} {log run held now : List ℕ} {printed : Printed} (is
       let b : List ℕ = endOfLog log in
       omega (arith, here, in-room a b run, ap length (took .wrote) ∙ same-room a b run)
 
-  module _ {end : Listed} {after : List ℕ}
+  module _ {end : Put} {after : List ℕ}
       (ended : EndsFrom (printed .listing) held now (printed .listed .octets) end after) where
     same-end : endOfText (printed .listing) held ≡ endOfLog log
     same-end i = endOfText (took .goes-on i) (took .holds i)
@@ -145,7 +145,7 @@ module _ {begun : Listing} {log run held now : List ℕ} {printed : Printed} (is
     said-end = ended .said ∙ ap (listed (length now - printed .listed .octets)) same-end
 
     pub fits : printed .listed .octets + end .octets ≤ length run
-    fits = both-fit (linesOfLog log) (endOfLog log) run here (took .wrote) (ap (λ (l : Listed). l .octets) said-end)
+    fits = both-fit (linesOfLog log) (endOfLog log) run here (took .wrote) (ap (λ (l : Put). l .octets) said-end)
 
     pub listed-octets : {whole : Bool} → whole ≡ printed .listed .whole && end .whole
         → ListedOctets log run 0 after ((printed .listed .octets + end .octets) ∷ boolByte whole ∷ [])
@@ -154,10 +154,10 @@ module _ {begun : Listing} {log run held now : List ℕ} {printed : Printed} (is
         let b : List ℕ = endOfLog log in
         let at : ℕ = printed .listed .octets in
         let octets : at + end .octets ≡ length (take (length run) (a ++ b)) =
-        both-octets a b run here (took .wrote) (ap (λ (l : Listed). l .octets) said-end) in
+        both-octets a b run here (took .wrote) (ap (λ (l : Put). l .octets) said-end) in
         let all : whole ≡ leb (length (a ++ b)) (length run) =
-        w ∙ both-whole a b run here (took .wrote) (ap (λ (l : Listed). l .whole) (took .printed))
-        (ap (λ (l : Listed). l .whole) said-end) in
+        w ∙ both-whole a b run here (took .wrote) (ap (λ (l : Put). l .whole) (took .printed))
+        (ap (λ (l : Put). l .whole) said-end) in
         let left : after ≡ over (take (length run) (a ++ b)) run =
         both-left a b run here (took .wrote)
         (ended .left ∙ ap (λ (l : List ℕ). take at now ++ over (take (length now - at) l) (drop at now)) same-end) in
@@ -171,7 +171,7 @@ module _ {begun : Listing} {log run held now : List ℕ} {printed : Printed} (is
         }
 
 -- the end of a list in a part that is lent from a place on
-pub ends-from : {l : Listing} {held : List ℕ} (run : List ℕ) (at : ℕ) → at ≤ length run → {answer : Listed} {part : List ℕ}
+pub ends-from : {l : Listing} {held : List ℕ} (run : List ℕ) (at : ℕ) → at ≤ length run → {answer : Put} {part : List ℕ}
     → Ends l held (midOf at (length run - at) run) answer part
     → EndsFrom l held run at answer (putMid at (length run - at) run part)
 ends-from {l} {held} run at within {answer} {part} e =

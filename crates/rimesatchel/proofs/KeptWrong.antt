@@ -11,7 +11,7 @@ use Rattle.runs.proofs.Wrong.{Never, Place, lent}
 use Rattle.log.specs.declared.keep.Kept.{Kept}
 use Rattle.log.proofs.Wrong as log
 use Rattle.listing.specs.List.{listTo}
-use Rattle.listing.specs.Text.{digitsOf}
+use Rattle.text.specs.Text.{digitsOf}
 use Rattle.rimesatchel.proofs.kept.rime_log_put_header.Kinds as header-kinds
 use Rattle.rimesatchel.proofs.kept.rime_log_put_header.Reads as header-reads
 use Rattle.rimesatchel.proofs.kept.rime_log_put_record.Kinds as record-kinds

@@ -1,6 +1,6 @@
 // Writing a log for C, Rust and Python, and the list of one. Each call puts the answer of the proved function into lent memory.
-use listing::Listed;
 use listing::Listing;
+use text::Put;
 ghost use mathlib.Core.Bool.{_&&_};
 ghost use mathlib.Core.Path.{_≡_};
 ghost use Prim.Native.Nat.{_≤_};
@@ -45,7 +45,7 @@ pub extern "C" fn rime_log_put_record(
 }
 
 // Writes what ends a list, from a place of the run on.
-fn rest(listing: Listing, held: [u8; 49], run: &mut [u8], at: usize) -> Listed
+fn rest(listing: Listing, held: [u8; 49], run: &mut [u8], at: usize) -> Put
     requires { ⌜ at ≤ length (now run) ⌝ }
     ensures { λ r. ⌜ EndsFrom listing held (now (run .entry)) at r (now (run .exit)) ⌝ }
 {

@@ -1,58 +1,18 @@
 -- `receiver::judged` meets its contract.
 -- Assumes nothing.
-use mathlib.Core.Path.{_≡_, _∙_, sym}
-use denote.Ref.{now}
-use lib.ListN.{length}
-use Rattle.receiver.specs.Receiver.{judgedOf}
-use Rattle.receiver.specs.Unpacking.{earlyRefusal}
-use Rattle.receiver.proofs.Laws.{answer-early, judged-limits, judged-format, judged-whole}
+use mathlib.Core.Path.{sym, _∙_}
 use borrow.Author.Needs.{needs}
 use Rattle.receiver.proofs.judged.Statement.{statement}
 use Rattle.receiver.proofs.judged.Tie as tie
 
--- the way back from checks 1 to 5
-abbrev from : tie.After-early-refusal → tie.Start
-from e = e .before .before .before .before .before .before
-
-early-refusal-requires : tie.Need-early-refusal-requires
-early-refusal-requires c κs = c .settings .ensures
+judged-requires : tie.Need-judged-requires
+judged-requires c κs = sym (c .before .is-usual .ensures) ∙ c .if1 .taken
 
 returns : tie.Need-returns
-unfolding judgedOf
-returns c =
-    let e = c .before .before in
-    let s = from e in
-    c .refused .ensures
-    ∙ answer-early (s .args .state) (now (s .args .cell)) (s .args .indication) 720 720 720 (c .before .if1 .taken) (e .early-refusal .ensures)
-
-none : (c : tie.Else1)
-    → earlyRefusal (from (c .before) .args .state) (length (now (from (c .before) .args .cell))) 720 720 720 ≡ 0
-none c = sym (c .before .early-refusal .ensures) ∙ c .if1 .left
-
-found-now-requires : tie.Need-found-now-requires
-found-now-requires c κs =
-    let s = from (c .before) in
-    let settles = c .before .before .settings .ensures in (
-      judged-limits (s .args .state) (now (s .args .cell)) (s .args .indication) 720 settles (none c) .sound,
-      judged-whole (s .args .state) (now (s .args .cell)) (s .args .indication) 720 settles (none c),
-    )
-
-judged-requires : tie.Need-judged-requires
-judged-requires c κs =
-    let s = from (c .before .before) in
-    let settles = c .before .before .before .settings .ensures in (
-      settles,
-      none (c .before),
-      c .found-now .ensures (s .args .state)
-          (judged-format (s .args .state) (now (s .args .cell)) (s .args .indication) 720 settles (none (c .before))),
-    )
+returns c = c .judged .ensures
 
 returns-2 : tie.Need-returns-2
-unfolding judgedOf
-returns-2 c = c .judged .ensures
+returns-2 c = c .judged-any .ensures
 
 pub judged-spec : {M : Type 1} → statement M
-judged-spec =
-    tie.close
-    (tie.spec (search needs) (search needs) (search needs) (search needs) early-refusal-requires (search needs) returns
-    found-now-requires judged-requires returns-2)
+judged-spec = tie.close (tie.spec (search needs) judged-requires returns (search needs) returns-2)

@@ -1,6 +1,6 @@
 -- `listing::lines::log_refused_line` meets its contract: its parts are put one after the other.
 -- Assumes nothing.
-use Rattle.listing.proofs.Laws.{puts-then}
+use Rattle.text.proofs.Laws.{puts-then}
 use borrow.Author.Needs.{needs}
 use Rattle.listing.proofs.lines.log_refused_line.Statement.{statement}
 use Rattle.listing.proofs.lines.log_refused_line.Tie as tie

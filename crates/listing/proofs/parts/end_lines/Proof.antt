@@ -1,6 +1,6 @@
 -- `listing::parts::end_lines` meets its contract.
 -- Assumes nothing.
-use Rattle.listing.proofs.Laws.{puts-then, puts-same}
+use Rattle.text.proofs.Laws.{puts-then, puts-same}
 use Rattle.listing.proofs.Texts.{end-plain, end-broken}
 use borrow.Author.Needs.{needs}
 use Rattle.listing.proofs.parts.end_lines.Statement.{statement}

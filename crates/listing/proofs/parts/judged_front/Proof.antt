@@ -11,8 +11,8 @@ returns : tie.Need-returns
 unfolding frontOf
 returns c =
     c .judged .ensures
-    ∙ (λ i. judgedOf (c .before .before .before .before .args .state) (c .before .read-cell .ensures .0 i)
-    (c .before .before .read-record .ensures i .indication))
+    ∙ (λ i. judgedOf (c .before .before .before .before .before .args .state) (c .before .read-cell .ensures .0 i)
+    (c .before .before .before .read-record .ensures i .indication))
 
 pub judged-front-spec : {M : Type 1} → statement M
-judged-front-spec = tie.close (tie.spec (search needs) (search needs) (search needs) returns)
+judged-front-spec = tie.close (tie.spec (search needs) (search needs) (search needs) (search needs) (search needs) returns)

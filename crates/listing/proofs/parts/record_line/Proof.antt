@@ -1,6 +1,6 @@
 -- `listing::parts::record_line` meets its contract.
 -- Assumes nothing.
-use Rattle.listing.proofs.Laws.{puts-same}
+use Rattle.text.proofs.Laws.{puts-same}
 use Rattle.listing.proofs.Texts.{line-sound, line-refused}
 use borrow.Author.Needs.{needs}
 use Rattle.listing.proofs.parts.record_line.Statement.{statement}

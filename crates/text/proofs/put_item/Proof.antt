@@ -1,9 +1,9 @@
--- `listing::text::put_item` meets its contract.
+-- `text::put_item` meets its contract.
 -- Assumes nothing.
 use borrow.Author.Needs.{needs}
-use Rattle.listing.proofs.Laws.{puts-then}
-use Rattle.listing.proofs.text.put_item.Statement.{statement}
-use Rattle.listing.proofs.text.put_item.Tie as tie
+use Rattle.text.proofs.Laws.{puts-then}
+use Rattle.text.proofs.put_item.Statement.{statement}
+use Rattle.text.proofs.put_item.Tie as tie
 
 returns : tie.Need-returns
 returns c =
