@@ -37,8 +37,8 @@ from typing import Any, Iterator, NamedTuple, Sequence
 
 __all__ = [
     "VERSION", "Block", "Deed", "Entry", "Fit", "Frame", "Handed", "Log", "Mark", "Pair", "Receiver", "Record", "Refused",
-    "Sender", "Setup", "Status", "Units", "Verdict", "Writer", "check_character", "check_plan", "controller", "equipment",
-    "export_frame", "export_units", "import_frame", "listing", "plan", "read_unit", "words",
+    "Salvaged", "Sender", "Setup", "Status", "Units", "Verdict", "Writer", "check_character", "check_plan", "controller",
+    "equipment", "export_frame", "export_units", "import_frame", "listing", "plan", "read_unit", "salvage", "words",
 ]
 
 _OCTETS, _NUMBERS, _LONG = POINTER(c_uint8), POINTER(c_uint32), POINTER(c_uint64)
@@ -55,6 +55,7 @@ _ARGUMENTS: dict[str, list[Any]] = {
     "rime_log_put_header": [*_RUN8, *_SETTINGS, _LONG],
     "rime_log_put_record": [*_RUN8, c_size_t, *_RUN8, c_bool, _LONG],
     "rime_log_list": [*_RUN8, *_RUN8, _LONG],
+    "rime_salvage": [*_RUN8, *_RUN8, *_RUN64, _LONG],
     "rime_aes3_import": [_OCTETS, _NUMBERS, _LONG, _OCTETS],
     "rime_aes3_export": [_LONG, _OCTETS, _OCTETS, _NUMBERS],
     "rime_units_export": [c_uint32, c_uint32, c_size_t, *_RUN64, *_RUN8, *_RUN8, _LONG],
@@ -340,6 +341,32 @@ def listing(log: bytes) -> str:
         if listed[1] == 1:
             return bytes(run.array[:listed[0]]).decode()
         room *= 2
+
+
+class Salvaged(NamedTuple):
+    """What was saved of a log: its sound records, each whole record that was left out with its refusal, and the octets cut."""
+
+    log: bytes
+    left_out: list[tuple[int, int]]
+    cut: int
+
+
+def salvage(log: bytes) -> Salvaged:
+    """A new log of the sound records of a torn one. Refused 11, 1, 2 or 3.
+
+    >>> writer, sender = Writer(Setup(0x56, 2)), Sender(Setup(0x56, 2))
+    >>> cell = sender.send([7] * 12)
+    >>> writer.push(cell)
+    >>> sound = writer.octets
+    >>> writer.push(cell)
+    >>> saved = salvage(writer.octets + bytes(1))
+    >>> saved.log == sound, saved.left_out, saved.cut
+    (True, [(1, 9)], 1)
+    """
+    out, pairs, counts = _Lent(c_uint8, len(log)), _Lent(c_uint64, 2 * (len(log) // 49)), (c_uint64 * 3)()
+    _call("rime_salvage", _octets(log), out, pairs, counts)
+    octets, left, cut = counts
+    return Salvaged(bytes(out.array[:octets]), list(zip(pairs.array[:2 * left:2], pairs.array[1:2 * left:2])), cut)
 
 
 class Frame(NamedTuple):

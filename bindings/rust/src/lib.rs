@@ -39,6 +39,7 @@ mod cable;
 mod network;
 mod plans;
 mod status;
+mod tools;
 
 pub use archive::{list, Log, Record, Records, Writer};
 pub use boxes::{Entry, Handed, Mark, Receiver, Sender, Setup};
@@ -46,6 +47,7 @@ pub use cable::{export_frame, import_frame, Frame, Pair};
 pub use network::{export_units, read_unit, Units};
 pub use plans::{check_plan, plan, Verdict};
 pub use status::{check_character, Block, Fit, Status};
+pub use tools::{salvage, Salvaged};
 
 use std::error::Error;
 use std::fmt;

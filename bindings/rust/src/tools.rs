@@ -1,0 +1,43 @@
+//! What is told of logs: what can be saved of one.
+
+use crate::{face, unless_refused, Refusal};
+
+/// What was saved of a log.
+#[derive(Debug, Clone, PartialEq, Eq)]
+pub struct Salvaged {
+    /// The same header, and the sound records in their order.
+    pub log: Vec<u8>,
+    /// Each whole record that was left out, and why.
+    pub left_out: Vec<(u64, Refusal)>,
+    /// Octets that were cut, from a faulty record's first to the end.
+    pub cut: u64,
+}
+
+/// A new log of the sound records of a torn one. Refused 11, 1, 2 or 3.
+///
+/// ```
+/// use rimesatchel::{salvage, Sender, Setup, Writer};
+///
+/// let setup = Setup { format: 0x56, channels: 2, order: 0 };
+/// let (mut sender, mut writer) = (Sender::open(setup)?, Writer::new(setup)?);
+/// let cell = sender.send(&[7; 12], &[0; 12], false)?;
+/// writer.push(&cell, false)?;
+/// let sound = writer.octets().to_vec();
+/// writer.push(&cell, false)?; // the line repeats it
+/// let mut torn = writer.into_octets();
+/// torn.push(0); // and the disk is torn
+///
+/// let saved = salvage(&torn)?;
+/// assert_eq!((saved.log, saved.cut), (sound, 1));
+/// assert_eq!(saved.left_out[0].1.number(), 9);
+/// # Ok::<(), rimesatchel::Refusal>(())
+/// ```
+pub fn salvage(log: &[u8]) -> Result<Salvaged, Refusal> {
+    let (mut out, mut list, mut counts) = (vec![0; log.len()], vec![0; 2 * (log.len() / 49)], [0; 3]);
+    let refusal = face::salvage(log, &mut out, &mut list, &mut counts);
+    let [octets, left, cut] = counts;
+    out.truncate(octets as usize);
+    let pairs = list.chunks_exact(2).take(left as usize);
+    let left_out = pairs.filter_map(|pair| Some((pair[0], Refusal::new(pair[1] as u8)?))).collect();
+    unless_refused(refusal, Salvaged { log: out, left_out, cut })
+}
