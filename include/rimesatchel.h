@@ -282,22 +282,6 @@ uint8_t rime_log_header(const uint8_t *log, size_t log_len, uint32_t header[RIME
 uint8_t rime_log_record(const uint8_t *log, size_t log_len, size_t place, uint64_t record[RIME_RECORD]);
 
 /*
- * Salvages a log: writes into `out` a new one with the same header and, as they stand and in their order, exactly the
- * records that a receiver answers as sound, run from fresh with room up to the first framing fault or the end. Writes into
- * `list` two numbers for each whole record that it leaves out: the record, counted from 0, and its refusal.
- * What is past the new log and past the list stays. Leaves in `counts` the octets of the new log, the records left out,
- * and the octets cut, from the first of a faulty record to the end. The log may be of any length; `log_len` octets and
- * 2 * (`log_len` / 49) numbers are always room enough. A receiver that runs over the new log hands out what it hands out
- * over the old one up to its first framing fault, and ends in the same state. A new log salvaged again stays as it is:
- * nothing is left out and nothing cut. `log_len` is the octets of the new log, 49 for each record left out, and the octets
- * cut.
- * Refused, with `out` and `list` untouched and `counts` zeros: 11, 1, 2 and 3, as for rime_log_header; then 21, `out` is
- * shorter than the new log or `list` than two numbers for each record left out.
- */
-uint8_t rime_salvage(const uint8_t *log, size_t log_len, uint8_t *out, size_t out_len, uint64_t *list, size_t list_len,
-                     uint64_t counts[RIME_COUNTS]);
-
-
  * Writes a log's header at the start of `log`: three octets, the rest stays. Leaves in `*next` the place after it, where
  * the first record goes.
  * Refused, with `log` untouched and `*next` 0: 1, 2 and 3, as for an opening; then 11, `log` is shorter than the header.
@@ -323,6 +307,22 @@ enum { RIME_LISTED_OCTETS = 0, RIME_LISTED_WHOLE = 1 };
  * Refuses nothing and returns 0: a log that can't be read has a list that says so.
  */
 uint8_t rime_log_list(const uint8_t *log, size_t log_len, uint8_t *run, size_t run_len, uint64_t listed[RIME_LISTED]);
+
+/*
+ * Salvages a log: writes into `out` a new one with the same header and, as they stand and in their order, exactly the
+ * records that a receiver answers as sound, run from fresh with room up to the first framing fault or the end. Writes into
+ * `list` two numbers for each whole record that it leaves out: the record, counted from 0, and its refusal.
+ * What is past the new log and past the list stays. Leaves in `counts` the octets of the new log, the records left out,
+ * and the octets cut, from the first of a faulty record to the end. The log may be of any length; `log_len` octets and
+ * 2 * (`log_len` / 49) numbers are always room enough. A receiver that runs over the new log hands out what it hands out
+ * over the old one up to its first framing fault, and ends in the same state. A new log salvaged again stays as it is:
+ * nothing is left out and nothing cut. `log_len` is the octets of the new log, 49 for each record left out, and the octets
+ * cut.
+ * Refused, with `out` and `list` untouched and `counts` zeros: 11, 1, 2 and 3, as for rime_log_header; then 21, `out` is
+ * shorter than the new log or `list` than two numbers for each record left out.
+ */
+uint8_t rime_salvage(const uint8_t *log, size_t log_len, uint8_t *out, size_t out_len, uint64_t *list, size_t list_len,
+                     uint64_t counts[RIME_COUNTS]);
 
 /* The preambles of an AES3 frame's halves, by their letters. */
 enum { RIME_PREAMBLE_X = 0x58, RIME_PREAMBLE_Y = 0x59, RIME_PREAMBLE_Z = 0x5A };
