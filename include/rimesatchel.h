@@ -44,6 +44,7 @@ enum {
     RIME_LISTED = 2,
     RIME_COUNTS = 3,
     RIME_UNITS = 3,
+    RIME_ANSWER = 2,
     RIME_MOST_SLOTS = 48,
     RIME_MOST_MISSING = 14
 };
@@ -307,6 +308,15 @@ enum { RIME_LISTED_OCTETS = 0, RIME_LISTED_WHOLE = 1 };
  * Refuses nothing and returns 0: a log that can't be read has a list that says so.
  */
 uint8_t rime_log_list(const uint8_t *log, size_t log_len, uint8_t *run, size_t run_len, uint64_t listed[RIME_LISTED]);
+
+/*
+ * Is there anything on it at all? Reads the records of a log, as a fresh receiver with room hands them out, up to the
+ * first framing fault or the end, and stops at the first with a sample marked RIME_MARK_SOUND that isn't zero. Leaves in
+ * `answer` 1 and that record, counted from 0; or 0 and how many whole records were read, refused ones too. A sample with
+ * another mark, an unused slot, a refused record and ancillary bits are nothing. The log may be of any length.
+ * Refused, with `answer` zeros: 11, 1, 2 and 3, as rime_log_header has them. A framing fault is no refusal here.
+ */
+uint8_t rime_anything(const uint8_t *log, size_t log_len, uint64_t answer[RIME_ANSWER]);
 
 /*
  * Salvages a log: writes into `out` a new one with the same header and, as they stand and in their order, exactly the

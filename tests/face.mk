@@ -16,6 +16,7 @@ ARCHIVE := $(RIME_LIB)/librimesatchel.a
 MANAGEMENT := $(RIME_LIB)/libmanagement.a
 COMPARE := target/compare/release/compare
 LINELIST := target/bin/linelist
+ANYTHING := target/bin/anything
 EXAMPLES := target/examples
 SHARED := target/lib/librimesatchel.so
 SHARED_MANAGEMENT := target/lib/libmanagement.so
@@ -32,7 +33,7 @@ BENCH_FLAGS := -O3 -std=gnu11 $(WARNINGS) -falign-functions=64 -falign-loops=32
 
 .PHONY: face-build face-test face-compare face-examples face-bindings face-archive fuzz
 .NOTPARALLEL:
-.PHONY: bench-build bench bench-count bench-table bench-keep bench-guard bench-list fuzz-list
+.PHONY: bench-build bench bench-count bench-table bench-keep bench-guard bench-list bench-anything fuzz-list
 
 # The archives of this repository are made anew where a source is newer, so that nothing is measured or compared that isn't in the
 # crates. Those of another folder are taken as they are.
@@ -151,7 +152,7 @@ bench-build: face-archive
 
 bench: bench-build
 	python3 bench/run.py target/bench/bench '$(ROWS)'
-	$(MAKE) --no-print-directory -f tests/face.mk bench-list
+	$(MAKE) --no-print-directory -f tests/face.mk bench-list bench-anything
 
 target/bench/plainlist: bench/plainlist.c
 	mkdir -p target/bench
@@ -159,6 +160,13 @@ target/bench/plainlist: bench/plainlist.c
 
 bench-list: target/bench/plainlist
 	python3 bench/list.py $(LINELIST) target/bench/plainlist
+
+target/bench/plainanything: bench/plainanything.c
+	mkdir -p target/bench
+	gcc $(BENCH_FLAGS) $< -o $@
+
+bench-anything: target/bench/plainanything
+	python3 bench/anything.py $(ANYTHING) target/bench/plainanything
 
 bench-count: bench-build
 	python3 bench/run.py --count target/bench/bench '$(ROWS)'

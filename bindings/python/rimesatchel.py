@@ -36,9 +36,9 @@ from ctypes import POINTER, c_bool, c_char_p, c_size_t, c_uint, c_uint8, c_uint3
 from typing import Any, Iterator, NamedTuple, Sequence
 
 __all__ = [
-    "VERSION", "Block", "Deed", "Entry", "Fit", "Frame", "Handed", "Log", "Mark", "Pair", "Receiver", "Record", "Refused",
-    "Salvaged", "Sender", "Setup", "Status", "Units", "Verdict", "Writer", "check_character", "check_plan", "controller",
-    "equipment", "export_frame", "export_units", "import_frame", "listing", "plan", "read_unit", "salvage", "words",
+    "VERSION", "Anything", "Block", "Deed", "Entry", "Fit", "Frame", "Handed", "Log", "Mark", "Pair", "Receiver", "Record",
+    "Refused", "Salvaged", "Sender", "Setup", "Status", "Units", "Verdict", "Writer", "anything", "check_character", "check_plan",
+    "controller", "equipment", "export_frame", "export_units", "import_frame", "listing", "plan", "read_unit", "salvage", "words",
 ]
 
 _OCTETS, _NUMBERS, _LONG = POINTER(c_uint8), POINTER(c_uint32), POINTER(c_uint64)
@@ -55,6 +55,7 @@ _ARGUMENTS: dict[str, list[Any]] = {
     "rime_log_put_header": [*_RUN8, *_SETTINGS, _LONG],
     "rime_log_put_record": [*_RUN8, c_size_t, *_RUN8, c_bool, _LONG],
     "rime_log_list": [*_RUN8, *_RUN8, _LONG],
+    "rime_anything": [*_RUN8, _LONG],
     "rime_salvage": [*_RUN8, *_RUN8, *_RUN64, _LONG],
     "rime_aes3_import": [_OCTETS, _NUMBERS, _LONG, _OCTETS],
     "rime_aes3_export": [_LONG, _OCTETS, _OCTETS, _NUMBERS],
@@ -341,6 +342,29 @@ def listing(log: bytes) -> str:
         if listed[1] == 1:
             return bytes(run.array[:listed[0]]).decode()
         room *= 2
+
+
+class Anything(NamedTuple):
+    """Whether there is anything on a log: the first record that has a sound sample that isn't zero, or how many have none."""
+
+    found: bool
+    records: int
+
+
+def anything(log: bytes) -> Anything:
+    """Is there anything on a log at all? Refused 11, 1, 2 or 3.
+
+    >>> writer, sender = Writer(Setup(0x56, 2)), Sender(Setup(0x56, 2))
+    >>> writer.push(sender.send([0] * 12))
+    >>> anything(writer.octets)
+    Anything(found=False, records=1)
+    >>> writer.push(sender.send([7] * 12))
+    >>> anything(writer.octets)
+    Anything(found=True, records=1)
+    """
+    answer = (c_uint64 * 2)()
+    _call("rime_anything", _octets(log), answer)
+    return Anything(answer[0] == 1, answer[1])
 
 
 class Salvaged(NamedTuple):

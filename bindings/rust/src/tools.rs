@@ -1,6 +1,34 @@
-//! What is told of logs: what can be saved of one.
+//! What is told of logs: whether there is anything on one, and what can be saved of it.
 
 use crate::{face, unless_refused, Refusal};
+
+/// Whether there is anything on a log.
+#[derive(Debug, Clone, Copy, PartialEq, Eq)]
+pub enum Anything {
+    /// A sound sample that isn't zero, first in this record, counted from 0.
+    Yes(u64),
+    /// None in so many whole records.
+    No(u64),
+}
+
+/// Is there anything on a log at all? Refused 11, 1, 2 or 3.
+///
+/// ```
+/// use rimesatchel::{anything, Anything, Sender, Setup, Writer};
+///
+/// let setup = Setup { format: 0x56, channels: 2, order: 0 };
+/// let (mut sender, mut writer) = (Sender::open(setup)?, Writer::new(setup)?);
+/// writer.push(&sender.send(&[0; 12], &[0; 12], false)?, false)?;
+/// assert_eq!(anything(writer.octets())?, Anything::No(1));
+/// writer.push(&sender.send(&[7; 12], &[0; 12], false)?, false)?;
+/// assert_eq!(anything(writer.octets())?, Anything::Yes(1));
+/// # Ok::<(), rimesatchel::Refusal>(())
+/// ```
+pub fn anything(log: &[u8]) -> Result<Anything, Refusal> {
+    let mut answer = [0; 2];
+    let refusal = face::anything(log, &mut answer);
+    unless_refused(refusal, if answer[0] == 1 { Anything::Yes(answer[1]) } else { Anything::No(answer[1]) })
+}
 
 /// What was saved of a log.
 #[derive(Debug, Clone, PartialEq, Eq)]

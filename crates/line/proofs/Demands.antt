@@ -1,6 +1,6 @@
 -- The demands on one page: each statement beside the minutes' sentence, each proof a citation.
 -- Assumes nothing.
-use mathlib.Core.Bool.{Bool, cond, _||_}
+use mathlib.Core.Bool.{Bool, false, cond, _||_}
 use mathlib.Core.List.{List, [], _∷_, flatMap}
 use mathlib.Core.Path.{_≡_}
 use Prim.Native.Nat.{ℕ, _%_}
@@ -24,6 +24,7 @@ use Rattle.log.specs.declared.keep.Kept.{Kept}
 use Rattle.log.specs.Numbers.{isCut, isLong, isPadded, numberAt}
 use Rattle.log.specs.Records.{headerRefusal, headerOf, secondNumber, thirdNumber}
 use Rattle.log.specs.Written.{numberRefusal, headerRefused, recordRefusal}
+use Rattle.presence.specs.declared.Presence.{Presence}
 use Rattle.text.specs.declared.Put.{Put}
 use Rattle.listing.specs.declared.Listing.{Listing}
 use Rattle.listing.specs.Lines.{logRefusedLine}
@@ -48,6 +49,7 @@ use Rattle.line.specs.Contracts.{
   MeetsStep,
   MeetsReadNumber,
   MeetsReadHeader,
+  MeetsAnything,
   MeetsReadRecord,
   MeetsReadCell,
   MeetsNextPlace,
@@ -91,6 +93,7 @@ use Rattle.line.proofs.Refused.{
   steps,
   reads-number,
   reads-header,
+  asks-anything,
   reads-record,
   reads-cell,
   next-stays,
@@ -142,6 +145,10 @@ pub demand-1-read-header : (log : List ℕ) (r : Header) → MeetsReadHeader log
     → Refuses (r .refusal) (headerRefusal (numberAt log 0) (secondNumber log) (thirdNumber log))
     ((r .place ≡ 0) × (r .format ≡ 0) × (r .channels ≡ 0) × (r .order ≡ 0))
 demand-1-read-header = reads-header
+
+pub demand-1-anything : (log : List ℕ) (r : Presence) → MeetsAnything log r
+    → Refuses (r .refusal) (headerRefusal (numberAt log 0) (secondNumber log) (thirdNumber log)) ((r .found ≡ false) × (r .number ≡ 0))
+demand-1-anything = asks-anything
 
 pub demand-1-read-record : (log : List ℕ) (place : ℕ) (r : Record) → MeetsReadRecord log place r
     → Refuses (r .refusal) (recordTable log place) (ReadNothing r)

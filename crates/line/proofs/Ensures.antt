@@ -63,6 +63,8 @@ use Rattle.listing.proofs.end.Kinds as list-end-kinds
 use Rattle.listing.proofs.end.Reads as list-end-reads
 use Rattle.listing.proofs.take.Kinds as list-take-kinds
 use Rattle.listing.proofs.take.Reads as list-take-reads
+use Rattle.presence.proofs.anything.Kinds as anything-kinds
+use Rattle.presence.proofs.anything.Reads as anything-reads
 use Rattle.saving.proofs.salvage.Kinds as salvage-kinds
 use Rattle.saving.proofs.salvage.Reads as salvage-reads
 use Rattle.cable.proofs.import_frame.Kinds as import-kinds
@@ -87,6 +89,7 @@ use Rattle.line.specs.Contracts.{
   MeetsStep,
   MeetsReadNumber,
   MeetsReadHeader,
+  MeetsAnything,
   MeetsReadRecord,
   MeetsReadCell,
   MeetsNextPlace,
@@ -169,6 +172,9 @@ read-number-ensures κs a x v p = p
 pub read-header-ensures : Ensured read-header-kinds.ps read-header-kinds.r read-header-reads.Post
     (λ κs a x v. MeetsReadHeader (now (a .0)) x)
 read-header-ensures κs a x v p = p
+
+pub anything-ensures : Ensured anything-kinds.ps anything-kinds.r anything-reads.Post (λ κs a x v. MeetsAnything (now (a .0)) x)
+anything-ensures κs a x v p = p
 
 pub read-record-ensures : Ensured read-record-kinds.ps read-record-kinds.r read-record-reads.Post
     (λ κs a x v. MeetsReadRecord (now (a .0)) (a .1 .0) x)

@@ -1,6 +1,6 @@
 -- A refusal is the table's, and then nothing was changed and nothing else is told: each public call beside `send` and `receive`.
 -- Assumes nothing.
-use mathlib.Core.Bool.{Bool, cond, _||_}
+use mathlib.Core.Bool.{Bool, false, cond, _||_}
 use mathlib.Core.List.{List, [], _∷_}
 use mathlib.Core.Path.{_≡_, refl, sym, _∙_, ap}
 use Prim.Native.Nat.{ℕ, _+_, _%_}
@@ -28,6 +28,8 @@ use Rattle.log.specs.Numbers.{isCut, isLong, isPadded, numberAt}
 use Rattle.log.specs.Records.{headerRefusal, headerOfNumbers, headerOf, secondNumber, thirdNumber, recordAt}
 use Rattle.log.specs.Written.{Keeps}
 use Rattle.log.proofs.Refused.{refused-number, refused-header, refused-record, refused-cell, refused-place, keeps-refusal, refused-keeps}
+use Rattle.presence.specs.declared.Presence.{Presence}
+use Rattle.presence.proofs.Theorems.{presence-refusal, presence-nothing}
 use Rattle.text.specs.declared.Put.{Put}
 use Rattle.listing.specs.declared.Listing.{Listing}
 use Rattle.listing.specs.Lines.{logRefusedLine}
@@ -52,6 +54,7 @@ use Rattle.line.specs.Contracts.{
   MeetsStep,
   MeetsReadNumber,
   MeetsReadHeader,
+  MeetsAnything,
   MeetsReadRecord,
   MeetsReadCell,
   MeetsNextPlace,
@@ -138,6 +141,12 @@ header-table log = split (eqb (headerTable log) 0) (λ e. rw e (sym (eqb-true (h
 pub reads-header : (log : List ℕ) (r : Header) → MeetsReadHeader log r
     → Refuses (r .refusal) (headerTable log) ((r .place ≡ 0) × (r .format ≡ 0) × (r .channels ≡ 0) × (r .order ≡ 0))
 reads-header log r meets = rw meets (record { by-the-table = header-table log; then-nothing = refused-header log })
+
+-- asking whether there is anything in a log
+pub asks-anything : (log : List ℕ) (r : Presence) → MeetsAnything log r
+    → Refuses (r .refusal) (headerTable log) ((r .found ≡ false) × (r .number ≡ 0))
+asks-anything log r meets =
+    rw meets (record { by-the-table = presence-refusal log ∙ header-table log; then-nothing = presence-nothing log })
 
 -- the refusal of a record
 record-table : (log : List ℕ) (place : ℕ) → recordAt log place .refusal ≡ recordTable log place

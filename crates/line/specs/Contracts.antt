@@ -25,6 +25,8 @@ use Rattle.log.specs.declared.keep.Kept.{Kept}
 use Rattle.log.specs.Numbers.{numberAt, groupsOf}
 use Rattle.log.specs.Records.{headerOf, recordAt, cellAt, placeAfter}
 use Rattle.log.specs.Written.{Keeps, numberRefusal, headerOctets, headerRefused, recordOctets, recordRefusal}
+use Rattle.presence.specs.declared.Presence.{Presence}
+use Rattle.presence.specs.Presence.{presenceOf}
 use Rattle.text.specs.declared.Put.{Put}
 use Rattle.listing.specs.declared.Listing.{Listing}
 use Rattle.listing.specs.declared.Printed.{Printed}
@@ -105,6 +107,10 @@ MeetsReadCell log place part = part ≡ cellAt log place
 
 abbrev pub MeetsNextPlace : List ℕ → ℕ → ℕ → Type 0
 MeetsNextPlace log place next = next ≡ placeAfter log place
+
+-- `anything`
+abbrev pub MeetsAnything : List ℕ → Presence → Type 0
+MeetsAnything log r = r ≡ presenceOf log
 
 -- writing a log: `write_number`, `write_header`, `write_record`
 abbrev pub MeetsWriteNumber : List ℕ → ℕ → ℕ → Kept → List ℕ → Type 0

@@ -1,13 +1,13 @@
 -- Laws of the text of a log's parts, and of the counts behind them.
 -- Assumes nothing.
-use mathlib.Core.Bool.{true, false, cond, _&&_}
+use mathlib.Core.Bool.{true, false, cond}
 use mathlib.Core.List.{List, [], _∷_, _++_, append-nil, append-assoc}
 use mathlib.Core.Path.{_≡_, refl, sym, _∙_, ap}
-use Prim.Native.Nat.{ℕ, _+_, _-_, _%_, _^_, _≤_, _<_}
+use Prim.Native.Nat.{ℕ, _+_, _%_, _^_, _≤_, _<_}
 use native.Mathlib.Omega.{arith}
 use borrow.Author.Tests.{eq-eqb, ne-eqb, eqb-true, le-leb}
-use lib.Dec.{eqb, leb, ltb}
-use lib.ListN.{length, getD, take, drop, set}
+use lib.Dec.{eqb, ltb}
+use lib.ListN.{length, take}
 use Rattle.runs.proofs.Laws.{split, neither}
 use Rattle.log.specs.declared.Header.{Header}
 use Rattle.log.specs.Records.{headerOf}
@@ -17,9 +17,8 @@ use Rattle.reading.specs.Records.{frontOf}
 use Rattle.pieces.specs.declared.Found.{Found}
 use Rattle.pieces.specs.declared.Standing.{Standing}
 use Rattle.pieces.specs.Limit.{Part, head, whole, refused, broken, done, endPart}
-use Rattle.pieces.specs.Steps.{takingOf, headerFound, recordFound, liesWhole, beginsAbove, nextOf, Steps, foundParts}
+use Rattle.pieces.specs.Steps.{takingOf, Steps, foundParts}
 use Rattle.pieces.specs.Taken.{Taking, handed, endFault, endParts}
-use Rattle.pieces.proofs.Laws.{lies-facts}
 use Rattle.pieces.proofs.Walks.{Along, along-start, along-turn, along-end, turn-on}
 use Rattle.text.specs.declared.Put.{Put}
 use Rattle.listing.specs.declared.Listing.{Listing}
@@ -302,40 +301,3 @@ pub ends-nothing : {l : Listing} {held first : List ℕ} → (l .standing .stage
 unfolding textOf
 ends-nothing {l} {held} {first} not-0 not-1 =
     ends-with (ap (textOf (l .tally)) (sym (parts-none (l .standing) held not-0 not-1))) (puts-none first (record { octets = 0; whole = true }))
-
--- a record that is found in a piece lies in it
-room : (s : Standing) (held piece : List ℕ) (place : ℕ) → nextOf s held piece place .what ≡ 2 → place + 49 ≤ length piece
-unfolding nextOf headerFound recordFound
-room s held piece place =
-    split (leb (length piece) place)
-    (λ a. rw a (λ e. absurd (omega (arith, e))))
-    (λ a.
-    split (eqb (s .stage) 0)
-    (λ b.
-    let put : List ℕ = set held (s .count % 9) (getD piece place 0) in
-    split (eqb (s .count % 9) 2 && eqb (headerOf (take 3 put) .refusal) 0)
-    (λ c. rw (a, b, c) (λ e. absurd (omega (arith, e))))
-    (λ c. split (eqb (s .count % 9) 8)
-    (λ d. rw (a, b, c, d) (λ e. absurd (omega (arith, e))))
-    (λ d. rw (a, b, c, d) (λ e. absurd (omega (arith, e))))))
-    (λ b.
-    split (eqb (s .stage) 1)
-    (λ o.
-    split (eqb (s .left) 0)
-    (λ l. rw (a, b, o, l) (λ e. absurd (omega (arith, e))))
-    (λ l.
-    split (beginsAbove (s .count % 49) (getD piece place 0))
-    (λ g. rw (a, b, o, l, g) (λ e. absurd (omega (arith, e))))
-    (λ g.
-    split (liesWhole (s .count % 49) (length piece - place) (s .left))
-    (λ w. rw (a, b, o, l, g, w) (λ e. omega (arith, lies-facts (s .count % 49) (length piece - place) (s .left) w)))
-    (λ w.
-    split (eqb (s .count % 49) 48)
-    (λ d. rw (a, b, o, l, g, w, d) (λ e. absurd (omega (arith, e))))
-    (λ d. rw (a, b, o, l, g, w, d) (λ e. absurd (omega (arith, e))))))))
-    (λ o. rw (a, b, o) (λ e. absurd (omega (arith, e))))))
-
-pub found-room : {s : Standing} {held piece : List ℕ} {place : ℕ} {f : Found} {now : List ℕ} → Steps s held piece place f now
-    → f .what ≡ 2 → place + 49 ≤ length piece
-found-room {s} {held} {piece} {place} step two =
-    room s held piece place (ap (λ (f : Found). f .what) (sym (step .answered)) ∙ two)

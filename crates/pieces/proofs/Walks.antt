@@ -1,14 +1,15 @@
 -- Laws of a walk along a piece, for those who go along it: what was handed out so far, and what is still to come.
 -- Assumes nothing.
-use mathlib.Core.Bool.{true, false}
+use mathlib.Core.Bool.{true, false, _&&_}
 use mathlib.Core.List.{List, [], _∷_, _++_, append-nil, append-assoc}
 use mathlib.Core.Path.{_≡_, refl, sym, _∙_, ap}
-use Prim.Native.Nat.{ℕ, zero, suc, _-_, _≤_, _<_}
+use Prim.Native.Nat.{ℕ, zero, suc, _+_, _-_, _%_, _≤_, _<_}
 use native.Mathlib.Omega.{arith}
 use borrow.Author.Tests.{lt-ltb, le-ltb, ltb-true, ltb-false}
-use lib.Dec.{ltb}
-use lib.ListN.{length, drop, drop-of-length-le}
+use lib.Dec.{eqb, leb, ltb}
+use lib.ListN.{length, getD, take, drop, set, drop-of-length-le}
 use Rattle.runs.proofs.Laws.{split}
+use Rattle.log.specs.Records.{headerOf}
 use Rattle.pieces.specs.declared.Found.{Found}
 use Rattle.pieces.specs.declared.Standing.{Standing}
 use Rattle.pieces.specs.Limit.{Part, partsOf}
@@ -16,6 +17,10 @@ use Rattle.pieces.specs.Steps.{
   startOf,
   heldCount,
   takingOf,
+  headerFound,
+  recordFound,
+  liesWhole,
+  beginsAbove,
   nextOf,
   heldNow,
   Steps,
@@ -28,6 +33,7 @@ use Rattle.pieces.specs.Steps.{
 }
 use Rattle.pieces.specs.Taken.{Taking, freshTaking, after, handed, endParts, joinedOf, afterAll, handedAll}
 use Rattle.pieces.proofs.Division.{any-division, any-division-state}
+use Rattle.pieces.proofs.Laws.{lies-facts}
 use Rattle.pieces.proofs.Octets.{Follows, follows, step-follows}
 
 -- steps enough for all octets are enough
@@ -160,3 +166,40 @@ module _ (limit : ℕ) (held : List ℕ) (pieces : List (List ℕ)) (size : leng
       stood-is (startOf limit) held pieces size
       ∙ any-division-state (takingOf (startOf limit) held) pieces
       ∙ sym (stood-state (startOf limit) held (joinedOf pieces) size)
+
+-- a record that is found in a piece lies in it
+room : (s : Standing) (held piece : List ℕ) (place : ℕ) → nextOf s held piece place .what ≡ 2 → place + 49 ≤ length piece
+unfolding nextOf headerFound recordFound
+room s held piece place =
+    split (leb (length piece) place)
+    (λ a. rw a (λ e. absurd (omega (arith, e))))
+    (λ a.
+    split (eqb (s .stage) 0)
+    (λ b.
+    let put : List ℕ = set held (s .count % 9) (getD piece place 0) in
+    split (eqb (s .count % 9) 2 && eqb (headerOf (take 3 put) .refusal) 0)
+    (λ c. rw (a, b, c) (λ e. absurd (omega (arith, e))))
+    (λ c. split (eqb (s .count % 9) 8)
+    (λ d. rw (a, b, c, d) (λ e. absurd (omega (arith, e))))
+    (λ d. rw (a, b, c, d) (λ e. absurd (omega (arith, e))))))
+    (λ b.
+    split (eqb (s .stage) 1)
+    (λ o.
+    split (eqb (s .left) 0)
+    (λ l. rw (a, b, o, l) (λ e. absurd (omega (arith, e))))
+    (λ l.
+    split (beginsAbove (s .count % 49) (getD piece place 0))
+    (λ g. rw (a, b, o, l, g) (λ e. absurd (omega (arith, e))))
+    (λ g.
+    split (liesWhole (s .count % 49) (length piece - place) (s .left))
+    (λ w. rw (a, b, o, l, g, w) (λ e. omega (arith, lies-facts (s .count % 49) (length piece - place) (s .left) w)))
+    (λ w.
+    split (eqb (s .count % 49) 48)
+    (λ d. rw (a, b, o, l, g, w, d) (λ e. absurd (omega (arith, e))))
+    (λ d. rw (a, b, o, l, g, w, d) (λ e. absurd (omega (arith, e))))))))
+    (λ o. rw (a, b, o) (λ e. absurd (omega (arith, e))))))
+
+pub found-room : {s : Standing} {held piece : List ℕ} {place : ℕ} {f : Found} {now : List ℕ} → Steps s held piece place f now
+    → f .what ≡ 2 → place + 49 ≤ length piece
+found-room {s} {held} {piece} {place} step two =
+    room s held piece place (ap (λ (f : Found). f .what) (sym (step .answered)) ∙ two)

@@ -21,7 +21,8 @@ use Rattle.listing.specs.declared.Printed.{Printed}
 use Rattle.listing.specs.List.{listTo, listOf}
 use Rattle.listing.specs.Taking.{startOf, pieceText, listingAfter, endOfText, writtenOver, Takes, Ends}
 use Rattle.text.specs.Put.{listed}
-use Rattle.listing.proofs.Whole.{take-to, any-division-list}
+use Rattle.text.proofs.Short.{take-to}
+use Rattle.listing.proofs.Whole.{any-division-list}
 use Rattle.rimesatchel.proofs.Bytes.{byte-of}
 use Rattle.rimesatchel.specs.Kept.{listedNumbers, EndsFrom, ListedOctets}
 

@@ -1,5 +1,7 @@
 pub mod BoxesOne
 pub mod Bytes
+pub mod ContentsOne
+pub mod ContentsWrong
 pub mod FramesOne
 pub mod FramesWrong
 pub mod KeptLaws

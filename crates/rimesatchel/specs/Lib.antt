@@ -1,4 +1,5 @@
 pub mod Boxes
+pub mod Contents
 pub mod Frames
 pub mod Kept
 pub mod Logs

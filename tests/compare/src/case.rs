@@ -20,6 +20,7 @@ pub enum Kind {
     LogList,
     Linelist,
     LinelistLimit,
+    Anything,
     Salvage,
     Aes3Import,
     Aes3Export,
@@ -38,7 +39,7 @@ impl Kind {
 }
 
 /// Kind, name, and the fields in and out: n a number, r a run of numbers or a state, o octets.
-const KINDS: [(Kind, &str, &str, &str); 23] = [
+const KINDS: [(Kind, &str, &str, &str); 24] = [
     (Kind::SenderOpen, "sender_open", "nnnnnn", "nr"),
     (Kind::ReceiverOpen, "receiver_open", "nnn", "nr"),
     (Kind::Send, "send", "rnrro", "nro"),
@@ -53,6 +54,7 @@ const KINDS: [(Kind, &str, &str, &str); 23] = [
     (Kind::LogList, "log_list", "oo", "nonn"),
     (Kind::Linelist, "linelist", "o", "o"),
     (Kind::LinelistLimit, "linelist_limit", "on", "o"),
+    (Kind::Anything, "anything", "o", "nnn"),
     (Kind::Salvage, "salvage", "oor", "nornnn"),
     (Kind::Aes3Import, "aes3_import", "or", "nrr"),
     (Kind::Aes3Export, "aes3_export", "rr", "nor"),

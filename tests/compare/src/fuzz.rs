@@ -75,7 +75,7 @@ impl Referee<'_> {
 
 fn play(scenario: u64, seed: u64, referee: &mut Referee) -> Played {
     let mut random = Random::for_scenario(seed, scenario);
-    match random.below(90) {
+    match random.below(93) {
         0..=3 => boxes::open_sender(&mut random, referee),
         4..=6 => boxes::open_receiver(&mut random, referee),
         7..=22 => boxes::one_send(&mut random, referee),
@@ -94,7 +94,8 @@ fn play(scenario: u64, seed: u64, referee: &mut Referee) -> Played {
         80..=81 => units::read(&mut random, referee),
         82..=84 => circuits::check(&mut random, referee),
         85 => circuits::plan(&mut random, referee),
-        86..=89 => log::salvage(&mut random, referee),
+        86..=88 => log::anything(&mut random, referee),
+        89..=92 => log::salvage(&mut random, referee),
         _ => status::check(&mut random, referee),
     }
 }

@@ -1,6 +1,7 @@
 //! compare: the proved library held against a plain implementation of document 01. See `USAGE`.
 
 mod answers;
+mod archive;
 mod case;
 mod fuzz;
 mod plain;
@@ -22,7 +23,8 @@ compare fuzz COUNT [SEED [LINELIST]]
 compare replay SEED SCENARIO [LINELIST]
                                  play one scenario of a fuzz run again
 compare list                     print the plain implementation's list of the log on standard input
-compare story                    play demand 3 and longer outages: a sender, a line that drops, spoils and repeats, a receiver";
+compare story                    play demand 3 and longer outages: a sender, a line that drops, spoils and repeats, a receiver;
+                                 and the archive's copies of nothing";
 
 /// The program, if it stands there: while the crates grow it may not be built yet.
 fn built(program: &str) -> Option<&Path> {
@@ -50,7 +52,7 @@ fn run(words: &[&str]) -> Result<bool, Box<dyn Error>> {
         ["replay", seed, scenario] => Ok(fuzz::replay(seed.parse()?, scenario.parse()?, None)),
         ["replay", seed, scenario, program] => Ok(fuzz::replay(seed.parse()?, scenario.parse()?, built(program))),
         ["list"] => list(),
-        ["story"] => Ok(story::run()),
+        ["story"] => Ok([story::run(), archive::run()] == [true; 2]),
         _ => Err(USAGE.into()),
     }
 }

@@ -5,7 +5,8 @@ use Prim.Native.Nat.{_-_}
 use native.Mathlib.Omega.{arith}
 use borrow.Author.Needs.{needs}
 use lib.ListN.{length}
-use Rattle.listing.proofs.Texts.{Going, going-start, going-turn, going-on, going-end, found-room}
+use Rattle.pieces.proofs.Walks.{found-room}
+use Rattle.listing.proofs.Texts.{Going, going-start, going-turn, going-on, going-end}
 use Rattle.listing.proofs.take.Statement.{statement}
 use Rattle.listing.proofs.take.Tie as tie
 

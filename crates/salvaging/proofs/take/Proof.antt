@@ -5,7 +5,7 @@ use Prim.Native.Nat.{_-_}
 use native.Mathlib.Omega.{arith}
 use borrow.Author.Needs.{needs}
 use lib.ListN.{length}
-use Rattle.listing.proofs.Texts.{found-room}
+use Rattle.pieces.proofs.Walks.{found-room}
 use Rattle.salvaging.proofs.Going.{Going, going-start, going-turn, going-on, going-end}
 use Rattle.salvaging.proofs.take.Statement.{statement}
 use Rattle.salvaging.proofs.take.Tie as tie

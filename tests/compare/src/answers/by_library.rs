@@ -17,6 +17,7 @@ pub fn by_library(case: &Case) -> Option<Answer> {
         Kind::CheckCharacter if cfg!(feature = "status") => check_character(case),
         Kind::ReadHeader if cfg!(feature = "log") => read_header(case),
         Kind::ReadRecord if cfg!(feature = "log") => read_record(case),
+        Kind::Anything if cfg!(feature = "log") => anything(case),
         Kind::Salvage if cfg!(feature = "log") => salvage(case),
         Kind::PutHeader if cfg!(feature = "log") => put_header(case),
         Kind::PutRecord if cfg!(feature = "log") => put_record(case),
@@ -161,6 +162,12 @@ fn read_record(case: &Case) -> Option<Answer> {
     let mut answer = values![u64::from(refusal)];
     answer.extend(record.map(Value::Number));
     Some(answer)
+}
+
+fn anything(case: &Case) -> Option<Answer> {
+    let mut answer = [u64::MAX; 2];
+    let refusal = face::anything(case.octets(0), &mut answer);
+    Some(values![u64::from(refusal), answer[0], answer[1]])
 }
 
 fn salvage(case: &Case) -> Option<Answer> {

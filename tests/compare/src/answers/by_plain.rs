@@ -4,7 +4,7 @@
 use super::line::line;
 use super::management;
 use crate::case::{values, Answer, Case, Kind, Value};
-use crate::plain::{self, Block, Fault, Receiver, Record, Refusal, Sender};
+use crate::plain::{self, Anything, Block, Fault, Receiver, Record, Refusal, Sender};
 
 pub fn by_plain(case: &Case) -> Answer {
     match case.kind {
@@ -28,6 +28,7 @@ pub fn by_plain(case: &Case) -> Answer {
         Kind::Controller => management::controller_by_plain(case),
         Kind::Linelist => values![plain::listing(case.octets(0)).as_bytes()],
         Kind::LinelistLimit => values![plain::listing_to(case.octets(0), case.number(1)).as_bytes()],
+        Kind::Anything => anything(case),
         Kind::Salvage => salvage(case),
         Kind::Aes3Import => aes3_import(case),
         Kind::Aes3Export => aes3_export(case),
@@ -139,6 +140,14 @@ fn read_record(case: &Case) -> Answer {
         Ok(Record::Cell { indication, start, next }) => values![0, 1, indication, start as u64, next as u64],
         Ok(Record::End) => values![0, 0, 0, 0, place],
         Err(refusal) => values![u64::from(refusal), 0, 0, 0, 0],
+    }
+}
+
+fn anything(case: &Case) -> Answer {
+    match plain::anything(case.octets(0)) {
+        Ok(Anything::Yes { record }) => values![0, true, record],
+        Ok(Anything::No { records }) => values![0, false, records],
+        Err(refusal) => values![u64::from(refusal), 0, 0],
     }
 }
 

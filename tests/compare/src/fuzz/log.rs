@@ -1,6 +1,6 @@
 //! Logs, whole and damaged: the header, then record after record, and places anywhere.
 
-use super::inputs::{alter, cell, indication, setup, wrong_number};
+use super::inputs::{alter, ancillary, cell, indication, setup, wrong_number};
 use super::{Played, Referee};
 use crate::case::{fields, values, Case, Kind};
 use crate::plain::{self, Shape};
@@ -98,6 +98,35 @@ pub fn walk(random: &mut Random, referee: &mut Referee) -> Played {
     read_record(&log, random.below(length + 2), referee)?;
     read_record(&log, random.pick(&past), referee)?;
     Ok(())
+}
+
+/// A log that is often silent: cells of zeros with sound protection, in some of them one entry that may be anything. Its marks, its
+/// unused slots and what the line does to a cell may look like sound.
+fn silent_log(random: &mut Random) -> Vec<u8> {
+    let (mut log, [format, channels, order]) = header(random);
+    let Ok(shape) = Shape::new(format, channels, order) else { return log };
+    let mut number = random.below(16);
+    for _ in 0..random.below(9) {
+        let mut samples = vec![0; shape.entries()];
+        if random.one_in(8) {
+            samples[random.place(shape.entries())] = 1 << random.below(u64::from(shape.format.sample_bits));
+        }
+        let ancillary = ancillary(&shape, shape.entries(), u64::MAX, random);
+        let mut octets = shape.pack(number, 0, &samples, &ancillary);
+        if random.one_in(3) {
+            alter(&mut octets, &shape, random);
+        }
+        log.push(if random.one_in(20) { random.below(256) as u8 } else { 0 });
+        log.extend(octets);
+        number = (number + random.pick(&[0, 1, 1, 1, 2])) % 16;
+    }
+    damage(&mut log, random);
+    log
+}
+
+pub fn anything(random: &mut Random, referee: &mut Referee) -> Played {
+    let log = if random.one_in(4) { log(random) } else { silent_log(random) };
+    referee.call(Case::new(Kind::Anything, values![&log[..]])).map(|_| ())
 }
 
 /// Now and then the log goes on with records of zeros, past what `linelist` reads at a time.

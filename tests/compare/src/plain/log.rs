@@ -72,6 +72,34 @@ pub fn put_record(log: &[u8], place: u64, cell: &[u8], indication: bool) -> Resu
     put(log, place, &[&[u8::from(indication)], cell].concat(), 12)
 }
 
+/// Whether a log has a sample marked 0 that isn't zero: the first record with one, or how many whole records were read.
+pub enum Anything {
+    Yes { record: u64 },
+    No { records: u64 },
+}
+
+/// All records are read, up to the first framing fault or the end, and the first with such a sample is looked for then.
+pub fn anything(log: &[u8]) -> Result<Anything, Refusal> {
+    let Header { place, format, channels, order } = header(log)?;
+    let mut receiver = Receiver { format, channels, order, started: false, last: 0, count: 0 };
+    let mut place = place as u64;
+    let mut sounding = vec![];
+    while let Ok(Record::Cell { indication, start, next }) = record(log, place) {
+        place = next as u64;
+        sounding.push(match receiver.receive(&log[start..next], indication, [AMPLE_ROOM; 3]) {
+            Ok((after, received)) => {
+                receiver = after;
+                received.entries.iter().any(|entry| entry.mark == 0 && entry.sample != 0)
+            }
+            Err(_) => false,
+        });
+    }
+    match sounding.iter().position(|&sounds| sounds) {
+        Some(first) => Ok(Anything::Yes { record: first as u64 }),
+        None => Ok(Anything::No { records: sounding.len() as u64 }),
+    }
+}
+
 /// What `linelist` prints for a log.
 pub fn listing(log: &[u8]) -> String {
     listing_to(log, MOST_LISTED)

@@ -1,0 +1,5 @@
+pub mod Laws
+pub mod One
+pub mod Quiet
+pub mod Some
+pub mod Wrong

@@ -1,0 +1,221 @@
+// A look at one cell: what its own entries hold, without writing them anywhere.
+use formats::Format;
+use formats::Settled;
+use receiver::Receiver;
+ghost use mathlib.Core.Bool.{true, false};
+ghost use mathlib.Core.Path.{_≡_};
+ghost use Prim.Native.Nat.{ℕ, _+_, _^_, _≤_, _<_};
+ghost use lib.ListN.{length, take, drop};
+ghost use Rattle.runs.specs.Runs.{numberOf};
+ghost use Rattle.formats.specs.Sound.{Sound, Limits};
+ghost use Rattle.guards.specs.Guards.{nineOf, protectedBits, vOf};
+ghost use Rattle.guards.specs.Code.{sevenGuards};
+ghost use Rattle.cells.specs.Cells.{subframeAt, sampleIn, ancillaryIn, markIn};
+ghost use Rattle.cells.specs.Placement.{slotOfEntry};
+ghost use Rattle.receiver.specs.Unpacking.{usedIn};
+ghost use Rattle.glance.specs.Glance.{some, soundsOf, markedOf};
+ghost use Rattle.glance.specs.Code.{soundIn, markedIn, loudAt};
+
+// How many of a cell's own entries are marked 0, and how many 1.
+pub struct Marks {
+    pub sound: usize,
+    pub damaged: usize,
+}
+
+// The number of up to six octets, most significant octet first.
+fn number_in(cell: &[u8], at: usize, width: usize) -> u64
+    requires { ⌜ (width ≤ 6) × (at + width ≤ length (now cell)) ⌝ }
+    ensures { λ r. ⌜ (r ≡ numberOf (take width (drop at (now (cell .entry))))) × (r < 2 ^ 48) ⌝ }
+{
+    let mut number: u64 = 0;
+    let mut i = 0;
+    while i < width {
+        number = number * 256 + cell[at + i] as u64;
+        i += 1;
+    }
+    number
+}
+
+// The subframe of a slot.
+fn subframe_in(format: Format, cell: &[u8], slot: usize) -> u64
+    requires { ⌜ Sound format × (length (now cell) ≡ 48) × (slot < format .slots) ⌝ }
+    ensures { λ r. ⌜ (r ≡ subframeAt format (now (cell .entry)) slot) × (r < 2 ^ 48) ⌝ }
+{
+    let width = format.width;
+    number_in(cell, slot * width, width)
+}
+
+// What is protected in a subframe, as one number: its nine top sample bits, and V after them where there is one.
+fn protected(format: Format, subframe: u64) -> u64
+    requires { ⌜ Sound format × (format .«overhead_bits» ≡ 4) × (subframe < 2 ^ 48) ⌝ }
+    ensures { λ r. ⌜ (r ≡ protectedBits (nineOf (format .«sample_bits») (sampleIn format subframe))
+        (vOf (format .«ancillary_bits») (ancillaryIn format subframe))) × (r < 1024) ⌝ }
+{
+    let sample = subframe >> (format.ancillary_bits + format.overhead_bits);
+    let nine = ((sample * 2) >> (format.sample_bits - 8)) % 512;
+    if format.ancillary_bits == 0 {
+        return nine;
+    }
+    nine * 2 + subframe / 16 % 2
+}
+
+// The mark of a subframe, by the table of `guards::sevens`.
+fn mark_in(format: Format, table: &[u8; 128], subframe: u64) -> usize
+    requires { ⌜ Sound format × (now table ≡ sevenGuards) × (subframe < 2 ^ 48) ⌝ }
+    ensures { λ r. ⌜ (r ≡ markIn format subframe) × (r < 2) ⌝ }
+{
+    if format.overhead_bits == 0 {
+        return 0;
+    }
+    let ten = protected(format, subframe);
+    let place = ((ten ^ (ten >> 7)) % 128) as usize;
+    if table[place] as u64 == subframe % 8 {
+        return 0;
+    }
+    1
+}
+
+// The sample of a slot is marked 0 and isn't zero. The table is fetched only where it isn't zero: so silence is read faster.
+fn sounds_at(format: Format, cell: &[u8], slot: usize) -> bool
+    requires { ⌜ Sound format × (length (now cell) ≡ 48) × (slot < format .slots) ⌝ }
+    ensures { λ r. ⌜ r ≡ soundIn format (now (cell .entry)) slot ⌝ }
+{
+    let subframe = subframe_in(format, cell, slot);
+    let sample = subframe >> (format.ancillary_bits + format.overhead_bits);
+    if sample == 0 {
+        return false;
+    }
+    let table = guards::sevens();
+    mark_in(format, &table, subframe) == 0
+}
+
+// Whether one of the first slots has such a sample.
+fn among(format: Format, cell: &[u8], used: usize) -> bool
+    requires { ⌜ Sound format × (length (now cell) ≡ 48) × (used ≤ format .slots) ⌝ }
+    ensures { λ r. ⌜ r ≡ some (soundIn format (now (cell .entry))) used ⌝ }
+{
+    let mut slot = 0;
+    while slot < used {
+        if sounds_at(format, cell, slot) {
+            return true;
+        }
+        slot += 1;
+    }
+    false
+}
+
+// The slot of the entry after the one in this slot.
+fn next_slot(set: Settled, used: usize, slot: usize) -> usize
+    requires { ⌜ Limits set × (used ≡ usedIn set) × (slot < used) ⌝ }
+    ensures { λ r. ⌜ ((i : ℕ) → i < usedIn set → slot ≡ slotOfEntry (set .«by_channel») (set .channels) (set .times) i
+        → r ≡ slotOfEntry (set .«by_channel») (set .channels) (set .times) (i + 1)) ⌝ }
+{
+    if !set.by_channel {
+        return slot + 1;
+    }
+    let next = slot + set.times;
+    if next < used {
+        return next;
+    }
+    next - (used - 1)
+}
+
+// How many of the cell's own entries are marked 1.
+fn damaged_in(set: Settled, used: usize, cell: &[u8]) -> usize
+    requires { ⌜ Limits set × (used ≡ usedIn set) × (length (now cell) ≡ 48) ⌝ }
+    ensures { λ r. ⌜ (r ≡ markedIn 1 set (now (cell .entry))) × (r ≤ used) ⌝ }
+{
+    let table = guards::sevens();
+    let mut count = 0;
+    let mut slot = 0;
+    let mut i = 0;
+    while i < used {
+        count += mark_in(set.format, &table, subframe_in(set.format, cell, slot));
+        slot = next_slot(set, used, slot);
+        i += 1;
+    }
+    count
+}
+
+// Whether one of the twelve samples of a cell of 56 hex isn't zero, whatever its mark. A subframe there has four octets, and the
+// sample stands above the last.
+fn loud(cell: &[u8]) -> bool
+    requires { ⌜ length (now cell) ≡ 48 ⌝ }
+    ensures { λ r. ⌜ r ≡ some (loudAt (now (cell .entry))) 12 ⌝ }
+{
+    let mut slot = 0;
+    while slot < 12 {
+        let subframe = number_in(cell, slot * 4, 4);
+        if subframe >= 256 {
+            return true;
+        }
+        slot += 1;
+    }
+    false
+}
+
+// A cell of 56 hex, the usual format, with no sample but zeros: silence there is told by few instructions.
+fn silent(state: Receiver, cell: &[u8]) -> bool
+    ensures { λ r. ⌜ (r ≡ true → false ≡ soundsOf state (now (cell .entry))) ⌝ }
+{
+    if state.format != 86 {
+        return false;
+    }
+    if cell.len() != 48 {
+        return false;
+    }
+    !loud(cell)
+}
+
+// Whether one of the cell's own samples is marked 0 and isn't zero. Not so where the state's settings are refused, or the cell
+// isn't of 48 octets.
+pub fn sounds(state: Receiver, cell: &[u8]) -> bool
+    ensures { λ r. ⌜ r ≡ soundsOf state (now (cell .entry)) ⌝ }
+{
+    if silent(state, cell) {
+        return false;
+    }
+    let set = formats::settings(
+        state.format as u32,
+        state.channels as u32,
+        state.order as u32,
+    );
+    if set.refusal != 0 {
+        return false;
+    }
+    if cell.len() != 48 {
+        return false;
+    }
+    let used = set.channels * set.times;
+    among(set.format, cell, used)
+}
+
+// How many of the cell's own entries are marked 0, and how many 1. Zeros where the state's settings are refused, or the cell
+// isn't of 48 octets.
+pub fn marked(state: Receiver, cell: &[u8]) -> Marks
+    ensures { λ r. ⌜ r ≡ markedOf state (now (cell .entry)) ⌝ }
+{
+    let set = formats::settings(
+        state.format as u32,
+        state.channels as u32,
+        state.order as u32,
+    );
+    if set.refusal != 0 {
+        return Marks {
+            sound: 0,
+            damaged: 0,
+        };
+    }
+    if cell.len() != 48 {
+        return Marks {
+            sound: 0,
+            damaged: 0,
+        };
+    }
+    let used = set.channels * set.times;
+    let damaged = damaged_in(set, used, cell);
+    Marks {
+        sound: used - damaged,
+        damaged,
+    }
+}

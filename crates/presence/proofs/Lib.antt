@@ -1,0 +1,9 @@
+pub mod Going
+pub mod Laws
+pub mod Lines
+pub mod One
+pub mod Said
+pub mod Stops
+pub mod Theorems
+pub mod Walks
+pub mod Wrong

@@ -1,0 +1,4 @@
+pub mod Handed
+pub mod Line
+pub mod Presence
+pub mod Taking
