@@ -2,6 +2,7 @@
 #include <argp.h>
 #include <stdio.h>
 
+#include "lent.h"
 #include "options.h"
 
 struct anything {
@@ -22,42 +23,21 @@ static error_t parse(int key, char *word, struct argp_state *state) {
     return 0;
 }
 
-/* Whether the last record brought a sample that is sound and isn't zero. */
-static bool sounds(const struct reading *reading) {
-    for (size_t at = 0; at < reading->given; at++)
-        if (reading->marks[at] == RIME_MARK_SOUND && reading->samples[at] != 0) return true;
-    return false;
-}
-
-/* The first record that sounds, or what the reading ended with. */
-static enum step look(struct reading *reading, bool *found) {
-    enum step step = STEP_SOUND;
-    for (*found = false; !*found && (step == STEP_SOUND || step == STEP_REFUSED);) {
-        step = reading_step(reading);
-        *found = step == STEP_SOUND && sounds(reading);
-    }
-    return step;
-}
-
-static int of_log(const char *name, const struct anything *anything) {
-    static struct reading reading;
-    const char *before = anything->names.count > 1 ? name : "", *between = anything->names.count > 1 ? ": " : "";
-    int status = reading_open(&reading, name, anything->quiet), refusal = RIME_DONE;
+static int of_log(const char *name, bool several) {
+    struct lent lent;
+    int status = lent_open(&lent, name);
     if (status != STATUS_WELL) return status;
-    bool found = false;
-    enum step last = STEP_FAILED;
-    if ((refusal = reading_header(&reading)) == RIME_DONE) last = look(&reading, &found);
-    progress_end();
-    if (refusal > RIME_DONE) {
-        printf("%s%slog refused %d\n", before, between, refusal);
-        status = say_refused(reading.name, "the log is", (unsigned)refusal);
-    } else if (found) printf("%s%syes %llu\n", before, between, (unsigned long long)reading.record - 1);
-    else if (last == STEP_FAILED) status = STATUS_FILE;
-    else {
-        printf("%s%sno %llu\n", before, between, (unsigned long long)reading.record);
-        status = last == STEP_BROKEN ? say_broken(&reading) : STATUS_NO;
+    uint64_t answer[RIME_ANSWER]; /* yes or no, and a record or how many */
+    unsigned refusal = rime_anything(lent.octets, lent.count, answer);
+    progress_clear();
+    if (several) printf("%s: ", name);
+    if (refusal != RIME_DONE) printf("log refused %u\n", refusal);
+    else printf("%s %llu\n", answer[0] == 1 ? "yes" : "no", (unsigned long long)answer[1]);
+    if (answer[0] == 0) {
+        status = lent_end(&lent, answer[1], false);
+        if (status == STATUS_WELL) status = STATUS_NO;
     }
-    reading_close(&reading);
+    lent_close(&lent);
     return status;
 }
 
@@ -71,10 +51,13 @@ int desk_anything(int argc, char **argv) {
                "how many whole records were read. - is standard input.",
     };
     argp_parse(&argp, argc, argv, 0, NULL, &anything);
-    int worst = STATUS_WELL;
-    for (int at = 0; at < anything.names.count; at++) {
-        int status = of_log(anything.names.words[at], &anything);
+    int worst = STATUS_WELL, count = anything.names.count;
+    progress_begin("logs", (uint64_t)count, anything.quiet);
+    for (int at = 0; at < count; at++) {
+        int status = of_log(anything.names.words[at], count > 1);
         if (status > worst) worst = status;
+        progress_at((uint64_t)at + 1);
     }
+    progress_end();
     return printed(worst);
 }

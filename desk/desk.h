@@ -37,6 +37,7 @@ int desk_picture(int argc, char **argv);
 int say_failed(const char *name);                                      /* what errno says; returns STATUS_FILE */
 int say_unfit(const char *name, const char *why);                      /* returns STATUS_FILE */
 int say_refused(const char *name, const char *what, unsigned refusal); /* the number and its words; STATUS_REFUSED */
+int say_broken(const char *name, uint64_t record, unsigned refusal);   /* the same, of a log that is broken there */
 int printed(int status); /* the status, or STATUS_FILE where standard output can't be written; that is said */
 enum { DURATION = 48 };
 const char *duration(double seconds, char words[DURATION]); /* "2.500 s", or "1:02:03.500" from a minute on */
@@ -122,6 +123,6 @@ int reading_begin(struct reading *reading, const char *name, bool quiet); /* bot
 enum step reading_step(struct reading *reading);
 bool reading_cut(struct reading *reading, uint64_t *cut); /* of a broken log: octets from the fault's record to the end */
 void reading_close(struct reading *reading);
-int say_broken(const struct reading *reading); /* says where the log is broken; returns STATUS_REFUSED */
+int reading_broken(const struct reading *reading); /* says where the log is broken; returns STATUS_REFUSED */
 
 #endif

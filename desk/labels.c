@@ -114,7 +114,7 @@ static int label_all(struct labels *labels) {
         if (labels->channels[number].count > 0) say_blocks(labels, number);
         else if (reading->format.ancillary) printf("channel %u: no channel status block\n", number + 1);
         else printf("channel %u: no channel status block: the format has no ancillary bits\n", number + 1);
-    return step == STEP_BROKEN ? say_broken(reading) : STATUS_WELL;
+    return step == STEP_BROKEN ? reading_broken(reading) : STATUS_WELL;
 }
 
 int desk_labels(int argc, char **argv) {

@@ -59,7 +59,7 @@ static int list_log(const char *name, const struct list *list) {
         enum step last = list_records(&reading);
         bool flawed = reading.missing + reading.refused > 0;
         if (last == STEP_FAILED) status = STATUS_FILE;
-        else if (last == STEP_BROKEN) status = say_broken(&reading);
+        else if (last == STEP_BROKEN) status = reading_broken(&reading);
         else status = list->strict && flawed ? STATUS_NO : STATUS_WELL;
     } else if (refusal < 0) status = STATUS_FILE;
     else {

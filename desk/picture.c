@@ -234,7 +234,7 @@ static int picture_log(struct picture *picture) {
     progress_end();
     if (step == STEP_FAILED) return STATUS_FILE;
     status = draw(picture);
-    return status == STATUS_WELL && step == STEP_BROKEN ? say_broken(reading) : status;
+    return status == STATUS_WELL && step == STEP_BROKEN ? reading_broken(reading) : status;
 }
 
 int desk_picture(int argc, char **argv) {

@@ -131,8 +131,6 @@ bool reading_cut(struct reading *reading, uint64_t *cut) {
     return true;
 }
 
-int say_broken(const struct reading *reading) {
-    warnx("%s: record %llu broken %u: %s", reading->name, (unsigned long long)reading->record, reading->refusal,
-          rime_refusal_text(reading->refusal));
-    return STATUS_REFUSED;
+int reading_broken(const struct reading *reading) {
+    return say_broken(reading->name, reading->record, reading->refusal);
 }

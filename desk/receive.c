@@ -160,7 +160,7 @@ static int receive_log(struct receive *receive) {
     status = keep(receive);
     if (status != STATUS_WELL) return status;
     if (!receive->quiet) say_summary(receive);
-    if (last == STEP_BROKEN) return say_broken(&receive->reading);
+    if (last == STEP_BROKEN) return reading_broken(&receive->reading);
     bool flawed = receive->reading.missing + receive->reading.refused + receive->damaged > 0;
     return receive->strict && flawed ? STATUS_NO : STATUS_WELL;
 }

@@ -79,7 +79,7 @@ static int salvage_log(struct salvage *salvage) {
     if (!salvage->quiet)
         fprintf(stderr, "end %llu kept %llu left out %llu cut\n", (unsigned long long)reading->sound,
                 (unsigned long long)reading->refused, (unsigned long long)cut);
-    return last == STEP_BROKEN ? say_broken(reading) : STATUS_WELL;
+    return last == STEP_BROKEN ? reading_broken(reading) : STATUS_WELL;
 }
 
 int desk_salvage(int argc, char **argv) {

@@ -20,6 +20,11 @@ int say_refused(const char *name, const char *what, unsigned refusal) {
     return STATUS_REFUSED;
 }
 
+int say_broken(const char *name, uint64_t record, unsigned refusal) {
+    warnx("%s: record %llu broken %u: %s", name, (unsigned long long)record, refusal, rime_refusal_text(refusal));
+    return STATUS_REFUSED;
+}
+
 int printed(int status) {
     if (fflush(stdout) == 0 && !ferror(stdout)) return status;
     return say_failed("standard output");

@@ -3,6 +3,7 @@
 #include <stdio.h>
 
 #include "figures.h"
+#include "lent.h"
 #include "options.h"
 
 struct call {
@@ -28,40 +29,22 @@ static error_t parse_names(int key, char *word, struct argp_state *state) {
     return option_names(state, key, &((struct call *)state->input)->names);
 }
 
-static void count_marks(const struct reading *reading, struct row *row) {
-    static const unsigned figure[] = {MARKED_0, MARKED_1, MARKED_2};
-    for (size_t at = 0; at < reading->given; at++) row->of[figure[reading->marks[at]]]++;
-}
-
-/* The figures of the records, up to the end or the fault. */
-static int count(struct reading *reading, struct row *row) {
-    enum step step;
-    while ((step = reading_step(reading)) == STEP_SOUND || step == STEP_REFUSED)
-        if (step == STEP_SOUND) count_marks(reading, row);
-    row->of[SOUND_CELLS] = reading->sound;
-    row->of[MISSING_CELLS] = reading->missing;
-    row->of[REFUSED_8] = reading->refused_by[RIME_REFUSED_NUMBER];
-    row->of[REFUSED_9] = reading->refused_by[RIME_REFUSED_REPEAT];
-    row->of[REFUSED_15] = reading->refused_by[RIME_REFUSED_INDICATED];
-    row->of[REFUSED_20] = reading->refused_by[RIME_REFUSED_COUNT];
-    progress_end();
-    return step == STEP_FAILED ? STATUS_FILE : step == STEP_BROKEN ? STATUS_REFUSED : STATUS_WELL;
-}
-
-/* A refused header counts nothing: a row of zeros. */
-static int of_log(const char *name, const struct call *call, struct row *row) {
-    static struct reading reading;
-    int status = reading_open(&reading, name, call->quiet);
+/* Takes the figures of a log, up to its end or its fault. A refused header counts nothing. */
+static int take_log(struct sheet *sheet, const char *name, bool quiet) {
+    struct lent lent;
+    int status = lent_open(&lent, name);
     if (status != STATUS_WELL) return status;
-    int refusal = reading_header(&reading);
-    if (refusal == RIME_DONE) {
-        status = count(&reading, row);
-        if (status == STATUS_REFUSED && !call->quiet) say_broken(&reading);
-    } else {
-        status = refusal < 0 ? STATUS_FILE : STATUS_REFUSED;
-        if (refusal > 0 && !call->quiet) say_refused(reading.name, "the log is", (unsigned)refusal);
+    uint64_t length = lent.count;
+    uint32_t figures[FIGURES], totals[FIGURES];
+    sheet->refusal = rime_sheet(lent.octets, lent.count, &length, 1, figures, FIGURES, totals);
+    if (sheet->refusal == RIME_DONE) {
+        struct row row;
+        for (unsigned at = 0; at < FIGURES; at++) row.of[at] = figures[at];
+        uint64_t records = row.of[SOUND_CELLS] + row.of[REFUSED_8] + row.of[REFUSED_9] + row.of[REFUSED_15] + row.of[REFUSED_20];
+        status = lent_end(&lent, records, quiet);
+        sheet_take(sheet, &row);
     }
-    reading_close(&reading);
+    lent_close(&lent);
     return status;
 }
 
@@ -77,13 +60,14 @@ int desk_sheet(int argc, char **argv) {
     argp_parse(&argp, argc, argv, 0, NULL, &call);
     int worst = STATUS_WELL;
     if (call.names.count > MOST_LOGS) sheet.refusal = TOO_MANY_LOGS;
+    progress_begin("logs", (uint64_t)call.names.count, call.quiet);
     for (int at = 0; at < call.names.count && sheet.refusal == RIME_DONE; at++) {
-        struct row row = {0};
-        int status = of_log(call.names.words[at], &call, &row);
+        int status = take_log(&sheet, call.names.words[at], call.quiet);
         if (status == STATUS_FILE) return status;
         if (status > worst) worst = status;
-        sheet_take(&sheet, &row);
+        progress_at((uint64_t)at + 1);
     }
+    progress_end();
     int status = sheet_print(&sheet);
     return printed(status > worst ? status : worst);
 }

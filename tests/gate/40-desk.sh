@@ -326,11 +326,10 @@ exec 7>&-
 # Memory: a buffer at a time, so that a long reading takes no more.
 gcc -O1 -std=c11 -D_GNU_SOURCE -Wall -Wextra -Werror "$here/tests/peak.c" -o peak
 sox long.wav long.wav long.wav long.wav long.wav longer.wav
-{ head -c 3 long.log; head -c $((49 * 500000)) /dev/zero; } > zeros.log
-for call in "send longer.wav longer.log" "receive longer.log longer-back.wav" "list longer.log" "sheet zeros.log" \
-    "anything zeros.log" "salvage longer.log longer-new.log"; do
+for call in "send longer.wav longer.log" "receive longer.log longer-back.wav" "list longer.log" \
+    "salvage longer.log longer-new.log"; do
     # shellcheck disable=SC2086
-    ./peak "$desk" $call -q 2> said > /dev/null || [ "$?" = 1 ] # of the zeros the answer is no
+    ./peak "$desk" $call -q 2> said > /dev/null
     held=$(sed 's/.* \([0-9]*\) KiB/\1/' said)
     [ "$held" -lt 16384 ] || fail "$call: $held KiB of memory"
     echo "desk: $call held $held KiB"
