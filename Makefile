@@ -24,6 +24,7 @@ help:
 	@echo '  make test             the gate: prove all from nothing, try the must-fail edits, run every test; some 12 minutes'
 	@echo '  make mutants          try the wrong programs of tests/mutants; CRATES="sender log" for some crates'
 	@echo '  make fuzz             compare N=1000000 calls with another implementation, from SEED=2; memory checks'
+	@echo '  make sheet-19         one sheet over 626 MB, which is refused 19, and over one record less, which is given'
 	@echo '  make desk-fuzz        spoiled logs through the desk tool, with memory checks'
 	@echo '  make desk-hour        a reading of one hour through the desk tool: time and memory'
 	@echo '  make bench            speed beside plain C: instructions and nanoseconds; ROWS=56-C2 for some rows'

@@ -92,6 +92,8 @@ enum {
     RIME_REFUSED_INDICATED = 15,  /* a cell that comes with indication 1 where its number isn't a multiple of 8 */
     RIME_REFUSED_PREAMBLES = 16,  /* the preambles of a frame aren't X then Y, or Z then Y */
     RIME_REFUSED_PARITY = 17,     /* odd parity over slots 4 to 31 in either half of a frame */
+    RIME_REFUSED_LOGS = 18,       /* a sheet over more than 4,096 logs */
+    RIME_REFUSED_TOTAL = 19,      /* a sheet with a total above 4,294,967,295 */
     RIME_REFUSED_COUNT = 20,      /* the count of cells placed would pass 4,294,967,295 */
     RIME_REFUSED_OUTPUT = 21,     /* an output of the salvage is shorter than what goes into it */
     RIME_REFUSED_PLAN = 22,       /* more than 64 circuits or 1,024 channels */
@@ -415,6 +417,35 @@ uint8_t rime_circuits_check(uint32_t format, uint32_t channels, uint32_t frequen
  * S times the circuits is below `channels`: nobody's plan could carry them.
  */
 uint8_t rime_circuits_plan(uint32_t format, uint32_t channels, uint32_t *shares, size_t shares_len);
+
+/* Places in a row of a sheet, and how many numbers a row has. */
+enum {
+    RIME_SHEET_SOUND = 0,
+    RIME_SHEET_MISSING = 1,
+    RIME_SHEET_REFUSED_8 = 2,
+    RIME_SHEET_REFUSED_9 = 3,
+    RIME_SHEET_REFUSED_15 = 4,
+    RIME_SHEET_REFUSED_20 = 5,
+    RIME_SHEET_MARKED_0 = 6,
+    RIME_SHEET_MARKED_1 = 7,
+    RIME_SHEET_MARKED_2 = 8,
+    RIME_SHEET_PER_MILLION = 9,
+    RIME_SHEET_ROW = 10
+};
+
+/*
+ * Draws up one sheet over many logs. They lie end to end in `octets`, and `lengths` has the octets of each. Each log is read
+ * up to its first framing fault by a fresh receiver with room; a refused header, as that of a log of no octets, counts
+ * nothing. A row has the cells sound, missing, and refused by 8, 9, 15 and 20, the samples marked 0, 1 and 2, and the missing
+ * cells per million of sound plus missing, rounded down, 0 where that sum is 0.
+ * Leaves a row a log in `rows`, RIME_SHEET_ROW numbers each, and in `totals` the row of all logs together, its per million
+ * worked out from its sound and missing. The sheet of two lists of logs joined has the rows of both, and the first nine
+ * numbers of its totals are the sums of theirs.
+ * Refused, with `rows` untouched and `totals` zeros: 18, more than 4,096 logs; 5, the lengths don't add up to `octets_len`, or
+ * `rows_len` isn't ten times `lengths_len`; 19, one of the first nine totals is above 4,294,967,295.
+ */
+uint8_t rime_sheet(const uint8_t *octets, size_t octets_len, const uint64_t *lengths, size_t lengths_len, uint32_t *rows,
+                   size_t rows_len, uint32_t totals[10]);
 
 #ifdef __cplusplus
 }

@@ -7,7 +7,7 @@
 # ROWS         a pattern that picks the benchmark's rows
 
 RIME_LIB ?= $(CURDIR)/target/staticlib
-RIME_PARTS ?= boxes,status,log,cable,units,circuits,management
+RIME_PARTS ?= boxes,status,log,cable,units,circuits,figures,management
 N ?= 1000000
 SEED ?= 2
 ROWS ?= .
@@ -33,7 +33,7 @@ BENCH_FLAGS := -O3 -std=gnu11 $(WARNINGS) -falign-functions=64 -falign-loops=32
 
 .PHONY: face-build face-test face-compare face-examples face-bindings face-archive fuzz
 .NOTPARALLEL:
-.PHONY: bench-build bench bench-count bench-table bench-keep bench-guard bench-list bench-anything fuzz-list
+.PHONY: bench-build bench bench-count bench-table bench-keep bench-guard bench-list bench-anything bench-sheet fuzz-list sheet-19
 
 # The archives of this repository are made anew where a source is newer, so that nothing is measured or compared that isn't in the
 # crates. Those of another folder are taken as they are.
@@ -153,6 +153,7 @@ bench-build: face-archive
 bench: bench-build
 	python3 bench/run.py target/bench/bench '$(ROWS)'
 	$(MAKE) --no-print-directory -f tests/face.mk bench-list bench-anything
+	$(MAKE) --no-print-directory -f tests/face.mk bench-sheet
 
 target/bench/plainlist: bench/plainlist.c
 	mkdir -p target/bench
@@ -167,6 +168,28 @@ target/bench/plainanything: bench/plainanything.c
 
 bench-anything: target/bench/plainanything
 	python3 bench/anything.py $(ANYTHING) target/bench/plainanything
+
+
+target/bench/sheet: bench/sheet.c bench/plainsheet.c bench/plainsheet.h include/rimesatchel.h $(ARCHIVE)
+	mkdir -p target/bench
+	gcc $(BENCH_FLAGS) -Iinclude -Ibench bench/sheet.c bench/plainsheet.c $(ARCHIVE) -o $@
+
+# One sheet over a log of 64 MiB. The log isn't kept.
+SHEET_OCTETS := 67108864
+
+bench-sheet: target/bench/sheet
+	python3 tests/long_log.py $(SHEET_OCTETS) > target/sheet.log
+	target/bench/sheet target/sheet.log
+	rm target/sheet.log
+
+# 19 met by one call: 12,782,642 records in one lent run of 626 MB, each after a gap of 14 but the first.
+target/bench/most: bench/most.c include/rimesatchel.h $(ARCHIVE)
+	mkdir -p target/bench
+	gcc $(BENCH_FLAGS) -Iinclude bench/most.c $(ARCHIVE) -o $@
+
+sheet-19: face-archive
+	$(MAKE) --no-print-directory -f tests/face.mk target/bench/most
+	target/bench/most
 
 bench-count: bench-build
 	python3 bench/run.py --count target/bench/bench '$(ROWS)'

@@ -13,9 +13,10 @@ It fails where a definition reached lies in a file of the code's words, or where
 for the base. A request raises it by the lines that its own sentences need: request 1 by 51 (import and export of a frame),
 request 13 by 89 (export and reading of data units), request 11 by 59 (the checker and the planner of circuits),
 request 5 by 47 (the count: its refusals, its place in demand 3, the sum over rows of calls), one walk through a log by 9
-(`receiver::judged`), request 14 by 1 (a list taken in pieces), request 9 by 224 (where the salvage gives 21 depends on what the
-receiver answers to each record of a log: the reading of a log and the receiver's whole answer; its own words are 25 of them),
-request 7 by 10 (whether there is anything in a log).
+(`receiver::judged`), request 14 by 2 (a list taken in pieces, and `text` in a place of its own), request 9 by 224 (where the salvage
+gives 21 depends on what the receiver answers to each record of a log: the reading of a log and the receiver's whole answer; its
+own words are 25 of them), request 7 by 10 (whether there is anything in a log), request 3 by 87 (19 speaks of totals over what
+the receiver hands out).
 
 How many lines more are reached by the page beside the demands, crates/line/proofs/Beyond.antt, is told too; MOST isn't about
 them.
@@ -32,7 +33,7 @@ START = ROOT / "line/proofs/Demands.antt"
 BEYOND = ROOT / "line/proofs/Beyond.antt"
 CODE = {"Code", "Packing", "Unpacking", "Marks", "Settings", "Sound", "Steps", "Taken", "Taking"}
 CONTRACTS = ("line", "Contracts")
-MOST = 1241
+MOST = 1328
 
 NAME = r"[^\s(){}\[\],;.:λ∷→«»\"]+"
 DECLARES = re.compile(rf"^(?:unfoldable |abbrev )?(?:pub )?(?:record |data )?({NAME})\s*(?:[:({{]|$)")

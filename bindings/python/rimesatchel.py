@@ -36,9 +36,10 @@ from ctypes import POINTER, c_bool, c_char_p, c_size_t, c_uint, c_uint8, c_uint3
 from typing import Any, Iterator, NamedTuple, Sequence
 
 __all__ = [
-    "VERSION", "Anything", "Block", "Deed", "Entry", "Fit", "Frame", "Handed", "Log", "Mark", "Pair", "Receiver", "Record",
-    "Refused", "Salvaged", "Sender", "Setup", "Status", "Units", "Verdict", "Writer", "anything", "check_character", "check_plan",
-    "controller", "equipment", "export_frame", "export_units", "import_frame", "listing", "plan", "read_unit", "salvage", "words",
+    "VERSION", "Anything", "Block", "Deed", "Entry", "Figures", "Fit", "Frame", "Handed", "Log", "Mark", "Pair", "Receiver",
+    "Record", "Refused", "Salvaged", "Sender", "Setup", "Sheet", "Status", "Units", "Verdict", "Writer", "anything",
+    "check_character", "check_plan", "controller", "equipment", "export_frame", "export_units", "import_frame", "listing", "plan",
+    "read_unit", "salvage", "sheet", "words",
 ]
 
 _OCTETS, _NUMBERS, _LONG = POINTER(c_uint8), POINTER(c_uint32), POINTER(c_uint64)
@@ -57,6 +58,7 @@ _ARGUMENTS: dict[str, list[Any]] = {
     "rime_log_list": [*_RUN8, *_RUN8, _LONG],
     "rime_anything": [*_RUN8, _LONG],
     "rime_salvage": [*_RUN8, *_RUN8, *_RUN64, _LONG],
+    "rime_sheet": [*_RUN8, *_RUN64, *_RUN32, _NUMBERS],
     "rime_aes3_import": [_OCTETS, _NUMBERS, _LONG, _OCTETS],
     "rime_aes3_export": [_LONG, _OCTETS, _OCTETS, _NUMBERS],
     "rime_units_export": [c_uint32, c_uint32, c_size_t, *_RUN64, *_RUN8, *_RUN8, _LONG],
@@ -391,6 +393,45 @@ def salvage(log: bytes) -> Salvaged:
     _call("rime_salvage", _octets(log), out, pairs, counts)
     octets, left, cut = counts
     return Salvaged(bytes(out.array[:octets]), list(zip(pairs.array[:2 * left:2], pairs.array[1:2 * left:2])), cut)
+
+
+class Figures(NamedTuple):
+    """The figures of a log or of all: cells sound, missing and refused by 8, 9, 15 and 20; entries marked 0, 1 and 2; missing cells
+    of a million sound and missing ones, rounded down."""
+
+    sound: int
+    missing: int
+    refused_8: int
+    refused_9: int
+    refused_15: int
+    refused_20: int
+    marked_0: int
+    marked_1: int
+    marked_2: int
+    missing_per_million: int
+
+
+class Sheet(NamedTuple):
+    """The figures of many logs: a row for each, and all together."""
+
+    rows: list[Figures]
+    all: Figures
+
+
+def sheet(logs: Sequence[bytes]) -> Sheet:
+    """Counts over up to 4,096 logs. Refused 18 or 19.
+
+    >>> writer, sender = Writer(Setup(0x56, 2)), Sender(Setup(0x56, 2))
+    >>> writer.push(sender.send([7] * 12))
+    >>> lost = sender.send([7] * 12)
+    >>> writer.push(sender.send([7] * 12))
+    >>> figures = sheet([writer.octets, b"no log"])
+    >>> figures.all.sound, figures.all.missing, figures.all.marked_2, figures.all.missing_per_million, figures.rows[1].sound
+    (2, 1, 12, 333333, 0)
+    """
+    rows, totals = _Lent(c_uint32, 10 * len(logs)), (c_uint32 * 10)()
+    _call("rime_sheet", _octets(b"".join(logs)), _Lent(c_uint64, [len(log) for log in logs]), rows, totals)
+    return Sheet([Figures(*rows.array[at:at + 10]) for at in range(0, len(rows.array), 10)], Figures(*totals))
 
 
 class Frame(NamedTuple):

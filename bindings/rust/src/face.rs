@@ -134,6 +134,15 @@ mod raw {
             answer: *mut [u32; 2],
         ) -> u8;
         pub fn rime_circuits_plan(format: u32, channels: u32, shares: *mut u32, shares_len: usize) -> u8;
+        pub fn rime_sheet(
+            octets: *const u8,
+            octets_len: usize,
+            lengths: *const u64,
+            lengths_len: usize,
+            rows: *mut u32,
+            rows_len: usize,
+            totals: *mut [u32; 10],
+        ) -> u8;
     }
 }
 
@@ -310,4 +319,9 @@ pub fn circuits_check(
 
 pub fn circuits_plan(format: u32, channels: u32, shares: &mut [u32]) -> u8 {
     unsafe { raw::rime_circuits_plan(format, channels, shares.as_mut_ptr(), shares.len()) }
+}
+
+pub fn sheet(octets: &[u8], lengths: &[u64], rows: &mut [u32], totals: &mut [u32; 10]) -> u8 {
+    let (octets_at, lengths_at, rows_at) = (octets.as_ptr(), lengths.as_ptr(), rows.as_mut_ptr());
+    unsafe { raw::rime_sheet(octets_at, octets.len(), lengths_at, lengths.len(), rows_at, rows.len(), totals) }
 }

@@ -47,7 +47,7 @@ pub use cable::{export_frame, import_frame, Frame, Pair};
 pub use network::{export_units, read_unit, Units};
 pub use plans::{check_plan, plan, Verdict};
 pub use status::{check_character, Block, Fit, Status};
-pub use tools::{anything, salvage, Anything, Salvaged};
+pub use tools::{anything, salvage, sheet, Anything, Figures, Salvaged, Sheet};
 
 use std::error::Error;
 use std::fmt;

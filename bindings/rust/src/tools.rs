@@ -1,4 +1,4 @@
-//! What is told of logs: whether there is anything on one, and what can be saved of it.
+//! What is told of logs: whether there is anything on one, what can be saved of it, and the figures of many.
 
 use crate::{face, unless_refused, Refusal};
 
@@ -68,4 +68,55 @@ pub fn salvage(log: &[u8]) -> Result<Salvaged, Refusal> {
     let pairs = list.chunks_exact(2).take(left as usize);
     let left_out = pairs.filter_map(|pair| Some((pair[0], Refusal::new(pair[1] as u8)?))).collect();
     unless_refused(refusal, Salvaged { log: out, left_out, cut })
+}
+
+/// The figures of a log, or of all.
+#[derive(Debug, Clone, Copy, PartialEq, Eq, Default)]
+pub struct Figures {
+    pub sound: u32,
+    pub missing: u32,
+    /// By the refusals 8, 9, 15 and 20.
+    pub refused: [u32; 4],
+    /// Entries with mark 0, 1 and 2.
+    pub marked: [u32; 3],
+    /// Missing cells of a million sound and missing ones, rounded down.
+    pub missing_per_million: u32,
+}
+
+impl Figures {
+    fn of([sound, missing, a, b, c, d, x, y, z, missing_per_million]: [u32; 10]) -> Figures {
+        Figures { sound, missing, refused: [a, b, c, d], marked: [x, y, z], missing_per_million }
+    }
+}
+
+/// The figures of many logs: a row for each, and all together.
+#[derive(Debug, Clone, PartialEq, Eq)]
+pub struct Sheet {
+    pub rows: Vec<Figures>,
+    pub all: Figures,
+}
+
+/// Counts over up to 4,096 logs. Refused 18 or 19.
+///
+/// ```
+/// use rimesatchel::{sheet, Sender, Setup, Writer};
+///
+/// let setup = Setup { format: 0x56, channels: 2, order: 0 };
+/// let (mut sender, mut writer) = (Sender::open(setup)?, Writer::new(setup)?);
+/// writer.push(&sender.send(&[7; 12], &[0; 12], false)?, false)?;
+/// sender.send(&[7; 12], &[0; 12], false)?; // the line loses this one
+/// writer.push(&sender.send(&[7; 12], &[0; 12], false)?, false)?;
+///
+/// let figures = sheet(&[writer.octets(), b"no log"])?;
+/// assert_eq!((figures.all.sound, figures.all.missing, figures.all.marked), (2, 1, [24, 0, 12]));
+/// assert_eq!(figures.all.missing_per_million, 333_333);
+/// assert_eq!(figures.rows[1].sound, 0);
+/// # Ok::<(), rimesatchel::Refusal>(())
+/// ```
+pub fn sheet(logs: &[&[u8]]) -> Result<Sheet, Refusal> {
+    let lengths: Vec<u64> = logs.iter().map(|log| log.len() as u64).collect();
+    let (mut rows, mut totals) = (vec![0; 10 * logs.len()], [0; 10]);
+    let refusal = face::sheet(&logs.concat(), &lengths, &mut rows, &mut totals);
+    let row = |numbers: &[u32]| Figures::of(std::array::from_fn(|at| numbers[at]));
+    unless_refused(refusal, Sheet { rows: rows.chunks_exact(10).map(row).collect(), all: Figures::of(totals) })
 }

@@ -36,11 +36,14 @@ fn number_in(cell: &[u8], at: usize, width: usize) -> u64
     number
 }
 
-// The subframe of a slot.
+// The subframe of a slot. With the width as a constant the compiler reads it without a loop.
 fn subframe_in(format: Format, cell: &[u8], slot: usize) -> u64
     requires { ⌜ Sound format × (length (now cell) ≡ 48) × (slot < format .slots) ⌝ }
     ensures { λ r. ⌜ (r ≡ subframeAt format (now (cell .entry)) slot) × (r < 2 ^ 48) ⌝ }
 {
+    if format.width == 4 {
+        return number_in(cell, slot * 4, 4);
+    }
     let width = format.width;
     number_in(cell, slot * width, width)
 }

@@ -5,7 +5,7 @@ use mathlib.Core.List.{List, [], _∷_, flatMap}
 use mathlib.Core.Path.{_≡_}
 use Prim.Native.Nat.{ℕ, _%_}
 use native.Mathlib.Nat.{le-trans}
-use lib.ListN.{length, take}
+use lib.ListN.{length, take, replicate}
 use Rattle.runs.specs.Runs.{over}
 use Rattle.formats.specs.Formats.{settingsRefusal}
 use Rattle.sender.specs.declared.Ready as SR
@@ -37,6 +37,8 @@ use Rattle.cable.specs.Frames.{importRefusal, exportRefusal}
 use Rattle.units.specs.Back.{ExportCall, exportTable, ExportedNothing, ReadCall, readTable, EnteredNothing}
 use Rattle.circuits.specs.declared.Verdict.{Verdict}
 use Rattle.circuits.specs.Circuits.{refusalOf, answerOf, circuitOf, octetRefusal, checkRefusal, planRefusalOf}
+use Rattle.figures.specs.declared.Answer.{Answer}
+use Rattle.figures.specs.Sheets.{sheetRefusal}
 use Rattle.line.specs.Contracts.{
   SendCall,
   MeetsSend,
@@ -64,6 +66,7 @@ use Rattle.line.specs.Contracts.{
   MeetsReadUnit,
   MeetsCheckCircuits,
   MeetsPlanCircuits,
+  MeetsSheet,
 }
 use Rattle.line.specs.Demands.{
   Refuses,
@@ -106,6 +109,7 @@ use Rattle.line.proofs.Refused.{
   reads-unit,
   checks-circuits,
   plans-circuits,
+  sheets,
 }
 
 -- 1. "Each public call takes arbitrary octets, numbers, run lengths and states, and ends with an answer. It refuses exactly where
@@ -209,6 +213,10 @@ demand-1-check-circuits = checks-circuits
 pub demand-1-plan-circuits : (octet channels : ℕ) (shares : List ℕ) (r : ℕ) (after : List ℕ) → MeetsPlanCircuits octet channels shares r after
     → Refuses r (planRefusalOf octet channels shares) (after ≡ shares)
 demand-1-plan-circuits = plans-circuits
+
+pub demand-1-sheet : (octets lengths rows : List ℕ) (r : Answer) (after : List ℕ) → MeetsSheet octets lengths rows r after
+    → Refuses (r .refusal) (sheetRefusal octets lengths (length rows)) ((r .totals ≡ replicate 10 0) × (after ≡ rows))
+demand-1-sheet = sheets
 
 -- 2. "Cells, number protection, data protection and placement are document 01's for every format listed."
 pub demand-2-cell : (s : SendCall) → MeetsSend s → s .answer .refusal ≡ 0 → IsDocument01's s

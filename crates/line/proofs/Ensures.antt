@@ -79,6 +79,8 @@ use Rattle.circuits.proofs.check.Kinds as check-circuits-kinds
 use Rattle.circuits.proofs.check.Reads as check-circuits-reads
 use Rattle.circuits.proofs.plan.Kinds as plan-circuits-kinds
 use Rattle.circuits.proofs.plan.Reads as plan-circuits-reads
+use Rattle.figures.proofs.sheet.Kinds as sheet-kinds
+use Rattle.figures.proofs.sheet.Reads as sheet-reads
 use Rattle.line.specs.Contracts.{
   MeetsSend,
   MeetsReceive,
@@ -105,6 +107,7 @@ use Rattle.line.specs.Contracts.{
   MeetsReadUnit,
   MeetsCheckCircuits,
   MeetsPlanCircuits,
+  MeetsSheet,
 }
 
 -- Whatever a function is called with (a), answers (x) and leaves in what was lent to it (v): where its `ensures` holds, so does
@@ -276,3 +279,7 @@ check-circuits-ensures κs a x v p = p
 pub plan-circuits-ensures : Ensured plan-circuits-kinds.ps plan-circuits-kinds.r plan-circuits-reads.Post
     (λ κs a x v. MeetsPlanCircuits (a .0) (a .1 .0) (now (a .1 .1 .0)) x (v .1 .1 .0))
 plan-circuits-ensures κs a x v p = p
+
+pub sheet-ensures : Ensured sheet-kinds.ps sheet-kinds.r sheet-reads.Post
+    (λ κs a x v. MeetsSheet (now (a .0)) (now (a .1 .0)) (now (a .1 .1 .0)) x (v .1 .1 .0))
+sheet-ensures κs a x v p = p

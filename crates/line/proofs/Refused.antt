@@ -6,7 +6,7 @@ use mathlib.Core.Path.{_≡_, refl, sym, _∙_, ap}
 use Prim.Native.Nat.{ℕ, _+_, _%_}
 use borrow.Author.Tests.{eqb-true}
 use lib.Dec.{eqb, leb, ltb}
-use lib.ListN.{length, getD, take}
+use lib.ListN.{length, getD, take, replicate}
 use Rattle.runs.specs.Runs.{over}
 use Rattle.runs.proofs.Laws.{split}
 use Rattle.formats.specs.Formats.{settingsRefusal}
@@ -47,6 +47,9 @@ use Rattle.units.proofs.Demand1 as units
 use Rattle.circuits.specs.declared.Verdict.{Verdict}
 use Rattle.circuits.specs.Circuits.{refusalOf, answerOf, circuitOf, octetRefusal, checkRefusal, planRefusalOf}
 use Rattle.circuits.proofs.Demand1 as circuits
+use Rattle.figures.specs.declared.Answer.{Answer}
+use Rattle.figures.specs.Sheets.{sheetRefusal}
+use Rattle.figures.proofs.Demand1 as figures
 use Rattle.line.specs.Contracts.{
   MeetsOpenSender,
   MeetsOpenReceiver,
@@ -66,6 +69,7 @@ use Rattle.line.specs.Contracts.{
   MeetsReadUnit,
   MeetsCheckCircuits,
   MeetsPlanCircuits,
+  MeetsSheet,
 }
 use Rattle.line.specs.Demands.{Refuses, JudgedNothing, SteppedNothing, recordTable, ReadNothing}
 
@@ -239,3 +243,8 @@ pub plans-circuits : (octet channels : ℕ) (shares : List ℕ) (r : ℕ) (after
     → Refuses r (planRefusalOf octet channels shares) (after ≡ shares)
 plans-circuits octet channels shares r after meets =
     let one = circuits.demand-1-plan octet channels shares r after meets in record { by-the-table = one .0; then-nothing = one .1 }
+
+pub sheets : (octets lengths rows : List ℕ) (r : Answer) (after : List ℕ) → MeetsSheet octets lengths rows r after
+    → Refuses (r .refusal) (sheetRefusal octets lengths (length rows)) ((r .totals ≡ replicate 10 0) × (after ≡ rows))
+sheets octets lengths rows r after meets =
+    let one = figures.demand-1-sheet octets lengths rows r after meets in record { by-the-table = one .0; then-nothing = one .1 }

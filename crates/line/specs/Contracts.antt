@@ -40,6 +40,8 @@ use Rattle.units.specs.Back as U
 use Rattle.units.specs.Back.{ExportCall, ReadCall}
 use Rattle.circuits.specs.declared.Verdict.{Verdict}
 use Rattle.circuits.specs.Circuits.{checkedOf, Plans}
+use Rattle.figures.specs.declared.Answer.{Answer}
+use Rattle.figures.specs.Sheets.{Sheets}
 
 -- a call of `send` and what it left
 pub record SendCall : Type 0 where
@@ -154,3 +156,7 @@ MeetsCheckCircuits octet channels frequency shares allowances r = r ≡ checkedO
 
 abbrev pub MeetsPlanCircuits : ℕ → ℕ → List ℕ → ℕ → List ℕ → Type 0
 MeetsPlanCircuits octet channels shares r after = Plans octet channels shares r after
+
+-- `sheet`, of many logs
+abbrev pub MeetsSheet : List ℕ → List ℕ → List ℕ → Answer → List ℕ → Type 0
+MeetsSheet octets lengths rows r after = Sheets octets lengths rows r after

@@ -20,6 +20,7 @@ use Rattle.pieces.specs.Limit.{Part, head, whole, refused, broken, done, endPar
 use Rattle.pieces.specs.Steps.{takingOf, Steps, foundParts}
 use Rattle.pieces.specs.Taken.{Taking, handed, endFault, endParts}
 use Rattle.pieces.proofs.Walks.{Along, along-start, along-turn, along-end, turn-on}
+pub use Rattle.pieces.proofs.Walks.{found-room}
 use Rattle.text.specs.declared.Put.{Put}
 use Rattle.listing.specs.declared.Listing.{Listing}
 use Rattle.listing.specs.declared.Printed.{Printed}

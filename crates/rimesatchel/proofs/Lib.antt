@@ -16,5 +16,7 @@ pub mod PlansOne
 pub mod PlansWrong
 pub mod SalvagesOne
 pub mod SalvagesWrong
+pub mod SheetsOne
+pub mod SheetsWrong
 pub mod StatusesOne
 pub mod Wrong

@@ -6,4 +6,5 @@ pub mod Logs
 pub mod Network
 pub mod Plans
 pub mod Salvages
+pub mod Sheets
 pub mod Statuses

@@ -7,4 +7,5 @@ mod logs; // logs.rt: a log's header and records
 mod network; // network.rt: data units for the other network, out and back
 mod plans; // plans.rt: sharing channels out over circuits
 mod salvages; // salvages.rt: the salvage of a log
+mod sheets; // sheets.rt: one sheet over many logs
 mod statuses; // statuses.rt: a step of channel status, and the check character

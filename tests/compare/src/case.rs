@@ -22,6 +22,7 @@ pub enum Kind {
     LinelistLimit,
     Anything,
     Salvage,
+    Sheet,
     Aes3Import,
     Aes3Export,
     Equipment,
@@ -39,7 +40,7 @@ impl Kind {
 }
 
 /// Kind, name, and the fields in and out: n a number, r a run of numbers or a state, o octets.
-const KINDS: [(Kind, &str, &str, &str); 24] = [
+const KINDS: [(Kind, &str, &str, &str); 25] = [
     (Kind::SenderOpen, "sender_open", "nnnnnn", "nr"),
     (Kind::ReceiverOpen, "receiver_open", "nnn", "nr"),
     (Kind::Send, "send", "rnrro", "nro"),
@@ -56,6 +57,7 @@ const KINDS: [(Kind, &str, &str, &str); 24] = [
     (Kind::LinelistLimit, "linelist_limit", "on", "o"),
     (Kind::Anything, "anything", "o", "nnn"),
     (Kind::Salvage, "salvage", "oor", "nornnn"),
+    (Kind::Sheet, "sheet", "orn", "nrr"),
     (Kind::Aes3Import, "aes3_import", "or", "nrr"),
     (Kind::Aes3Export, "aes3_export", "rr", "nor"),
     (Kind::Equipment, "equipment", "ooo", "noonnnn"),

@@ -6,6 +6,7 @@
 mod boxes;
 mod cable;
 mod circuits;
+mod figures;
 mod inputs;
 mod line;
 mod log;
@@ -75,7 +76,7 @@ impl Referee<'_> {
 
 fn play(scenario: u64, seed: u64, referee: &mut Referee) -> Played {
     let mut random = Random::for_scenario(seed, scenario);
-    match random.below(93) {
+    match random.below(96) {
         0..=3 => boxes::open_sender(&mut random, referee),
         4..=6 => boxes::open_receiver(&mut random, referee),
         7..=22 => boxes::one_send(&mut random, referee),
@@ -96,6 +97,7 @@ fn play(scenario: u64, seed: u64, referee: &mut Referee) -> Played {
         85 => circuits::plan(&mut random, referee),
         86..=88 => log::anything(&mut random, referee),
         89..=92 => log::salvage(&mut random, referee),
+        93..=95 => figures::sheet(&mut random, referee),
         _ => status::check(&mut random, referee),
     }
 }

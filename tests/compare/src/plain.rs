@@ -11,6 +11,7 @@ mod circuits;
 mod log;
 mod management;
 mod salvage;
+mod sheet;
 mod status;
 mod units;
 
@@ -21,6 +22,7 @@ pub use circuits::{check_plan, plan, Fault};
 pub use log::{anything, header, listing, listing_to, put_header, put_record, record, Anything, Record};
 pub use management::{controller, equipment};
 pub use salvage::salvage;
+pub use sheet::sheet;
 pub use status::{check_character, step, Block, Character};
 pub use units::{export_units, read_unit};
 

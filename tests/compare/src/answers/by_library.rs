@@ -30,6 +30,7 @@ pub fn by_library(case: &Case) -> Option<Answer> {
         Kind::UnitRead if cfg!(feature = "units") => unit_read(case),
         Kind::CircuitsCheck if cfg!(feature = "circuits") => circuits_check(case),
         Kind::CircuitsPlan if cfg!(feature = "circuits") => circuits_plan(case),
+        Kind::Sheet if cfg!(feature = "figures") => sheet(case),
         _ => None,
     }
 }
@@ -248,4 +249,16 @@ fn circuits_plan(case: &Case) -> Option<Answer> {
     let mut shares = Fenced::around(&narrow(case.run(2))?, u32::MAX);
     let refusal = face::circuits_plan(format, channels, shares.lent());
     Some(values![u64::from(refusal), &wide(&shares.back())[..]])
+}
+
+/// The rows are told where the sheet is given, and where a refused one has touched them.
+fn sheet(case: &Case) -> Option<Answer> {
+    let before = vec![0x5A5A_5A5A; case.number(2) as usize];
+    let mut rows = Fenced::around(&before, u32::MAX);
+    let mut totals = [7; 10];
+    let refusal = face::sheet(case.octets(0), case.run(1), rows.lent(), &mut totals);
+    let after = rows.back();
+    let stays = refusal != 0 && after == before;
+    let told = if stays { vec![] } else { wide(&after) };
+    Some(values![u64::from(refusal), &told[..], &wide(&totals)[..]])
 }

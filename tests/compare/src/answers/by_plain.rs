@@ -30,6 +30,7 @@ pub fn by_plain(case: &Case) -> Answer {
         Kind::LinelistLimit => values![plain::listing_to(case.octets(0), case.number(1)).as_bytes()],
         Kind::Anything => anything(case),
         Kind::Salvage => salvage(case),
+        Kind::Sheet => sheet(case),
         Kind::Aes3Import => aes3_import(case),
         Kind::Aes3Export => aes3_export(case),
         Kind::UnitsExport => units_export(case),
@@ -169,6 +170,14 @@ fn salvage(case: &Case) -> Answer {
             values![0, &out[..], &list[..], octets, left_out, saved.cut as u64]
         }
         Err(refusal) => values![u64::from(refusal), &out[..], &list[..], 0, 0, 0],
+    }
+}
+
+/// No rows where it is refused: the run stays.
+fn sheet(case: &Case) -> Answer {
+    match plain::sheet(case.octets(0), case.run(1), case.number(2) as usize) {
+        Ok(sheet) => values![0, &sheet.rows.concat()[..], &sheet.totals[..]],
+        Err(refusal) => values![u64::from(refusal), &[0u64; 0][..], &[0u64; 10][..]],
     }
 }
 

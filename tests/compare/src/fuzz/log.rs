@@ -30,7 +30,7 @@ fn header(random: &mut Random) -> (Vec<u8>, [u64; 3]) {
     (log, numbers)
 }
 
-fn log(random: &mut Random) -> Vec<u8> {
+pub fn log(random: &mut Random) -> Vec<u8> {
     let (mut log, [format, channels, order]) = header(random);
     let Ok(shape) = Shape::new(format, channels, order) else { return log };
     let mut number = random.below(16);

@@ -1,0 +1,11 @@
+pub mod Adds
+pub mod Cells
+pub mod Demand1
+pub mod Going
+pub mod Laws
+pub mod Marks
+pub mod Most
+pub mod One
+pub mod Refusals
+pub mod Walks
+pub mod Wrong

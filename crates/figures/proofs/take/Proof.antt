@@ -1,0 +1,43 @@
+-- `figures::take` meets its contract. The loop goes along the piece; the measure is what is left of it.
+-- Assumes nothing.
+use mathlib.Core.Path.{_≡_, sym, _∙_, ap}
+use Prim.Native.Nat.{_-_}
+use native.Mathlib.Omega.{arith}
+use borrow.Author.Needs.{needs}
+use lib.ListN.{length}
+use Rattle.pieces.proofs.Walks.{found-room}
+use Rattle.figures.proofs.Walks.{Going, going-start, going-turn, going-on, going-end}
+use Rattle.figures.proofs.take.Statement.{statement}
+use Rattle.figures.proofs.take.Tie as tie
+
+abbrev Inv-loop : tie.InvT-loop
+Inv-loop held₀ piece standing₀ noted₀ place₀ held standing noted place =
+    Going (record { standing = standing₀; noted = noted₀ }) held₀ piece standing noted held place
+
+abbrev μ-loop : tie.MeasureT-loop
+μ-loop held₀ piece standing₀ noted₀ place₀ held standing noted place = length piece - place
+
+loop-holds : tie.Need-loop-holds Inv-loop μ-loop
+loop-holds c = let sized = c .before .before .sized .ensures in going-start (ap length (sym (sized .0)) ∙ sized .1)
+
+step-requires : tie.Need-step-requires Inv-loop μ-loop
+step-requires c κs two = found-room (c .before .next .ensures) two
+
+loop-less : tie.Need-loop-less Inv-loop μ-loop
+loop-less c =
+    let at-next = c .before .before .before in
+    let at-test = at-next .before .before in
+    omega (arith, going-on (at-test .before .loop .inv) (at-test .loop-test .taken) (at-next .next .ensures))
+
+loop-again : tie.Need-loop-again Inv-loop μ-loop
+loop-again c =
+    let at-next = c .before .before .before in
+    let at-test = at-next .before .before in
+    going-turn (at-test .before .loop .inv) (at-test .loop-test .taken) (at-next .next .ensures) (c .before .step .ensures)
+
+returns : tie.Need-returns Inv-loop μ-loop
+returns c = going-end (c .before .loop .inv) (c .loop-test .left)
+
+pub take-spec : {M : Type 1} → statement M
+take-spec = tie.close (tie.spec Inv-loop μ-loop (search needs) loop-holds (search needs) step-requires loop-less loop-again
+    returns)

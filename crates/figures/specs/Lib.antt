@@ -1,0 +1,4 @@
+pub mod Code
+pub mod Figures
+pub mod Sheets
+pub mod Taking
