@@ -1,3 +1,4 @@
+pub mod Answers
 pub mod Beyond
 pub mod Bound
 pub mod Calls

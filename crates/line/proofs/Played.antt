@@ -111,7 +111,7 @@ calls-miss st [] = refl
 calls-miss st (r ∷ rs) = ap (λ (n : ℕ). hear st r .answer .missing + n) (calls-miss (onward (hear st r)) rs)
 
 -- a run that is given (missing + 1) times C×T entries
-length-given : (st : Receiver) (r : Whole) (read : ℕ → ℕ) (v : ℕ) → hear st r .answer .refusal ≡ 0
+pub length-given : (st : Receiver) (r : Whole) (read : ℕ → ℕ) (v : ℕ) → hear st r .answer .refusal ≡ 0
     → length (given st r (R.entriesNow read v st (r .cell))) ≡ (hear st r .answer .missing + 1) * R.usedNow st
 unfolding hear given R.judgedOf R.entriesGiven R.entriesNow entriesOf
 length-given st r read v ok =

@@ -8,20 +8,21 @@ use native.Mathlib.Nat.{suc-ne-zero, le-trans}
 use native.Mathlib.Omega.{arith}
 use borrow.Author.Tests.{eq-eqb, ne-eqb}
 use lib.Dec.{eqb}
-use lib.ListN.{length, replicate}
+use lib.ListN.{length, take, replicate}
 use Rattle.runs.proofs.Laws.{split, both-true}
 use Rattle.sender.specs.Sender as S
 use Rattle.receiver.specs.declared.Receiver.{Receiver}
 use Rattle.receiver.specs.Receiver as R
 use Rattle.reading.specs.Heard.{Heard, hear, onward, heardFrom, isSound, keptOf}
 use Rattle.reading.specs.Reading.{readingOf}
-use Rattle.reading.specs.Records.{Whole, Framed}
+use Rattle.reading.specs.Records.{Whole, Framed, octetsIn}
 use Rattle.reading.specs.Totals as T
 use Rattle.reading.specs.Totals.{totalOf, countOf, those}
 use Rattle.reading.proofs.Heard.{all-arrived, arrived-is}
 use Rattle.reading.proofs.Totals.{total-joined}
 use Rattle.listing.specs.Lines.{formatLine, endLine}
 use Rattle.listing.specs.List.{linesOf}
+use Rattle.saving.specs.Salvage.{newLog}
 use Rattle.line.specs.Contracts.{SendCall, MeetsSend, ReceiveCall}
 use Rattle.line.specs.Line.{
   Sending,
@@ -404,7 +405,7 @@ module _ (st : Receiver) (trips : List Trip) (none : st .count ≡ 0)
         }
 
 pub tools-tell : ToolsTell 3 14 4294967295 MeetsSend
-unfolding ToolsTell
+unfolding ToolsTell newLog
 tools-tell st sends trips log with-overhead row these within fair few is =
     let fresh = R.openState (st .format) (st .channels) (st .order) in
     let came = arrivals trips in
@@ -424,4 +425,5 @@ tools-tell st sends trips log with-overhead row these within fair few is =
           ∙ (λ i.
           formatLine (st .format) (st .channels) (st .order)
           ++ (linesOf 0 (readingOf log .heard) ++ endLine (story .sound i) (story .missing i) (story .refused i)));
+      salvage = ap (λ (ws : List Whole). take 3 log ++ octetsIn ws) (story .kept);
     }

@@ -1,3 +1,4 @@
+pub mod Answers
 pub mod Cases
 pub mod Contracts
 pub mod Demands

@@ -11,10 +11,11 @@ use Rattle.sender.specs.declared.Sender.{Sender}
 use Rattle.log.specs.declared.keep.Kept.{Kept}
 use Rattle.reading.specs.Heard.{Heard, soundIn, missingIn, refusedIn, refusedWith, markedWith, keptOf}
 use Rattle.reading.specs.Reading.{readingOf}
-use Rattle.reading.specs.Records.{Whole}
+use Rattle.reading.specs.Records.{Whole, octetsIn}
 use Rattle.reading.specs.Totals.{totalOf, countOf, those}
 use Rattle.listing.specs.Lines.{formatLine, endLine}
 use Rattle.listing.specs.List.{linesOf, listOf}
+use Rattle.saving.specs.Salvage.{newLog}
 use Rattle.line.specs.Contracts.{SendCall, MeetsWriteHeader, MeetsWriteRecord}
 use Rattle.line.specs.Line.{
   Row,
@@ -124,7 +125,7 @@ pub record TellsStory (trips : List Trip) (heard : List Heard) : Type 0 where
   pub anything : countOf soundNotZero (flatMap placesHeard heard)
       ≡ countOf notZero (flatMap (λ t. t .sent .samples) (those isUnaltered trips))
 
--- and what the log itself is read as: no fault, and the list's end line
+-- and what the log itself is read as: no fault, the list's end line, and what salvage makes of it
 pub record ToldBy (st : Sender) (trips : List Trip) (log : List ℕ) : Type 0 where
   pub header : readingOf log .header .refusal ≡ 0
   pub no-fault : readingOf log .fault ≡ 0
@@ -134,6 +135,7 @@ pub record ToldBy (st : Sender) (trips : List Trip) (log : List ℕ) : Type 0 wh
       ++ (linesOf 0 (readingOf log .heard)
       ++ endLine (countOf isUnaltered trips) (countOf (λ t. isLost (t .fate)) (toLast (fromFirst trips)))
       (totalOf (λ t. spoiledTimes (t .fate)) trips + totalOf (λ t. copies (t .fate)) trips))
+  pub salvage : newLog log ≡ take 3 log ++ octetsIn (map firstDelivery (those isUnaltered trips))
 
 -- what holds of every such log "under demand 3's conditions (copies included)"
 abbrev pub OfALog : ℕ → ℕ → ℕ → (SendCall → Type 0) → (Sender → List Trip → List ℕ → Type 0) → Type 0
