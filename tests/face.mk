@@ -86,7 +86,8 @@ $(EXAMPLES)/management-c: examples/c/management.c include/rimesatchel.h include/
 
 $(EXAMPLES)/management-c-asan: examples/c/management.c include/rimesatchel.h include/rime_management.h $(ARCHIVE) $(MANAGEMENT)
 	mkdir -p $(EXAMPLES)
-	gcc -g -O1 -std=c99 -fsanitize=address,undefined -fno-sanitize-recover=all $(WARNINGS) -Iinclude $< $(ARCHIVE) $(MANAGEMENT) -o $@
+	gcc -g -O1 -std=c99 -fsanitize=address,undefined -fno-sanitize-recover=all $(WARNINGS) -Iinclude $< $(ARCHIVE) \
+	    $(MANAGEMENT) -o $@
 
 # Not through a pipe, which would hide a program that prints the right words and then fails.
 define prints-expected

@@ -396,8 +396,8 @@ def salvage(log: bytes) -> Salvaged:
 
 
 class Figures(NamedTuple):
-    """The figures of a log or of all: cells sound, missing and refused by 8, 9, 15 and 20; entries marked 0, 1 and 2; missing cells
-    of a million sound and missing ones, rounded down."""
+    """The figures of a log or of all: cells sound, missing and refused by 8, 9, 15 and 20; entries marked 0, 1 and 2; missing
+    cells of a million sound and missing ones, rounded down."""
 
     sound: int
     missing: int

@@ -100,8 +100,8 @@ pub fn walk(random: &mut Random, referee: &mut Referee) -> Played {
     Ok(())
 }
 
-/// A log that is often silent: cells of zeros with sound protection, in some of them one entry that may be anything. Its marks, its
-/// unused slots and what the line does to a cell may look like sound.
+/// A log that is often silent: cells of zeros with sound protection, in some of them one entry that may be anything. Its
+/// marks, its unused slots and what the line does to a cell may look like sound.
 fn silent_log(random: &mut Random) -> Vec<u8> {
     let (mut log, [format, channels, order]) = header(random);
     let Ok(shape) = Shape::new(format, channels, order) else { return log };
