@@ -1,26 +1,74 @@
 export LC_ALL := C
 
-.PHONY: all help test mutants tables reading demo
+PREFIX ?= /usr/local
+DESTDIR ?=
+PROGRAMS := $(filter $(notdir $(wildcard crates/*)),linelist anything salvage sheet)
+
+.PHONY: all help programs demo lib examples install test mutants tables reading clean
 
 all:
-	rt check
+	@echo 'Proves every crate that changed and builds the programs: some 6 minutes from nothing, on two cores. `make help` has more.'
+	@bash tools/prove.sh check
 
 help:
-	@echo 'make                    prove every crate that changed, and build the programs'
-	@echo 'make demo               build linelist and list an example log'
-	@echo 'make test               the gate: prove all from nothing, try the must-fail edits, run every test'
-	@echo 'make mutants            try the wrong programs of tests/mutants; CRATES="sender log" for some crates'
-	@echo 'make fuzz               compare N=1000000 calls with another implementation, from SEED=2; memory checks'
-	@echo 'make sheet-19           one sheet over 626 MB, which is refused 19, and over one record less, which is given'
-	@echo 'make bench              speed beside plain C: instructions and nanoseconds; ROWS=56-C2 for some rows'
-	@echo 'make bench-count        the same, instructions alone'
-	@echo 'make bench-table        write the tables of docs/SPEED.md anew: instructions'
-	@echo 'make bench-keep         write the guarded rows of bench/instructions.txt anew'
-	@echo 'bash bench/trial.sh     instructions of the crates as they stand, without proving them'
-	@echo 'make tables             write the tables of crates/tables and crates/guards anew'
-	@echo 'make reading            count the lines that must be read to trust the demands'
+	@echo 'to use it'
+	@echo '  make demo             a reading made on the spot into a log, some cells lost, and back; without the proof: seconds'
+	@echo '  make desk             build the desk tool over the proved library: target/desk/rimesatchel'
+	@echo '  make programs         prove and build the programs: $(PROGRAMS); some 4 minutes from nothing, on two cores'
+	@echo '  make lib              prove and build the archive and the shared library: some 6 minutes from nothing'
+	@echo '  make examples         build and run the examples in C, Rust and Python'
+	@echo '  make install          header, archive, shared library, programs, pkg-config file, man pages; PREFIX=/usr/local'
+	@echo '  make clean            remove all that was built'
+	@echo 'to work on it'
+	@echo '  make                  prove every crate that changed, and build the programs'
+	@echo '  make test             the gate: prove all from nothing, try the must-fail edits, run every test; some 12 minutes'
+	@echo '  make mutants          try the wrong programs of tests/mutants; CRATES="sender log" for some crates'
+	@echo '  make fuzz             compare N=1000000 calls with another implementation, from SEED=2; memory checks'
+	@echo '  make sheet-19         one sheet over 626 MB, which is refused 19, and over one record less, which is given'
+	@echo '  make desk-fuzz        spoiled logs through the desk tool, with memory checks'
+	@echo '  make desk-hour        a reading of one hour through the desk tool: time and memory'
+	@echo '  make bench            speed beside plain C: instructions and nanoseconds; ROWS=56-C2 for some rows'
+	@echo '  make bench-count      the same, instructions alone'
+	@echo '  make bench-table      write the tables of docs/SPEED.md anew: instructions'
+	@echo '  make bench-keep       write the guarded rows of bench/instructions.txt anew'
+	@echo '  bash bench/trial.sh   instructions of the crates as they stand, without proving them'
+	@echo '  make tables           write the tables of crates/tables and crates/guards anew'
+	@echo '  make reading          count the lines that must be read to trust the demands'
+
+include tests/face.mk
+include desk/desk.mk
+
+programs: $(PROGRAMS:%=target/bin/%)
+	@echo 'programs: $^'
+
+$(PROGRAMS:%=target/bin/%) &: $(SOURCES)
+	@echo 'Proves and builds $(PROGRAMS): some 4 minutes from nothing, on two cores.'
+	@bash tools/prove.sh check $(PROGRAMS)
+
+lib: $(ARCHIVE) $(MANAGEMENT) $(SHARED) $(SHARED_MANAGEMENT)
+	@echo 'library: $(^:$(CURDIR)/%=%)'
+
+examples: face-examples
+
+# Only what stands in target/ is copied: an install as root proves and builds nothing.
+install:
+	@for file in $(ARCHIVE) $(MANAGEMENT) $(SHARED) $(SHARED_MANAGEMENT) $(PROGRAMS:%=target/bin/%); do \
+	    [ -e $$file ] || { echo "install: $$file isn't there: make lib programs" >&2; exit 1; }; \
+	done
+	install -d $(DESTDIR)$(PREFIX)/bin $(DESTDIR)$(PREFIX)/include $(DESTDIR)$(PREFIX)/lib/pkgconfig \
+	    $(DESTDIR)$(PREFIX)/lib/python3/dist-packages $(DESTDIR)$(PREFIX)/share/man/man1
+	install -m 644 include/rimesatchel.h include/rime_management.h $(DESTDIR)$(PREFIX)/include
+	install -m 644 $(ARCHIVE) $(MANAGEMENT) $(DESTDIR)$(PREFIX)/lib
+	install -m 755 $(SHARED) $(SHARED_MANAGEMENT) $(DESTDIR)$(PREFIX)/lib
+	install -m 755 $(PROGRAMS:%=target/bin/%) $(wildcard target/desk/rimesatchel) $(DESTDIR)$(PREFIX)/bin
+	install -m 644 bindings/python/rimesatchel.py $(DESTDIR)$(PREFIX)/lib/python3/dist-packages
+	install -m 644 $(PROGRAMS:%=man/%.1) $(wildcard desk/*.1) $(DESTDIR)$(PREFIX)/share/man/man1
+	for name in rimesatchel rime_management; do \
+	    sed 's,@PREFIX@,$(PREFIX),; s,@VERSION@,$(VERSION),' bindings/$$name.pc.in > $(DESTDIR)$(PREFIX)/lib/pkgconfig/$$name.pc; \
+	done
 
 test:
+	@echo 'The gate: some 12 minutes on two cores with nothing beside it.'
 	.ci/run
 
 mutants:
@@ -32,8 +80,5 @@ tables:
 reading:
 	python3 tools/reading.py
 
-include tests/face.mk
-
-demo:
-	rt check linelist
-	target/bin/linelist < examples/reading.log
+clean:
+	rm -rf target bindings/python/__pycache__

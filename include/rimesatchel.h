@@ -7,9 +7,9 @@
  *
  * Every function but rime_check_character and rime_receiver_placed returns a refusal number, RIME_DONE (0) where there
  * is none. A call never does half of its work. A refusal leaves every lent run and the state as they were, and fills
- * `report`, `out` of rime_status_step, `header`, `record`, `counts`, `units`, `*entries`, `answer` or the two entries or
- * halves of a frame with zeros; an opening that is refused fills `state` with zeros, which is itself refused 1. Where
- * several refusals apply, the first in the order of the list at each function is given.
+ * `report`, `out` of rime_status_step, `header`, `record`, `*next`, `counts`, `units`, `*entries`, `answer` or the two
+ * entries or halves of a frame with zeros; an opening that is refused fills `state` with zeros, which is itself refused 1.
+ * Where several refusals apply, the first in the order of the list at each function is given.
  *
  * Lent memory: a run is a pointer and the number of its entries. A pointer is never NULL (a run of no entries may
  * point anywhere else), and no two arguments of one call overlap.
@@ -20,6 +20,9 @@
 #include <stdbool.h>
 #include <stddef.h>
 #include <stdint.h>
+
+/* What this header and its archive are, for a caller that asks: they belong together. */
+#define RIME_VERSION "1.0"
 
 #ifdef __cplusplus
 extern "C" {
@@ -36,6 +39,9 @@ enum {
     RIME_STATUS_OCTETS = 24,
     RIME_HEADER = 4,
     RIME_RECORD = 4,
+    RIME_HEADER_OCTETS = 3,       /* of a log's header, as rime_log_put_header writes it */
+    RIME_RECORD_OCTETS = 49,      /* of a record: the indication, then the cell */
+    RIME_LISTED = 2,
     RIME_COUNTS = 3,
     RIME_UNITS = 3,
     RIME_ANSWER = 2,
@@ -98,6 +104,44 @@ enum {
     RIME_REFUSED_BLOCKS = 29,     /* the B bits of a frame's halves differ */
     RIME_REFUSED_CIRCUITS = 30    /* S times the circuits is below the channels */
 };
+
+/* What a refusal number means, in words that a user can be shown. Never NULL, whatever the number. */
+static inline const char *rime_refusal_text(unsigned number) {
+    switch (number) {
+    case 0: return "done";
+    case 1: return "there is no such format";
+    case 2: return "there are no channels, or more than slots";
+    case 3: return "the order is above 1";
+    case 4: return "a state or start number cannot be";
+    case 5: return "a cell or a run has the wrong length";
+    case 6: return "a sample or an ancillary number is too large";
+    case 7: return "the indication may be 1 only where the number is a multiple of 8";
+    case 8: return "the cell's number is damaged";
+    case 9: return "the cell has the number of the last one";
+    case 10: return "the runs have too little room";
+    case 11: return "a number or an indication in the log is wrong";
+    case 12: return "a record of the log is cut";
+    case 13: return "the log is too long";
+    case 14: return "a channel status input cannot be";
+    case 15: return "the cell came with indication 1, and its number isn't a multiple of 8";
+    case 16: return "the preambles of the frame are neither X then Y nor Z then Y";
+    case 17: return "the parity of the frame is odd";
+    case 18: return "there are more than 4,096 logs";
+    case 19: return "a total would pass 4,294,967,295";
+    case 20: return "the count of cells placed would pass 4,294,967,295";
+    case 21: return "there is too little room for the new log or its list";
+    case 22: return "there are more than 64 circuits or 1,024 channels";
+    case 23: return "the sampling frequency is 0 or above 1,000,000";
+    case 24: return "the message has no octets";
+    case 25: return "the answer has too little room";
+    case 26: return "the format has overhead, and can't leave in data units";
+    case 27: return "a data unit is too small for one frame";
+    case 28: return "there is too little room for the data units";
+    case 29: return "a block begins in one half of the frame and not in the other";
+    case 30: return "the circuits are too few for the channels";
+    default: return "there is no such refusal";
+    }
+}
 
 /* Places in a sender's state. The three yes-or-no octets here and below: 0 is no, any other octet is yes. */
 enum {
@@ -239,6 +283,33 @@ uint8_t rime_log_header(const uint8_t *log, size_t log_len, uint32_t header[RIME
  * before the 48 octets do.
  */
 uint8_t rime_log_record(const uint8_t *log, size_t log_len, size_t place, uint64_t record[RIME_RECORD]);
+
+/*
+ * Writes a log's header at the start of `log`: three octets, the rest stays. Leaves in `*next` the place after it, where
+ * the first record goes.
+ * Refused, with `log` untouched and `*next` 0: 1, 2 and 3, as for an opening; then 11, `log` is shorter than the header.
+ */
+uint8_t rime_log_put_header(uint8_t *log, size_t log_len, uint32_t format, uint32_t channels, uint32_t order,
+                            uint64_t *next);
+
+/*
+ * Writes a record at `place` of a log: the indication, then the cell's 48 octets; all else stays. Leaves in `*next` the
+ * place after it, where the next record goes. The log need not be there from its start: a caller that writes it to a
+ * file may lend 49 octets and place 0 for each record.
+ * Refused, with `log` untouched and `*next` 0: 5, `cell` isn't 48 octets; then 12, `log` has not 49 octets from `place`.
+ */
+uint8_t rime_log_put_record(uint8_t *log, size_t log_len, size_t place, const uint8_t *cell, size_t cell_len,
+                            bool indication, uint64_t *next);
+
+/* Places in what rime_log_list says. */
+enum { RIME_LISTED_OCTETS = 0, RIME_LISTED_WHOLE = 1 };
+
+/*
+ * Writes the list of a log, the text that the program linelist prints, from the start of `run` as far as it goes; what
+ * is past it stays. Leaves in `listed` how many octets were written, and 1 where they are the whole list, else 0.
+ * Refuses nothing and returns 0: a log that can't be read has a list that says so.
+ */
+uint8_t rime_log_list(const uint8_t *log, size_t log_len, uint8_t *run, size_t run_len, uint64_t listed[RIME_LISTED]);
 
 /*
  * Is there anything on it at all? Reads the records of a log, as a fresh receiver with room hands them out, up to the

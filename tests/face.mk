@@ -18,6 +18,9 @@ COMPARE := target/compare/release/compare
 LINELIST := target/bin/linelist
 ANYTHING := target/bin/anything
 EXAMPLES := target/examples
+SHARED := target/lib/librimesatchel.so
+SHARED_MANAGEMENT := target/lib/libmanagement.so
+VERSION := $(shell sed -n 's/^.define RIME_VERSION "\(.*\)"/\1/p' include/rimesatchel.h)
 GATE_CALLS := 400000
 GATE_SEED := 1
 # Fewer than N: memcheck is slow.
@@ -28,12 +31,20 @@ WARNINGS := -Wall -Wextra
 # Aligned, the baseline doesn't change by where the linker happens to place its loops.
 BENCH_FLAGS := -O3 -std=gnu11 $(WARNINGS) -falign-functions=64 -falign-loops=32
 
-.PHONY: face-build face-test face-compare face-examples face-archive fuzz
+.PHONY: face-build face-test face-compare face-examples face-bindings face-archive fuzz
+.NOTPARALLEL:
 .PHONY: bench-build bench bench-count bench-table bench-keep bench-guard bench-list bench-anything bench-sheet fuzz-list sheet-19
 
-# Proves again only what changed, so that nothing is measured or compared that isn't in the crates.
-face-archive:
-	@test "$(RIME_LIB)" != "$(CURDIR)/target/staticlib" || { rt staticlib rimesatchel && rt staticlib management; }
+# The archives of this repository are made anew where a source is newer, so that nothing is measured or compared that isn't in the
+# crates. Those of another folder are taken as they are.
+SOURCES := $(shell find crates -name '*.rt' -o -name '*.antt') crates.txt
+ifeq ($(RIME_LIB),$(CURDIR)/target/staticlib)
+$(ARCHIVE) $(MANAGEMENT): $(RIME_LIB)/lib%.a: $(SOURCES)
+	@echo 'Proves $* and what it needs, and writes its archive: some 5 minutes from nothing, on two cores.'
+	@bash tools/prove.sh staticlib $*
+endif
+
+face-archive: $(ARCHIVE) $(MANAGEMENT)
 
 face-compare:
 	RIMESATCHEL_LIB=$(RIME_LIB) cargo build --quiet --offline --locked --release --no-default-features \
@@ -47,17 +58,27 @@ $(EXAMPLES)/handover-c-asan: examples/c/handover.c include/rimesatchel.h $(ARCHI
 	mkdir -p $(EXAMPLES)
 	gcc -g -O1 -std=c99 -fsanitize=address,undefined -fno-sanitize-recover=all $(WARNINGS) -Iinclude $< $(ARCHIVE) -o $@
 
-$(EXAMPLES)/handover-rust: examples/rust/handover.rs examples/rust/rimesatchel.rs tests/compare/src/face.rs $(ARCHIVE)
+RUST_SOURCES := $(wildcard bindings/rust/src/*.rs) bindings/rust/build.rs bindings/rust/Cargo.toml include/rimesatchel.h
+
+$(EXAMPLES)/handover-rust: examples/rust/handover.rs examples/rust/Cargo.toml $(RUST_SOURCES) $(ARCHIVE)
 	mkdir -p $(EXAMPLES)
-	rustc --edition 2021 -O -D warnings -L native=$(RIME_LIB) -l static=rimesatchel $< -o $@
+	RIMESATCHEL_LIB=$(RIME_LIB) cargo build --quiet --offline --locked --release --manifest-path examples/rust/Cargo.toml \
+	    --target-dir target/compare
+	cp target/compare/release/handover $@
 
 $(EXAMPLES)/cast-c: examples/c/cast.c include/rimesatchel.h $(ARCHIVE)
 	mkdir -p $(EXAMPLES)
 	gcc -O2 -std=c99 $(WARNINGS) -pedantic -Iinclude $< $(ARCHIVE) -o $@
 
-$(EXAMPLES)/librimesatchel.so: $(ARCHIVE)
-	mkdir -p $(EXAMPLES)
-	gcc -shared -Wl,--whole-archive $(ARCHIVE) -Wl,--no-whole-archive -o $@
+# Beside the archive the shared library has the header's words, for callers that can't read a header.
+$(SHARED): $(ARCHIVE) bindings/words.c include/rimesatchel.h
+	mkdir -p target/lib
+	gcc -O2 -std=c99 $(WARNINGS) -shared -fPIC -Iinclude bindings/words.c -Wl,--whole-archive $(ARCHIVE) \
+	    -Wl,--no-whole-archive -o $@
+
+$(SHARED_MANAGEMENT): $(MANAGEMENT)
+	mkdir -p target/lib
+	gcc -shared -Wl,--whole-archive $(MANAGEMENT) -Wl,--no-whole-archive -o $@
 
 $(EXAMPLES)/management-c: examples/c/management.c include/rimesatchel.h include/rime_management.h $(ARCHIVE) $(MANAGEMENT)
 	mkdir -p $(EXAMPLES)
@@ -65,7 +86,8 @@ $(EXAMPLES)/management-c: examples/c/management.c include/rimesatchel.h include/
 
 $(EXAMPLES)/management-c-asan: examples/c/management.c include/rimesatchel.h include/rime_management.h $(ARCHIVE) $(MANAGEMENT)
 	mkdir -p $(EXAMPLES)
-	gcc -g -O1 -std=c99 -fsanitize=address,undefined -fno-sanitize-recover=all $(WARNINGS) -Iinclude $< $(ARCHIVE) $(MANAGEMENT) -o $@
+	gcc -g -O1 -std=c99 -fsanitize=address,undefined -fno-sanitize-recover=all $(WARNINGS) -Iinclude $< $(ARCHIVE) \
+	    $(MANAGEMENT) -o $@
 
 # Not through a pipe, which would hide a program that prints the right words and then fails.
 define prints-expected
@@ -73,21 +95,28 @@ $(1) > $(EXAMPLES)/printed
 diff examples/$(2).expected $(EXAMPLES)/printed
 endef
 
-face-examples: $(EXAMPLES)/handover-c $(EXAMPLES)/handover-rust $(EXAMPLES)/librimesatchel.so $(EXAMPLES)/management-c \
+face-examples: $(EXAMPLES)/handover-c $(EXAMPLES)/handover-rust $(SHARED) $(EXAMPLES)/management-c \
     $(EXAMPLES)/cast-c
 	$(call prints-expected,$(EXAMPLES)/handover-c,handover)
 	$(call prints-expected,$(EXAMPLES)/handover-rust,handover)
-	$(call prints-expected,python3 examples/python/handover.py $(EXAMPLES)/librimesatchel.so,handover)
+	$(call prints-expected,python3 examples/python/handover.py,handover)
 	$(call prints-expected,$(EXAMPLES)/management-c,management)
 	$(call prints-expected,$(EXAMPLES)/cast-c,cast)
-	$(call prints-expected,python3 examples/python/cast.py $(EXAMPLES)/librimesatchel.so,cast)
+	$(call prints-expected,python3 examples/python/cast.py,cast)
 	@echo "examples: C, Rust and Python print what is expected"
 
-# Everything that links the archive. The gate builds it while `rt ci` goes on.
-face-build: face-compare $(EXAMPLES)/handover-c $(EXAMPLES)/handover-rust $(EXAMPLES)/librimesatchel.so $(EXAMPLES)/cast-c \
-    target/bench/bench
+# The pages of the bindings, as tests.
+face-bindings: $(ARCHIVE) $(SHARED) $(SHARED_MANAGEMENT)
+	RIMESATCHEL_LIB=$(RIME_LIB) cargo test --quiet --offline --locked --doc --manifest-path bindings/rust/Cargo.toml \
+	    --target-dir target/compare > $(EXAMPLES)/doc-tests 2>&1 || { cat $(EXAMPLES)/doc-tests; exit 1; }
+	cd bindings/python && python3 -m doctest rimesatchel.py
+	@echo "bindings: the pages of the Rust crate and of the Python module say what is so"
 
-face-test: face-compare face-examples
+# Everything that links the archive. The gate builds it while `rt ci` goes on.
+face-build: face-compare $(EXAMPLES)/handover-c $(EXAMPLES)/handover-rust $(SHARED) $(SHARED_MANAGEMENT) \
+    $(EXAMPLES)/cast-c $(EXAMPLES)/management-c target/bench/bench
+
+face-test: face-compare face-examples face-bindings
 	$(COMPARE) vectors tests/vectors $(LINELIST)
 	$(COMPARE) story
 	$(COMPARE) fuzz $(GATE_CALLS) $(GATE_SEED) $(LINELIST)

@@ -10,31 +10,6 @@
 enum { FORMAT = 0x56, CHANNELS = 2, TIMES = 6, ENTRIES = CHANNELS * TIMES, ROOM = 15 * ENTRIES };
 enum { CELLS = 4, LOST = 1, SPOILED = 3 };
 
-/* What each refusal number means. */
-static const char *const reasons[] = {
-    "done",
-    "the format is none of the fourteen",
-    "there are no channels, or more than slots",
-    "the order is above 1",
-    "a state or start number cannot be",
-    "a cell or a run has the wrong length",
-    "a sample or an ancillary number is too large",
-    "the indication may be 1 only where the number is a multiple of 8",
-    "the cell's number is damaged",
-    "the cell has the number of the last one",
-    "the runs have too little room",
-    "a number or an indication in the log is wrong",
-    "a record of the log is cut",
-    "the log is too long",
-    "a channel status input cannot be",
-    "the cell came with indication 1, and its number isn't a multiple of 8",
-    "the preambles of a frame aren't X then Y, or Z then Y",
-    "the parity of a subframe is odd",
-    "not given here",
-    "not given here",
-    "the count of cells placed would pass 4,294,967,295",
-};
-
 /* What is answered of a channel status block, by RIME_STATUS_NONE, _DOES_NOT_FIT, _FITS and _NONE_CARRIED. */
 static const char *const answers[] = {"neither", "doesn't fit", "fits", "none carried"};
 
@@ -51,7 +26,7 @@ static const char *on_the_line(unsigned cell) {
 }
 
 static void say_refused(const char *what, uint8_t refusal) {
-    printf("%s: refused %u, %s.\n", what, refusal, reasons[refusal]);
+    printf("%s: refused %u, %s.\n", what, refusal, rime_refusal_text(refusal));
 }
 
 static void print_entries(const struct runs *runs, unsigned cells) {

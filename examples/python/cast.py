@@ -1,60 +1,50 @@
 """A cast of 60 in 56 hex at 48,000 samples a second: which circuits it takes, and what the checker says.
 
-Prints what the example in C prints. Usage: cast.py LIBRARY, a shared library made from librimesatchel.a.
+Prints what the example in C prints. Usage: python3 examples/python/cast.py, after `make lib`.
 """
 
+import pathlib
 import sys
-from ctypes import CDLL, POINTER, c_size_t, c_uint8, c_uint32
+
+sys.path.insert(0, str(pathlib.Path(__file__).resolve().parents[2] / "bindings" / "python"))
+try:
+    from rimesatchel import Refused, check_plan, plan
+except ImportError as missing:
+    sys.exit(f"cast.py: {missing}")
 
 FORMAT, CAST, FREQUENCY = 0x56, 60, 48000
-ANSWERS = ["refused", "yes", "no, the share of circuit", "no, the allowance of circuit", "no, the sum"]
-
-NUMBERS = POINTER(c_uint32)
-ARGUMENTS = {
-    "rime_circuits_check": [c_uint32, c_uint32, c_uint32, NUMBERS, c_size_t, NUMBERS, c_size_t, NUMBERS],
-    "rime_circuits_plan": [c_uint32, c_uint32, NUMBERS, c_size_t],
-}
+ANSWERS = {"yes": "yes", "share": "no, the share of circuit", "allowance": "no, the allowance of circuit", "sum": "no, the sum"}
 
 
-def load(path):
-    library = CDLL(path)
-    for name, arguments in ARGUMENTS.items():
-        function = getattr(library, name)
-        function.argtypes, function.restype = arguments, c_uint8
-    return library
+def planned_over(circuits):
+    """The refusal's number, and the shares."""
+    try:
+        return 0, plan(FORMAT, CAST, circuits)
+    except Refused as refused:
+        return refused.number, []
 
 
-def run_of(numbers):
-    return (c_uint32 * len(numbers))(*numbers)
-
-
-def plan(library, circuits):
-    """The refusal, and the shares."""
-    shares = run_of([0] * circuits)
-    return library.rime_circuits_plan(FORMAT, CAST, shares, circuits), list(shares)
-
-
-def check(library, shares, allowances):
-    answer = (c_uint32 * 2)()
-    lent, allowed = run_of(shares), run_of(allowances)
-    refusal = library.rime_circuits_check(FORMAT, CAST, FREQUENCY, lent, len(lent), allowed, len(allowed), answer)
-    said = [ANSWERS[answer[0]]] + [str(refusal)] * (refusal != 0) + [str(answer[1])] * (answer[0] in (2, 3))
+def check(shares, allowances):
     print("shares", *shares)
     print("allowances", *allowances)
+    try:
+        verdict = check_plan(FORMAT, CAST, FREQUENCY, shares, allowances)
+        said = [ANSWERS[verdict.answer]] + [verdict.circuit] * (verdict.circuit is not None)
+    except Refused as refused:
+        said = ["refused", refused.number]
     print("the checker:", *said, end="\n\n")
 
 
 def main():
-    library = load(sys.argv[1])
-    print("planned over four circuits: refused", plan(library, 4)[0])
-    refusal, planned = plan(library, 6)
+    print("planned over four circuits: refused", planned_over(4)[0])
+    refusal, planned = planned_over(6)
     print("planned over six circuits: refused", refusal)
     print("shares", *planned, end="\n\n")
-    check(library, planned[:5], [48000] * 5)
-    check(library, planned, [48000] * 6)
-    check(library, planned[:5], [48000, 48000, 24000, 48000, 48000])
-    check(library, [12, 12, 6, 12, 12, 6], [48000, 48000, 24000, 48000, 48000, 24000])
-    check(library, [12, 12, 6, 12, 12, 5], [48000, 48000, 24000, 48000, 48000, 24000])
+    check(planned[:5], [48000] * 5)
+    check(planned, [48000] * 6)
+    check(planned[:5], [48000, 48000, 24000, 48000, 48000])
+    check([12, 12, 6, 12, 12, 6], [48000, 48000, 24000, 48000, 48000, 24000])
+    check([12, 12, 6, 12, 12, 5], [48000, 48000, 24000, 48000, 48000, 24000])
 
 
 if __name__ == "__main__":

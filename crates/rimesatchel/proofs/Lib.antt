@@ -1,8 +1,12 @@
 pub mod BoxesOne
+pub mod Bytes
 pub mod ContentsOne
 pub mod ContentsWrong
 pub mod FramesOne
 pub mod FramesWrong
+pub mod KeptLaws
+pub mod KeptOne
+pub mod KeptWrong
 pub mod Leaves
 pub mod LogsOne
 pub mod NetworkLeaves

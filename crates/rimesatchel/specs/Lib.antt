@@ -1,6 +1,7 @@
 pub mod Boxes
 pub mod Contents
 pub mod Frames
+pub mod Kept
 pub mod Logs
 pub mod Network
 pub mod Plans

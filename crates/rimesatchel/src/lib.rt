@@ -2,6 +2,7 @@
 mod boxes; // boxes.rt: opening and sending, opening and receiving
 mod contents; // contents.rt: what a log holds
 mod frames; // frames.rt: frames of an AES3 cable
+mod kept; // kept.rt: writing a log, and the list of one
 mod logs; // logs.rt: a log's header and records
 mod network; // network.rt: data units for the other network, out and back
 mod plans; // plans.rt: sharing channels out over circuits

@@ -15,6 +15,9 @@ pub enum Kind {
     CheckCharacter,
     ReadHeader,
     ReadRecord,
+    PutHeader,
+    PutRecord,
+    LogList,
     Linelist,
     LinelistLimit,
     Anything,
@@ -37,7 +40,7 @@ impl Kind {
 }
 
 /// Kind, name, and the fields in and out: n a number, r a run of numbers or a state, o octets.
-const KINDS: [(Kind, &str, &str, &str); 22] = [
+const KINDS: [(Kind, &str, &str, &str); 25] = [
     (Kind::SenderOpen, "sender_open", "nnnnnn", "nr"),
     (Kind::ReceiverOpen, "receiver_open", "nnn", "nr"),
     (Kind::Send, "send", "rnrro", "nro"),
@@ -47,6 +50,9 @@ const KINDS: [(Kind, &str, &str, &str); 22] = [
     (Kind::CheckCharacter, "check_character", "o", "n"),
     (Kind::ReadHeader, "read_header", "o", "nnnnn"),
     (Kind::ReadRecord, "read_record", "on", "nnnnn"),
+    (Kind::PutHeader, "put_header", "onnn", "non"),
+    (Kind::PutRecord, "put_record", "onon", "non"),
+    (Kind::LogList, "log_list", "oo", "nonn"),
     (Kind::Linelist, "linelist", "o", "o"),
     (Kind::LinelistLimit, "linelist_limit", "on", "o"),
     (Kind::Anything, "anything", "o", "nnn"),

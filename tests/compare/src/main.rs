@@ -3,15 +3,13 @@
 mod answers;
 mod archive;
 mod case;
-mod face;
 mod fuzz;
-#[cfg(feature = "management")]
-mod management_face;
 mod plain;
 mod random;
 mod story;
 mod vectors;
 
+use rimesatchel::face;
 use std::error::Error;
 use std::io::{Read, Write};
 use std::path::Path;

@@ -19,7 +19,7 @@ pub use boxes::{Receiver, Sender};
 pub use cable::{export_frame, import_frame};
 pub use cells::Shape;
 pub use circuits::{check_plan, plan, Fault};
-pub use log::{anything, header, listing, listing_to, record, Anything, Record};
+pub use log::{anything, header, listing, listing_to, put_header, put_record, record, Anything, Record};
 pub use management::{controller, equipment};
 pub use salvage::salvage;
 pub use sheet::sheet;

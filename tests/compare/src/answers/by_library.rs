@@ -19,6 +19,9 @@ pub fn by_library(case: &Case) -> Option<Answer> {
         Kind::ReadRecord if cfg!(feature = "log") => read_record(case),
         Kind::Anything if cfg!(feature = "log") => anything(case),
         Kind::Salvage if cfg!(feature = "log") => salvage(case),
+        Kind::PutHeader if cfg!(feature = "log") => put_header(case),
+        Kind::PutRecord if cfg!(feature = "log") => put_record(case),
+        Kind::LogList if cfg!(feature = "log") => log_list(case),
         Kind::Aes3Import if cfg!(feature = "cable") => aes3_import(case),
         Kind::Aes3Export if cfg!(feature = "cable") => aes3_export(case),
         Kind::Equipment => management::equipment_by_library(case),
@@ -176,6 +179,26 @@ fn salvage(case: &Case) -> Option<Answer> {
     let mut answer = values![u64::from(refusal), &out.back()[..], &list.back()[..]];
     answer.extend(counts.map(Value::Number));
     Some(answer)
+}
+
+fn put_header(case: &Case) -> Option<Answer> {
+    let settings = narrow_array(&[case.number(1), case.number(2), case.number(3)])?;
+    let (mut log, mut next) = (Fenced::around(case.octets(0), LEFT_OVER), u64::MAX);
+    let refusal = face::log_put_header(log.lent(), settings, &mut next);
+    Some(values![u64::from(refusal), &log.back()[..], next])
+}
+
+fn put_record(case: &Case) -> Option<Answer> {
+    let place = usize::try_from(case.number(1)).ok()?;
+    let (mut log, mut next) = (Fenced::around(case.octets(0), LEFT_OVER), u64::MAX);
+    let refusal = face::log_put_record(log.lent(), place, case.octets(2), case.yes(3), &mut next);
+    Some(values![u64::from(refusal), &log.back()[..], next])
+}
+
+fn log_list(case: &Case) -> Option<Answer> {
+    let (mut run, mut listed) = (Fenced::around(case.octets(1), LEFT_OVER), [u64::MAX; 2]);
+    let refusal = face::log_list(case.octets(0), run.lent(), &mut listed);
+    Some(values![u64::from(refusal), &run.back()[..], listed[0], listed[1]])
 }
 
 fn aes3_import(case: &Case) -> Option<Answer> {

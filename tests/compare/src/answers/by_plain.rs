@@ -17,6 +17,13 @@ pub fn by_plain(case: &Case) -> Answer {
         Kind::CheckCharacter => values![u64::from(plain::check_character(&case.octets(0)[..23]))],
         Kind::ReadHeader => read_header(case),
         Kind::ReadRecord => read_record(case),
+        Kind::PutHeader => {
+            put(case.octets(0), plain::put_header(case.octets(0), case.number(1), case.number(2), case.number(3)))
+        }
+        Kind::PutRecord => {
+            put(case.octets(0), plain::put_record(case.octets(0), case.number(1), case.octets(2), case.yes(3)))
+        }
+        Kind::LogList => log_list(case),
         Kind::Equipment => management::equipment_by_plain(case),
         Kind::Controller => management::controller_by_plain(case),
         Kind::Linelist => values![plain::listing(case.octets(0)).as_bytes()],
@@ -172,6 +179,22 @@ fn sheet(case: &Case) -> Answer {
         Ok(sheet) => values![0, &sheet.rows.concat()[..], &sheet.totals[..]],
         Err(refusal) => values![u64::from(refusal), &[0u64; 0][..], &[0u64; 10][..]],
     }
+}
+
+/// What writing into a log leaves: the log as it was where it was refused.
+fn put(log: &[u8], written: Result<(Vec<u8>, usize), Refusal>) -> Answer {
+    match written {
+        Ok((after, next)) => values![0, &after[..], next as u64],
+        Err(refusal) => values![u64::from(refusal), log, 0],
+    }
+}
+
+/// The list as far as the run goes.
+fn log_list(case: &Case) -> Answer {
+    let (text, run) = (plain::listing(case.octets(0)), case.octets(1));
+    let listed = text.len().min(run.len());
+    let after = [&text.as_bytes()[..listed], &run[listed..]].concat();
+    values![0, &after[..], listed as u64, listed == text.len()]
 }
 
 fn aes3_import(case: &Case) -> Answer {

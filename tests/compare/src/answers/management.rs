@@ -30,7 +30,7 @@ pub fn controller_by_plain(case: &Case) -> Answer {
 mod by_library {
     use super::super::by_library::{Fenced, LEFT_OVER};
     use crate::case::{values, Answer, Case, Value};
-    use crate::management_face as face;
+    use rimesatchel::management as face;
 
     pub fn equipment(case: &Case) -> Option<Answer> {
         let mut ports = Fenced::around(case.octets(0), LEFT_OVER);

@@ -63,8 +63,31 @@ fn read_record(log: &[u8], place: u64, referee: &mut Referee) -> Result<Option<u
     Ok(is_cell.then(|| answer[4].number()))
 }
 
+/// A header and a record written somewhere, now and then without room; a list into a run that may be too short.
+fn put(log: &[u8], random: &mut Random, referee: &mut Referee) -> Played {
+    let mut numbers = setup(random);
+    if random.one_in(3) {
+        let field = random.place(3);
+        numbers[field] = wrong_number(numbers[field], random);
+    }
+    let [format, channels, order] = numbers;
+    let room = if random.one_in(4) { random.place(5) } else { log.len() };
+    referee.call(Case::new(Kind::PutHeader, values![&log[..room.min(log.len())], format, channels, order]))?;
+    let cell = vec![random.number() as u8; random.pick(&[48, 48, 48, 48, 47, 49, 0])];
+    let length = log.len() as u64;
+    let end = length.saturating_sub(49);
+    let place = random.pick(&[0, 3, end, end + 1, length, length + 1, u64::MAX, u64::MAX - 48]);
+    referee.call(Case::new(Kind::PutRecord, values![log, place, &cell[..], random.one_in(2)]))?;
+    let run = vec![b'#'; random.pick(&[0, 1, 14, 15, 200, 20_000])];
+    referee.call(Case::new(Kind::LogList, values![log, &run[..]]))?;
+    Ok(())
+}
+
 pub fn walk(random: &mut Random, referee: &mut Referee) -> Played {
     let log = log(random);
+    if random.one_in(4) {
+        put(&log, random, referee)?;
+    }
     let answer = referee.call(Case::new(Kind::ReadHeader, values![&log[..]]))?;
     let mut next = Some(answer[1].number());
     while let Some(place) = next {
@@ -77,8 +100,8 @@ pub fn walk(random: &mut Random, referee: &mut Referee) -> Played {
     Ok(())
 }
 
-/// A log that is often silent: cells of zeros with sound protection, in some of them one entry that may be anything. Its marks, its
-/// unused slots and what the line does to a cell may look like sound.
+/// A log that is often silent: cells of zeros with sound protection, in some of them one entry that may be anything. Its
+/// marks, its unused slots and what the line does to a cell may look like sound.
 fn silent_log(random: &mut Random) -> Vec<u8> {
     let (mut log, [format, channels, order]) = header(random);
     let Ok(shape) = Shape::new(format, channels, order) else { return log };

@@ -52,6 +52,26 @@ pub fn record(log: &[u8], place: u64) -> Result<Record, Refusal> {
     Ok(Record::Cell { indication: indication == 1, start, next: start + CELL_OCTETS })
 }
 
+/// Octets written at a place, and the place after them; refused where the log ends before they do.
+fn put(log: &[u8], place: u64, octets: &[u8], cut: Refusal) -> Result<(Vec<u8>, usize), Refusal> {
+    let room = (log.len() as u64).checked_sub(place).ok_or(cut)?;
+    refuse_if(room < octets.len() as u64, cut)?;
+    let (start, next) = (place as usize, place as usize + octets.len());
+    Ok(([&log[..start], octets, &log[next..]].concat(), next))
+}
+
+/// "First three numbers: subframe octet, C, order", each in its shortest form. No setting that is taken needs two groups.
+pub fn put_header(log: &[u8], format: u64, channels: u64, order: u64) -> Result<(Vec<u8>, usize), Refusal> {
+    Shape::new(format, channels, order)?;
+    put(log, 0, &[format as u8, channels as u8, order as u8], 11)
+}
+
+/// "Then per cell: the indication, 0 or 1, and 48 octets."
+pub fn put_record(log: &[u8], place: u64, cell: &[u8], indication: bool) -> Result<(Vec<u8>, usize), Refusal> {
+    refuse_if(cell.len() != CELL_OCTETS, 5)?;
+    put(log, place, &[&[u8::from(indication)], cell].concat(), 12)
+}
+
 /// Whether a log has a sample marked 0 that isn't zero: the first record with one, or how many whole records were read.
 pub enum Anything {
     Yes { record: u64 },

@@ -1,18 +1,14 @@
 -- `rimesatchel::logs::rime_log_record` meets its contract: it says what `log::reader::read` says.
 -- Assumes nothing.
-use mathlib.Core.Bool.{Bool, true, false, cond}
 use mathlib.Core.List.{[], _∷_}
-use mathlib.Core.Path.{_≡_, refl, _∙_, ap}
+use mathlib.Core.Path.{_≡_, _∙_, ap}
 use mir.Val.{boolByte}
 use Rattle.log.specs.declared.Record.{Record}
 use Rattle.rimesatchel.specs.Logs.{recordNumbers}
+use Rattle.rimesatchel.proofs.Bytes.{byte-of}
 use borrow.Author.Needs.{needs}
 use Rattle.rimesatchel.proofs.logs.rime_log_record.Statement.{statement}
 use Rattle.rimesatchel.proofs.logs.rime_log_record.Tie as tie
-
-byte-of : (b : Bool) → boolByte b ≡ cond b 1 0
-byte-of true = refl
-byte-of false = refl
 
 as-numbers : (r : Record) → r .what ∷ boolByte (r .indication) ∷ r .start ∷ r .next ∷ [] ≡ recordNumbers r
 as-numbers r = rw (byte-of (r .indication))

@@ -1,0 +1,571 @@
+"""The proved sender and receiver of spoken-book readings over ATM cells (IEC 62365), and what stands beside them.
+
+The library is librimesatchel.so, which `make lib` writes. It is looked for in the folder that RIMESATCHEL_LIB names, in the
+repository's target/lib, beside an installed copy of this module, and where the system looks for libraries. What is answered is
+the library's own answer. A call that is refused does nothing and raises Refused, which has the number and its words.
+
+56 hex is 24-bit samples; two channels in order 0 are six times two samples a cell:
+
+>>> setup = Setup(0x56, 2, 0)
+>>> sender, receiver = Sender(setup), Receiver(setup)
+>>> samples = list(range(12))
+>>> receiver.receive(sender.send(samples)).missing
+0
+>>> lost, cell = sender.send(samples), sender.send(samples)
+>>> handed = receiver.receive(cell)
+>>> handed.number, handed.missing, len(handed.entries)
+(2, 1, 24)
+>>> handed.entries[0], handed.entries[13]
+(Entry(sample=0, ancillary=0, mark=<Mark.MISSING: 2>), Entry(sample=1, ancillary=0, mark=<Mark.SOUND: 0>))
+>>> receiver.placed
+3
+>>> receiver.receive(cell)
+Traceback (most recent call last):
+rimesatchel.Refused: refused 9, the cell has the number of the last one
+
+What each call keeps to is written in include/rimesatchel.h, and the rules behind it in docs/RULES.md.
+"""
+
+from __future__ import annotations
+
+import ctypes
+import enum
+import os
+import pathlib
+from ctypes import POINTER, c_bool, c_char_p, c_size_t, c_uint, c_uint8, c_uint32, c_uint64
+from typing import Any, Iterator, NamedTuple, Sequence
+
+__all__ = [
+    "VERSION", "Anything", "Block", "Deed", "Entry", "Figures", "Fit", "Frame", "Handed", "Log", "Mark", "Pair", "Receiver",
+    "Record", "Refused", "Salvaged", "Sender", "Setup", "Sheet", "Status", "Units", "Verdict", "Writer", "anything",
+    "check_character", "check_plan", "controller", "equipment", "export_frame", "export_units", "import_frame", "listing", "plan",
+    "read_unit", "salvage", "sheet", "words",
+]
+
+_OCTETS, _NUMBERS, _LONG = POINTER(c_uint8), POINTER(c_uint32), POINTER(c_uint64)
+_RUN8, _RUN32, _RUN64 = [_OCTETS, c_size_t], [_NUMBERS, c_size_t], [_LONG, c_size_t]
+_SETTINGS = [c_uint32, c_uint32, c_uint32]
+_ARGUMENTS: dict[str, list[Any]] = {
+    "rime_sender_open": [*_SETTINGS, c_uint32, c_bool, c_uint32, _OCTETS],
+    "rime_send": [_OCTETS, c_bool, *_RUN64, *_RUN8, *_RUN8],
+    "rime_receiver_open": [*_SETTINGS, _OCTETS],
+    "rime_receive": [_OCTETS, *_RUN8, c_bool, *_RUN64, *_RUN8, *_RUN8, _OCTETS],
+    "rime_status_step": [_OCTETS, c_uint8, c_uint8, _OCTETS],
+    "rime_log_header": [*_RUN8, _NUMBERS],
+    "rime_log_record": [*_RUN8, c_size_t, _LONG],
+    "rime_log_put_header": [*_RUN8, *_SETTINGS, _LONG],
+    "rime_log_put_record": [*_RUN8, c_size_t, *_RUN8, c_bool, _LONG],
+    "rime_log_list": [*_RUN8, *_RUN8, _LONG],
+    "rime_anything": [*_RUN8, _LONG],
+    "rime_salvage": [*_RUN8, *_RUN8, *_RUN64, _LONG],
+    "rime_sheet": [*_RUN8, *_RUN64, *_RUN32, _NUMBERS],
+    "rime_aes3_import": [_OCTETS, _NUMBERS, _LONG, _OCTETS],
+    "rime_aes3_export": [_LONG, _OCTETS, _OCTETS, _NUMBERS],
+    "rime_units_export": [c_uint32, c_uint32, c_size_t, *_RUN64, *_RUN8, *_RUN8, _LONG],
+    "rime_unit_read": [c_uint32, c_uint32, *_RUN8, *_RUN64, *_RUN8, _LONG],
+    "rime_circuits_check": [*_SETTINGS, *_RUN32, *_RUN32, _NUMBERS],
+    "rime_circuits_plan": [c_uint32, c_uint32, *_RUN32],
+    "rime_equipment": [*_RUN8, *_RUN8, *_RUN8, _LONG],
+    "rime_controller": [*_RUN8, *_RUN8],
+}
+
+
+def _load(name: str) -> ctypes.CDLL:
+    """The shared library of this name, from the first folder that has it."""
+    here = pathlib.Path(__file__).resolve().parent
+    named = os.environ.get("RIMESATCHEL_LIB")
+    folders = [pathlib.Path(named)] if named else []
+    folders += [here.parent.parent / "target" / "lib", *list(here.parents)[:3]]
+    for folder in folders:
+        if (folder / name).exists():
+            return ctypes.CDLL(str(folder / name))
+    try:
+        return ctypes.CDLL(name)
+    except OSError:
+        raise ImportError(f"{name} isn't there: `make lib` writes it; RIMESATCHEL_LIB may name its folder") from None
+
+
+_library = _load("librimesatchel.so")
+_management: list[ctypes.CDLL] = []
+_library.rime_refusal_words.argtypes, _library.rime_refusal_words.restype = [c_uint], c_char_p
+_library.rime_version.argtypes, _library.rime_version.restype = [], c_char_p
+_library.rime_receiver_placed.argtypes, _library.rime_receiver_placed.restype = [_OCTETS], c_uint32
+_library.rime_check_character.argtypes, _library.rime_check_character.restype = [_OCTETS], c_uint8
+
+VERSION: str = _library.rime_version().decode()
+
+
+def words(number: int) -> str:
+    """What a refusal number means, in the words of include/rimesatchel.h.
+
+    >>> words(15)
+    "the cell came with indication 1, and its number isn't a multiple of 8"
+    """
+    return _library.rime_refusal_words(number).decode()
+
+
+class Refused(Exception):
+    """A call did nothing; `number` says why."""
+
+    def __init__(self, number: int) -> None:
+        super().__init__(f"refused {number}, {words(number)}")
+        self.number = number
+
+
+def _call(name: str, *arguments: Any, library: ctypes.CDLL = _library) -> None:
+    """Calls a function; a run is its ctypes array, and its length goes behind it."""
+    function = getattr(library, name)
+    function.argtypes, function.restype = _ARGUMENTS[name], c_uint8
+    flat: list[Any] = []
+    for argument in arguments:
+        flat += [argument.array, len(argument.array)] if isinstance(argument, _Lent) else [argument]
+    refusal = function(*flat)
+    if refusal != 0:
+        raise Refused(refusal)
+
+
+class _Lent:
+    """A run that is lent to a call."""
+
+    def __init__(self, kind: Any, entries: int | Sequence[int]) -> None:
+        self.array = (kind * entries)() if isinstance(entries, int) else (kind * len(entries))(*_fitting(kind, entries))
+
+
+def _fitting(kind: Any, numbers: Sequence[int]) -> Sequence[int]:
+    """The numbers, none of which ctypes would cut."""
+    most = 1 << 8 * ctypes.sizeof(kind)
+    for number in numbers:
+        if not 0 <= number < most:
+            raise OverflowError(f"{number} isn't a number of {8 * ctypes.sizeof(kind)} bits")
+    return numbers
+
+
+def _octets(octets: bytes | Sequence[int]) -> _Lent:
+    lent = _Lent(c_uint8, 0)
+    lent.array = (c_uint8 * len(octets)).from_buffer_copy(bytes(octets))
+    return lent
+
+
+def _setting(number: int) -> int:
+    return _fitting(c_uint32, [number])[0]
+
+
+class Setup(NamedTuple):
+    """The subframe octet, the channels and the order that both ends were told by the call set-up."""
+
+    format: int
+    channels: int
+    order: int = 0
+
+
+class Sender:
+    """Packs samples into cells. Refused 1 to 4.
+
+    >>> Sender(Setup(0x56, 13))
+    Traceback (most recent call last):
+    rimesatchel.Refused: refused 2, there are no channels, or more than slots
+    """
+
+    def __init__(self, setup: Setup, number: int = 0, second: int | None = None) -> None:
+        self._state = (c_uint8 * 7)()
+        _call("rime_sender_open", *map(_setting, setup), _setting(number), second is not None, _setting(second or 0), self._state)
+
+    def send(self, samples: Sequence[int], ancillary: Sequence[int] | None = None, indication: bool = False) -> bytes:
+        """The next cell, 48 octets: C×T samples and as many ancillary numbers, or none of them set. Refused 5, 6 or 7."""
+        cell = _Lent(c_uint8, 48)
+        beside = [0] * len(samples) if ancillary is None else ancillary
+        _call("rime_send", self._state, indication, _Lent(c_uint64, samples), _Lent(c_uint8, beside), cell)
+        return bytes(cell.array)
+
+
+class Mark(enum.IntEnum):
+    """What a sample that was handed out is worth."""
+
+    SOUND = 0
+    DOUBTFUL = 1
+    MISSING = 2
+
+
+class Entry(NamedTuple):
+    """A sample that was handed out, its ancillary number and its mark."""
+
+    sample: int
+    ancillary: int
+    mark: Mark
+
+
+class Handed(NamedTuple):
+    """What a receiver makes of a cell: those missing before it, and its own. Time after time, channels side by side."""
+
+    missing: int
+    number: int
+    second: int
+    indication: bool
+    entries: list[Entry]
+
+
+_ROOM = 721  # for fourteen missing cells and one more, of 48 slots each, and an entry that is never handed out
+_NO_MARK = 3  # an entry that still has it was not handed out
+
+
+class Receiver:
+    """Takes cells, and hands out samples with their marks. Refused 1 to 3."""
+
+    def __init__(self, setup: Setup) -> None:
+        self._state = (c_uint8 * 9)()
+        _call("rime_receiver_open", *map(_setting, setup), self._state)
+
+    @property
+    def placed(self) -> int:
+        """How many cells were placed since the opening, sound and missing together."""
+        return _library.rime_receiver_placed(self._state)
+
+    def receive(self, cell: bytes, indication: bool = False) -> Handed:
+        """Takes a cell as it came. Refused 5, 8, 15, 9 or 20, and then the receiver is as it was."""
+        samples, ancillary, marks = _Lent(c_uint64, _ROOM), _Lent(c_uint8, _ROOM), _Lent(c_uint8, [_NO_MARK] * _ROOM)
+        report = (c_uint8 * 4)()
+        _call("rime_receive", self._state, _octets(cell), indication, samples, ancillary, marks, report)
+        handed = bytes(marks.array).index(_NO_MARK)
+        entries = zip(samples.array[:handed], ancillary.array[:handed], map(Mark, marks.array[:handed]))
+        missing, number, second, came = report
+        return Handed(missing, number, second, came == 1, [Entry(*entry) for entry in entries])
+
+
+class Fit(enum.IntEnum):
+    """Whether a channel status block's check character fits; a block of consumer use carries none."""
+
+    DOES_NOT_FIT = 1
+    FITS = 2
+    NONE_CARRIED = 3
+
+
+class Block(NamedTuple):
+    """A finished block of channel status: bit k is bit k mod 8 of octet k / 8, the lowest being bit 0."""
+
+    octets: bytes
+    fit: Fit
+
+
+class Status:
+    """One channel's status, brought forward entry by entry.
+
+    >>> status = Status()
+    >>> blocks = [status.step(8 if bit == 0 else 0) for bit in range(192)]
+    >>> blocks[190] is None, blocks[191].fit
+    (True, <Fit.NONE_CARRIED: 3>)
+    """
+
+    def __init__(self) -> None:
+        self._block = (c_uint8 * 25)()
+
+    def step(self, ancillary: int, mark: int = Mark.SOUND) -> Block | None:
+        """Takes one entry's ancillary number and mark; a block where this was its last bit. Refused 14."""
+        out = (c_uint8 * 25)()
+        _call("rime_status_step", self._block, *_fitting(c_uint8, [ancillary, mark]), out)
+        return Block(bytes(out[1:]), Fit(out[0])) if out[0] else None
+
+
+def check_character(block: bytes) -> int:
+    """The check character of octets 0 to 22 of 24."""
+    if len(block) != 24:
+        raise ValueError("a block of channel status is 24 octets")
+    return _library.rime_check_character(_octets(block).array)
+
+
+class Writer:
+    """Writes a log: its header, then a record for each cell as it comes off the line. Refused 1 to 3.
+
+    >>> setup = Setup(0x56, 2)
+    >>> writer, sender = Writer(setup), Sender(setup)
+    >>> writer.push(sender.send([7] * 12, indication=True), indication=True)
+    >>> print(listing(writer.octets), end="")
+    format 86 2 0
+    0 sound 0 number 0
+    end 1 sound 0 missing 0 refused
+    >>> log = Log(writer.octets)
+    >>> log.setup == setup, [record.indication for record in log]
+    (True, [True])
+    """
+
+    def __init__(self, setup: Setup) -> None:
+        header, following = _Lent(c_uint8, 3), c_uint64()
+        _call("rime_log_put_header", header, *map(_setting, setup), following)
+        self._log = bytearray(header.array)
+
+    def push(self, cell: bytes, indication: bool = False) -> None:
+        """Adds a record. Refused 5 where the cell isn't 48 octets."""
+        record, following = _Lent(c_uint8, 49), c_uint64()
+        _call("rime_log_put_record", record, 0, _octets(cell), indication, following)
+        self._log += bytes(record.array)
+
+    @property
+    def octets(self) -> bytes:
+        """The log so far."""
+        return bytes(self._log)
+
+
+class Record(NamedTuple):
+    """A cell as it came off the line."""
+
+    indication: bool
+    cell: bytes
+
+
+class Log:
+    """A log that is read: how it was sent, and its records one after the other. Refused 11, 1, 2 or 3; a record 11 or 12."""
+
+    def __init__(self, octets: bytes) -> None:
+        self._octets = _octets(octets)
+        header = (c_uint32 * 4)()
+        _call("rime_log_header", self._octets, header)
+        self._first = header[0]
+        self.setup = Setup(*header[1:])
+
+    def __iter__(self) -> Iterator[Record]:
+        place, record = self._first, (c_uint64 * 4)()
+        while True:
+            _call("rime_log_record", self._octets, place, record)
+            what, indication, start, place = record
+            if what == 0:
+                return
+            yield Record(indication == 1, bytes(self._octets.array[start:place]))
+
+
+def listing(log: bytes) -> str:
+    """The list of a log, as the program linelist prints it. A log that can't be read has a list that says so.
+
+    >>> listing(b"")
+    'log refused 11\\n'
+    """
+    room, lent = 256 + len(log), _octets(log)
+    while True:
+        run, listed = _Lent(c_uint8, room), (c_uint64 * 2)()
+        _call("rime_log_list", lent, run, listed)
+        if listed[1] == 1:
+            return bytes(run.array[:listed[0]]).decode()
+        room *= 2
+
+
+class Anything(NamedTuple):
+    """Whether there is anything on a log: the first record that has a sound sample that isn't zero, or how many have none."""
+
+    found: bool
+    records: int
+
+
+def anything(log: bytes) -> Anything:
+    """Is there anything on a log at all? Refused 11, 1, 2 or 3.
+
+    >>> writer, sender = Writer(Setup(0x56, 2)), Sender(Setup(0x56, 2))
+    >>> writer.push(sender.send([0] * 12))
+    >>> anything(writer.octets)
+    Anything(found=False, records=1)
+    >>> writer.push(sender.send([7] * 12))
+    >>> anything(writer.octets)
+    Anything(found=True, records=1)
+    """
+    answer = (c_uint64 * 2)()
+    _call("rime_anything", _octets(log), answer)
+    return Anything(answer[0] == 1, answer[1])
+
+
+class Salvaged(NamedTuple):
+    """What was saved of a log: its sound records, each whole record that was left out with its refusal, and the octets cut."""
+
+    log: bytes
+    left_out: list[tuple[int, int]]
+    cut: int
+
+
+def salvage(log: bytes) -> Salvaged:
+    """A new log of the sound records of a torn one. Refused 11, 1, 2 or 3.
+
+    >>> writer, sender = Writer(Setup(0x56, 2)), Sender(Setup(0x56, 2))
+    >>> cell = sender.send([7] * 12)
+    >>> writer.push(cell)
+    >>> sound = writer.octets
+    >>> writer.push(cell)
+    >>> saved = salvage(writer.octets + bytes(1))
+    >>> saved.log == sound, saved.left_out, saved.cut
+    (True, [(1, 9)], 1)
+    """
+    out, pairs, counts = _Lent(c_uint8, len(log)), _Lent(c_uint64, 2 * (len(log) // 49)), (c_uint64 * 3)()
+    _call("rime_salvage", _octets(log), out, pairs, counts)
+    octets, left, cut = counts
+    return Salvaged(bytes(out.array[:octets]), list(zip(pairs.array[:2 * left:2], pairs.array[1:2 * left:2])), cut)
+
+
+class Figures(NamedTuple):
+    """The figures of a log or of all: cells sound, missing and refused by 8, 9, 15 and 20; entries marked 0, 1 and 2; missing
+    cells of a million sound and missing ones, rounded down."""
+
+    sound: int
+    missing: int
+    refused_8: int
+    refused_9: int
+    refused_15: int
+    refused_20: int
+    marked_0: int
+    marked_1: int
+    marked_2: int
+    missing_per_million: int
+
+
+class Sheet(NamedTuple):
+    """The figures of many logs: a row for each, and all together."""
+
+    rows: list[Figures]
+    all: Figures
+
+
+def sheet(logs: Sequence[bytes]) -> Sheet:
+    """Counts over up to 4,096 logs. Refused 18 or 19.
+
+    >>> writer, sender = Writer(Setup(0x56, 2)), Sender(Setup(0x56, 2))
+    >>> writer.push(sender.send([7] * 12))
+    >>> lost = sender.send([7] * 12)
+    >>> writer.push(sender.send([7] * 12))
+    >>> figures = sheet([writer.octets, b"no log"])
+    >>> figures.all.sound, figures.all.missing, figures.all.marked_2, figures.all.missing_per_million, figures.rows[1].sound
+    (2, 1, 12, 333333, 0)
+    """
+    rows, totals = _Lent(c_uint32, 10 * len(logs)), (c_uint32 * 10)()
+    _call("rime_sheet", _octets(b"".join(logs)), _Lent(c_uint64, [len(log) for log in logs]), rows, totals)
+    return Sheet([Figures(*rows.array[at:at + 10]) for at in range(0, len(rows.array), 10)], Figures(*totals))
+
+
+class Frame(NamedTuple):
+    """A frame of an AES3 cable: its preambles' letters, as "XY" or "ZY", and its two halves; slot k is the bit worth 2^k."""
+
+    preambles: str
+    subframes: tuple[int, int]
+
+
+class Pair(NamedTuple):
+    """Two entries of 56 hex: a frame's first half and its second."""
+
+    samples: tuple[int, int]
+    ancillary: tuple[int, int]
+
+
+def import_frame(frame: Frame) -> Pair:
+    """Takes a frame off the cable. Refused 16 or 17.
+
+    >>> pair = Pair((1000, 2000), (8, 8))
+    >>> export_frame(pair).preambles, import_frame(export_frame(pair)) == pair
+    ('ZY', True)
+    """
+    letters, halves = _two(c_uint8, frame.preambles.encode("latin-1")), _two(c_uint32, frame.subframes)
+    samples, ancillary = (c_uint64 * 2)(), (c_uint8 * 2)()
+    _call("rime_aes3_import", letters, halves, samples, ancillary)
+    return Pair((samples[0], samples[1]), (ancillary[0], ancillary[1]))
+
+
+def export_frame(pair: Pair) -> Frame:
+    """Makes a frame for the cable. Refused 6 or 29."""
+    letters, halves = (c_uint8 * 2)(), (c_uint32 * 2)()
+    _call("rime_aes3_export", _two(c_uint64, pair.samples), _two(c_uint8, pair.ancillary), letters, halves)
+    return Frame(bytes(letters).decode(), (halves[0], halves[1]))
+
+
+def _two(kind: Any, numbers: Sequence[int]) -> Any:
+    first, second = _fitting(kind, numbers)
+    return (kind * 2)(first, second)
+
+
+class Units(NamedTuple):
+    """Data units end to end, all of them full but perhaps the last."""
+
+    octets: bytes
+    full: int
+
+    def parts(self) -> list[bytes]:
+        """The units, one after the other."""
+        return [self.octets[at:at + self.full] for at in range(0, len(self.octets), self.full or 1)]
+
+
+def export_units(form: int, channels: int, size: int, samples: Sequence[int], ancillary: Sequence[int] | None = None) -> Units:
+    """Entries as data units of at most `size` octets. Marks don't travel: a gap leaves as silence that looks like sound.
+    Refused 1, 2, 5, 6, 26 or 27.
+
+    >>> units = export_units(0x06, 2, 12, [1, 2, 3, 4, 5, 6])
+    >>> [len(unit) for unit in units.parts()], read_unit(0x06, 2, units.parts()[1])
+    ([12, 6], [(5, 0), (6, 0)])
+    """
+    beside = [0] * len(samples) if ancillary is None else ancillary
+    out, told = _Lent(c_uint8, 4 * len(samples)), (c_uint64 * 3)()  # no entry of these formats is longer
+    lent = _Lent(c_uint64, samples), _Lent(c_uint8, beside)
+    _call("rime_units_export", _setting(form), _setting(channels), size, *lent, out, told)
+    return Units(bytes(out.array[:told[0]]), told[1])
+
+
+def read_unit(form: int, channels: int, unit: bytes) -> list[tuple[int, int]]:
+    """The samples and ancillary numbers of one data unit. Refused 1, 2, 5 or 26."""
+    samples, ancillary, entries = _Lent(c_uint64, len(unit)), _Lent(c_uint8, len(unit)), c_uint64()
+    _call("rime_unit_read", _setting(form), _setting(channels), _octets(unit), samples, ancillary, entries)
+    return list(zip(samples.array, ancillary.array))[:entries.value]
+
+
+class Verdict(NamedTuple):
+    """What the checker says of a plan: "yes", or its first fault: "share" or "allowance" with the circuit from 0, or "sum"."""
+
+    answer: str
+    circuit: int | None = None
+
+
+def plan(form: int, channels: int, circuits: int) -> list[int]:
+    """Fills so many circuits in their order as far as a cell's slots allow. Refused 1, 22 or 30.
+
+    >>> plan(0x56, 20, 2)
+    [12, 8]
+    >>> check_plan(0x56, 20, 48_000, [12, 8], [48_000, 40_000])
+    Verdict(answer='allowance', circuit=1)
+    """
+    shares = _Lent(c_uint32, circuits)
+    _call("rime_circuits_plan", _setting(form), _setting(channels), shares)
+    return list(shares.array)
+
+
+def check_plan(form: int, channels: int, frequency: int, shares: Sequence[int], allowances: Sequence[int]) -> Verdict:
+    """Judges a plan, anyone's: the channels of each circuit, and the cells a second that each may carry. Refused 1, 5, 22, 23."""
+    answer = (c_uint32 * 2)()
+    numbers = map(_setting, (form, channels, frequency))
+    _call("rime_circuits_check", *numbers, _Lent(c_uint32, shares), _Lent(c_uint32, allowances), answer)
+    said = ["", "yes", "share", "allowance", "sum"][answer[0]]
+    return Verdict(said, answer[1] if said in ("share", "allowance") else None)
+
+
+class Deed(NamedTuple):
+    """What equipment does with a management message: the ports behind it, the answer that is written, and what the network is to
+    be sent: 0 nothing, 1 SETUP, 2 ADD PARTY, 3 RELEASE, 4 DROP PARTY; for which port, and with which endpoint reference."""
+
+    ports: bytes
+    answer: bytes
+    network: int
+    port: int
+    reference: int
+
+
+def _port() -> ctypes.CDLL:
+    if not _management:
+        _management.append(_load("libmanagement.so"))
+    return _management[0]
+
+
+def equipment(ports: bytes, message: bytes, room: int = 64) -> Deed:
+    """A management message at the equipment; `ports` is 28 octets a port. Refused 24 or 25. docs/MANAGEMENT.md has the rules.
+
+    >>> equipment(bytes(28), b"")
+    Traceback (most recent call last):
+    rimesatchel.Refused: refused 24, the message has no octets
+    """
+    lent, answer, report = _octets(ports), _Lent(c_uint8, room), (c_uint64 * 4)()
+    _call("rime_equipment", lent, _octets(message), answer, report, library=_port())
+    return Deed(bytes(lent.array), bytes(answer.array[:report[0]]), *report[1:])
+
+
+def controller(ports: bytes, message: bytes) -> bytes:
+    """A management message at the controlling entity: the ports behind it. Refused 24."""
+    lent = _octets(ports)
+    _call("rime_controller", lent, _octets(message), library=_port())
+    return bytes(lent.array)

@@ -1,0 +1,116 @@
+//! The two boxes, each with its own state.
+
+use crate::{face, unless_refused, Refusal};
+
+/// The subframe octet, the channels and the order that both ends were told by the call set-up.
+#[derive(Debug, Clone, Copy, PartialEq, Eq)]
+pub struct Setup {
+    pub format: u32,
+    pub channels: u32,
+    pub order: u32,
+}
+
+impl Setup {
+    pub(crate) fn numbers(self) -> [u32; 3] {
+        [self.format, self.channels, self.order]
+    }
+}
+
+/// Packs samples into cells.
+#[derive(Debug, Clone, PartialEq, Eq)]
+pub struct Sender(face::SenderState);
+
+impl Sender {
+    /// A sender whose first cell has number 0, without second numbers. Refused 1, 2 or 3.
+    pub fn open(setup: Setup) -> Result<Sender, Refusal> {
+        Sender::open_at(setup, 0, None)
+    }
+
+    /// A sender whose first cell has this number, and this second number where they are wanted. Refused 1 to 4.
+    pub fn open_at(setup: Setup, number: u32, second: Option<u32>) -> Result<Sender, Refusal> {
+        let mut state = [0; 7];
+        let refusal = face::sender_open(setup.numbers(), number, second.is_some(), second.unwrap_or(0), &mut state);
+        unless_refused(refusal, Sender(state))
+    }
+
+    /// The next cell: C×T samples and as many ancillary numbers in it. The indication may be given only where the cell's number
+    /// is a multiple of 8. Refused 5, 6 or 7, and then the sender is as it was.
+    pub fn send(&mut self, samples: &[u64], ancillary: &[u8], indication: bool) -> Result<[u8; 48], Refusal> {
+        let mut cell = [0; 48];
+        let refusal = face::send(&mut self.0, indication, samples, ancillary, &mut cell);
+        unless_refused(refusal, cell)
+    }
+}
+
+/// What a sample that was handed out is worth.
+#[derive(Debug, Clone, Copy, PartialEq, Eq)]
+pub enum Mark {
+    /// As it was sent, as far as its protection bits tell.
+    Sound,
+    /// Its protection bits disagree; it is given as it came.
+    Doubtful,
+    /// Its cell never came, or couldn't be read; sample and ancillary are 0.
+    Missing,
+}
+
+/// A sample that was handed out, its ancillary number and its mark.
+#[derive(Debug, Clone, Copy, PartialEq, Eq)]
+pub struct Entry {
+    pub sample: u64,
+    pub ancillary: u8,
+    pub mark: Mark,
+}
+
+/// What a receiver makes of a cell: those missing before it, and its own.
+#[derive(Debug, Clone, PartialEq, Eq)]
+pub struct Handed {
+    pub missing: u8,
+    pub number: u8,
+    pub second: u8,
+    pub indication: bool,
+    /// Time after time, channels side by side; first those of the missing cells.
+    pub entries: Vec<Entry>,
+}
+
+/// Takes cells, and hands out samples with their marks.
+#[derive(Debug, Clone, PartialEq, Eq)]
+pub struct Receiver(face::ReceiverState);
+
+/// Room for fourteen missing cells and one more, of 48 slots each.
+const ROOM: usize = 720;
+/// No mark of the library's: an entry that still has it was not handed out.
+const NO_MARK: u8 = 3;
+
+impl Receiver {
+    /// A receiver that has taken no cell yet. Refused 1, 2 or 3.
+    pub fn open(setup: Setup) -> Result<Receiver, Refusal> {
+        let mut state = [0; 9];
+        let refusal = face::receiver_open(setup.numbers(), &mut state);
+        unless_refused(refusal, Receiver(state))
+    }
+
+    /// How many cells were placed since the opening, sound and missing together.
+    pub fn placed(&self) -> u32 {
+        face::receiver_placed(&self.0)
+    }
+
+    /// Takes a cell as it came. Refused 5, 8, 15, 9 or 20, and then the receiver is as it was.
+    pub fn receive(&mut self, cell: &[u8], indication: bool) -> Result<Handed, Refusal> {
+        let (mut samples, mut ancillary, mut marks) = ([0; ROOM], [0; ROOM], [NO_MARK; ROOM]);
+        let mut report = [0; 4];
+        let runs = face::Runs { samples: &mut samples, ancillary: &mut ancillary, marks: &mut marks };
+        let refusal = face::receive(&mut self.0, cell, indication, runs, &mut report);
+        let [missing, number, second, indication] = report;
+        let mut entries = Vec::new();
+        for ((sample, ancillary), mark) in samples.into_iter().zip(ancillary).zip(marks) {
+            let mark = match mark {
+                0 => Mark::Sound,
+                1 => Mark::Doubtful,
+                2 => Mark::Missing,
+                _ => break,
+            };
+            entries.push(Entry { sample, ancillary, mark });
+        }
+        unless_refused(refusal, Handed { missing, number, second, indication: indication == 1, entries })
+    }
+}

@@ -1,0 +1,31 @@
+//! The management port's functions as include/rime_management.h declares them, and a safe call for each.
+//!
+//! A slice carries its own length and two `&mut` never overlap, which is all that the header asks of a caller.
+
+mod raw {
+    #[link(name = "management", kind = "static")]
+    extern "C" {
+        pub fn rime_equipment(
+            ports: *mut u8,
+            ports_len: usize,
+            message: *const u8,
+            message_len: usize,
+            answer: *mut u8,
+            answer_len: usize,
+            report: *mut [u64; 4],
+        ) -> u8;
+        pub fn rime_controller(ports: *mut u8, ports_len: usize, message: *const u8, message_len: usize) -> u8;
+    }
+}
+
+pub fn equipment(ports: &mut [u8], message: &[u8], answer: &mut [u8], report: &mut [u64; 4]) -> u8 {
+    let (ports_at, ports_len) = (ports.as_mut_ptr(), ports.len());
+    let (answer_at, answer_len) = (answer.as_mut_ptr(), answer.len());
+    // SAFETY: see the head of this file; so below.
+    unsafe { raw::rime_equipment(ports_at, ports_len, message.as_ptr(), message.len(), answer_at, answer_len, report) }
+}
+
+pub fn controller(ports: &mut [u8], message: &[u8]) -> u8 {
+    let (ports_at, ports_len) = (ports.as_mut_ptr(), ports.len());
+    unsafe { raw::rime_controller(ports_at, ports_len, message.as_ptr(), message.len()) }
+}

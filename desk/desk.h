@@ -1,0 +1,128 @@
+/*
+ * What the subcommands of the desk tool share. Every cell is made and taken by the proved calls of rimesatchel.h; what
+ * is here opens files, keeps a buffer, and says in words what happened.
+ */
+#ifndef DESK_H
+#define DESK_H
+
+#include <stdbool.h>
+#include <stddef.h>
+#include <stdint.h>
+
+#include "rimesatchel.h"
+
+/* What a subcommand ends with. Of several files the largest counts. */
+enum {
+    STATUS_WELL = 0,    /* all well */
+    STATUS_NO = 1,      /* the answer is a no */
+    STATUS_REFUSED = 2, /* a refusal, or a log that is broken */
+    STATUS_FILE = 3     /* a file can't be read or written */
+};
+
+/* The most entries that one call of rime_receive writes: fourteen missing cells and its own. */
+enum { DESK_ROOM = (RIME_MOST_MISSING + 1) * RIME_MOST_SLOTS };
+
+/* Each takes its own arguments, its name first, and returns a status. */
+int desk_send(int argc, char **argv);
+int desk_receive(int argc, char **argv);
+int desk_list(int argc, char **argv);
+int desk_anything(int argc, char **argv);
+int desk_sheet(int argc, char **argv);
+int desk_add(int argc, char **argv);
+int desk_salvage(int argc, char **argv);
+int desk_labels(int argc, char **argv);
+int desk_picture(int argc, char **argv);
+
+/* say.c: a line on standard error, after the program's name and a file's. */
+int say_failed(const char *name);                                      /* what errno says; returns STATUS_FILE */
+int say_unfit(const char *name, const char *why);                      /* returns STATUS_FILE */
+int say_refused(const char *name, const char *what, unsigned refusal); /* the number and its words; STATUS_REFUSED */
+int say_broken(const char *name, uint64_t record, unsigned refusal);   /* the same, of a log that is broken there */
+int printed(int status); /* the status, or STATUS_FILE where standard output can't be written; that is said */
+enum { DURATION = 48 };
+const char *duration(double seconds, char words[DURATION]); /* "2.500 s", or "1:02:03.500" from a minute on */
+const char *plural(uint64_t count);                         /* "s", or nothing of one */
+
+/* format.c: what a subframe octet says. Whether there is such a format is for the proved opening to say. */
+struct format {
+    unsigned sample_bits;
+    unsigned slots;
+    bool ancillary;
+    bool overhead;
+};
+struct format format_of(uint32_t octet);
+
+/* progress.c: how far the work is, on a terminal, where it takes longer than a second. */
+void progress_begin(const char *name, uint64_t total, bool quiet); /* total 0: not known */
+void progress_at(uint64_t done);
+void progress_clear(void); /* for a line of text; the bar is drawn again after it */
+void progress_end(void);
+
+/*
+ * output.c: a file that is written under a temporary name beside its own, and gets its own when it is whole. An output
+ * that is neither kept nor dropped is dropped when the program ends, by a signal too.
+ */
+struct output {
+    const char *name;
+    char *temporary;
+    int fd;
+    int error; /* errno of the first write that failed, 0 where none did */
+    bool force;
+};
+int output_open(struct output *output, const char *name, bool force); /* a status; says what is wrong */
+bool output_write(struct output *output, const void *octets, size_t count);
+bool output_done(struct output *output); /* nothing more is written: whether all of it was */
+int output_keep(struct output *output);  /* a status; says what is wrong */
+void output_drop(struct output *output);
+
+/*
+ * reading.c: a log, read a buffer at a time, and what the receiver makes of each of its records. `-` is standard input.
+ */
+struct reading {
+    const char *name;
+    int fd;
+    uint8_t *buffer;
+    size_t held, place;
+    bool ended;
+    uint64_t octets; /* read so far */
+    uint64_t limit;  /* the most octets of a log, by refusal 13; 0 where there is no limit */
+
+    uint32_t header[RIME_HEADER];
+    struct format format;
+    unsigned channels, times, entries; /* C, T, and C * T */
+    uint8_t state[RIME_RECEIVER_STATE];
+
+    /* of the last record */
+    const uint8_t *cell;
+    bool indication;
+    uint64_t samples[DESK_ROOM];
+    uint8_t ancillary[DESK_ROOM], marks[DESK_ROOM];
+    uint8_t report[RIME_REPORT];
+    unsigned refusal;
+    size_t given; /* how many entries the record handed out */
+
+    /* of all records so far */
+    uint64_t record; /* records read */
+    uint64_t sound, missing, refused, gaps;
+    uint64_t refused_by[256];
+    uint64_t refused_last; /* refused since the last sound cell */
+    uint64_t time;         /* sample times handed out before this record */
+};
+
+enum step {
+    STEP_SOUND,   /* a cell was taken: samples, ancillary, marks, report, given */
+    STEP_REFUSED, /* the receiver refused it: refusal */
+    STEP_END,     /* the log is over */
+    STEP_BROKEN,  /* a framing fault in record `record`: refusal */
+    STEP_FAILED   /* the file can't be read; that was said */
+};
+
+int reading_open(struct reading *reading, const char *name, bool quiet);  /* a status; says what is wrong */
+int reading_header(struct reading *reading);                              /* the refusal; -1 where reading failed */
+int reading_begin(struct reading *reading, const char *name, bool quiet); /* both; a status, and says what is wrong */
+enum step reading_step(struct reading *reading);
+bool reading_cut(struct reading *reading, uint64_t *cut); /* of a broken log: octets from the fault's record to the end */
+void reading_close(struct reading *reading);
+int reading_broken(const struct reading *reading); /* says where the log is broken; returns STATUS_REFUSED */
+
+#endif

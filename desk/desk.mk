@@ -1,0 +1,40 @@
+# The desk tool: target/desk/rimesatchel, over the proved library, libsndfile and cairo. The Makefile includes this file.
+#
+# RIME_LIB   the folder of librimesatchel.a
+# DESK       the folder in which the tool is built
+
+RIME_LIB ?= $(CURDIR)/target/staticlib
+DESK ?= target/desk
+DESK_SOURCES := $(wildcard desk/*.c)
+DESK_HEADERS := $(wildcard desk/*.h) include/rimesatchel.h
+DESK_FLAGS := -std=c11 -D_GNU_SOURCE -O2 -Wall -Wextra -Werror -Iinclude
+
+.PHONY: desk desk-needs
+desk: $(DESK)/rimesatchel
+
+# What it is built with, by the names of Debian's packages.
+desk-needs:
+	@bash tests/need.sh pkg-config libsndfile1-dev libcairo2-dev
+
+$(DESK)/rimesatchel: $(DESK_SOURCES) $(DESK_HEADERS) $(RIME_LIB)/librimesatchel.a | desk-needs
+	@mkdir -p $(DESK)
+	gcc $(DESK_FLAGS) $$(pkg-config --cflags sndfile cairo) $(DESK_SOURCES) $(RIME_LIB)/librimesatchel.a \
+	    $$(pkg-config --libs sndfile cairo) -lm -o $@
+
+.PHONY: demo
+demo: desk-needs
+	@bash desk/demo.sh
+
+.PHONY: desk-hour
+desk-hour: desk
+	@bash bench/hour.sh
+
+# Spoiled logs through a build that notices a wrong use of memory.
+.PHONY: desk-fuzz
+$(DESK)/rimesatchel-asan: $(DESK_SOURCES) $(DESK_HEADERS) $(RIME_LIB)/librimesatchel.a | desk-needs
+	@mkdir -p $(DESK)
+	gcc $(DESK_FLAGS) -g -O1 -fsanitize=address,undefined -fno-sanitize-recover=all $$(pkg-config --cflags sndfile cairo) \
+	    $(DESK_SOURCES) $(RIME_LIB)/librimesatchel.a $$(pkg-config --libs sndfile cairo) -lm -o $@
+
+desk-fuzz: $(DESK)/rimesatchel-asan
+	python3 tests/desk_fuzz.py $< 300 $(SEED)

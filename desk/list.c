@@ -1,0 +1,89 @@
+/* rimesatchel list: what the receiver makes of each record, in the lines of the program linelist. */
+#include <argp.h>
+#include <stdio.h>
+#include <unistd.h>
+
+#include "options.h"
+
+static const uint64_t most = 0xFFFFFFFF; /* octets of a log that is listed */
+
+struct list {
+    struct names names;
+    bool strict, quiet;
+};
+
+static const struct argp_option options[] = {
+    {"strict", 's', NULL, 0, "end with status 1 where anything is missing or refused", 0},
+    {"quiet", 'q', NULL, 0, "no bar", 0},
+    {0},
+};
+
+static error_t parse(int key, char *word, struct argp_state *state) {
+    (void)word;
+    struct list *list = state->input;
+    switch (key) {
+    case 's': list->strict = true; break;
+    case 'q': list->quiet = true; break;
+    default: return option_names(state, key, &list->names);
+    }
+    return 0;
+}
+
+static enum step list_records(struct reading *reading) {
+    const uint32_t *header = reading->header;
+    printf("format %u %u %u\n", header[RIME_HEADER_FORMAT], header[RIME_HEADER_CHANNELS], header[RIME_HEADER_ORDER]);
+    enum step step;
+    do {
+        unsigned long long record = reading->record;
+        step = reading_step(reading);
+        if (step == STEP_SOUND)
+            printf("%llu sound %u number %u\n", record, reading->report[RIME_REPORT_MISSING],
+                   reading->report[RIME_REPORT_NUMBER]);
+        else if (step == STEP_REFUSED) printf("%llu refused %u\n", record, reading->refusal);
+        else if (step == STEP_BROKEN) printf("%llu broken %u\n", record, reading->refusal);
+    } while (step == STEP_SOUND || step == STEP_REFUSED);
+    if (step != STEP_FAILED)
+        printf("end %llu sound %llu missing %llu refused\n", (unsigned long long)reading->sound,
+               (unsigned long long)reading->missing, (unsigned long long)reading->refused);
+    progress_end();
+    return step;
+}
+
+static int list_log(const char *name, const struct list *list) {
+    static struct reading reading;
+    int status = reading_open(&reading, name, list->quiet || isatty(STDOUT_FILENO));
+    if (status != STATUS_WELL) return status;
+    reading.limit = most;
+    int refusal = reading_header(&reading);
+    if (refusal == RIME_DONE) {
+        enum step last = list_records(&reading);
+        bool flawed = reading.missing + reading.refused > 0;
+        if (last == STEP_FAILED) status = STATUS_FILE;
+        else if (last == STEP_BROKEN) status = reading_broken(&reading);
+        else status = list->strict && flawed ? STATUS_NO : STATUS_WELL;
+    } else if (refusal < 0) status = STATUS_FILE;
+    else {
+        printf("log refused %d\n", refusal);
+        status = say_refused(reading.name, "the log is", (unsigned)refusal);
+    }
+    reading_close(&reading);
+    return status;
+}
+
+int desk_list(int argc, char **argv) {
+    struct list list = {0};
+    static const struct argp argp = {
+        .options = options,
+        .parser = parse,
+        .args_doc = "FILE..",
+        .doc = "Lists logs, a line for each record. - is standard input.",
+    };
+    argp_parse(&argp, argc, argv, 0, NULL, &list);
+    int worst = STATUS_WELL;
+    for (int at = 0; at < list.names.count; at++) {
+        if (list.names.count > 1) printf("%s:\n", list.names.words[at]);
+        int status = list_log(list.names.words[at], &list);
+        if (status > worst) worst = status;
+    }
+    return printed(worst);
+}

@@ -1,0 +1,196 @@
+/* rimesatchel send: packs a sound file into a log. */
+#include <argp.h>
+#include <err.h>
+#include <errno.h>
+#include <stdio.h>
+#include <stdlib.h>
+#include <string.h>
+
+#include "options.h"
+#include "sound.h"
+#include "status.h"
+
+enum { CELLS = 512 }; /* cells made of one buffer of sound */
+
+struct send {
+    const char *in_name, *out_name, *origin, *destination;
+    unsigned format, order, number, second;
+    bool wanted, status, cut, force, quiet;
+
+    struct sound_in in;
+    struct output out;
+    struct format about;
+    unsigned channels, times, entries;
+    uint8_t state[RIME_SENDER_STATE];
+    uint8_t beside[STATUS_BITS]; /* ancillary numbers of a block, one a sample time */
+    uint64_t frames, cells, filled;
+
+    int *sound;
+    uint8_t log[CELLS * RIME_RECORD_OCTETS];
+};
+
+static const struct argp_option options[] = {
+    {"format", 'f', "OCTET", 0, "subframe format, in hex: 56 where this is left out (24 bits and overhead)", 0},
+    {"order", 'o', "0|1", 0, "order of the slots in a cell: 0 where this is left out", 0},
+    {"number", 'n', "NUMBER", 0, "number of the first cell, 0 to 15: 0 where this is left out", 0},
+    {"second", 's', "START", 0, "keep second numbers from START, 0 to 15, one more in each cell numbered 0 or 8", 0},
+    {"status", 'S', NULL, 0, "send channel status: professional use, frequency and word length of the file", 0},
+    {"origin", 'O', "LETTERS", 0, "up to four letters of origin in the channel status (with it --status)", 0},
+    {"destination", 'D', "LETTERS", 0, "up to four letters of destination in the channel status (with it --status)", 0},
+    {"cut", 'c', NULL, 0, "drop the low bits of samples that have more bits than the format", 0},
+    {"force", 'F', NULL, 0, "write over OUT.log if it is there", 0},
+    {"quiet", 'q', NULL, 0, "no bar and no summary", 0},
+    {0},
+};
+
+static error_t parse(int key, char *word, struct argp_state *state) {
+    struct send *send = state->input;
+    switch (key) {
+    case 'f': send->format = option_number(state, "format", word, 16); break;
+    case 'o': send->order = option_number(state, "order", word, 10); break;
+    case 'n': send->number = option_number(state, "number", word, 10); break;
+    case 's':
+        send->wanted = true;
+        send->second = option_number(state, "second", word, 10);
+        break;
+    case 'O':
+        send->status = true;
+        send->origin = option_letters(state, "origin", word);
+        break;
+    case 'D':
+        send->status = true;
+        send->destination = option_letters(state, "destination", word);
+        break;
+    case 'S': send->status = true; break;
+    case 'c': send->cut = true; break;
+    case 'F': send->force = true; break;
+    case 'q': send->quiet = true; break;
+    default: return option_pair(state, key, word, &send->in_name, &send->out_name);
+    }
+    return 0;
+}
+
+/* The sound of one cell, silence where the file has ended. Returns the refusal. */
+static unsigned pack(struct send *send, const int *sound, size_t given, uint8_t *cell, bool *indication) {
+    uint64_t samples[RIME_MOST_SLOTS] = {0};
+    uint8_t ancillary[RIME_MOST_SLOTS] = {0};
+    unsigned bits = send->about.sample_bits;
+    for (size_t at = 0; at < given; at++) {
+        uint32_t top = (uint32_t)sound[at];
+        samples[at] = bits > 32 ? (uint64_t)top << (bits - 32) : top >> (32 - bits);
+    }
+    if (send->status) {
+        uint64_t time = send->cells * send->times;
+        for (size_t at = 0; at < send->entries; at++)
+            ancillary[at] = send->beside[(time + at / send->channels) % STATUS_BITS];
+    }
+    *indication = send->wanted && send->state[RIME_SENDER_NUMBER] % 8 == 0;
+    return rime_send(send->state, *indication, samples, send->entries, ancillary, send->entries, cell,
+                     RIME_CELL_OCTETS);
+}
+
+/* The cells of one buffer of sound, into the log. A status. */
+static int pack_all(struct send *send, size_t frames) {
+    uint64_t place = 0;
+    size_t given = frames * send->channels;
+    for (size_t at = 0; at < given; at += send->entries) {
+        uint8_t cell[RIME_CELL_OCTETS];
+        bool indication;
+        size_t here = given - at < send->entries ? given - at : send->entries;
+        unsigned refusal = pack(send, send->sound + at, here, cell, &indication);
+        if (refusal == RIME_DONE)
+            refusal = rime_log_put_record(send->log, sizeof send->log, place, cell, sizeof cell, indication, &place);
+        if (refusal != RIME_DONE) {
+            if (send->status && !send->about.ancillary) warnx("this format has no ancillary bits: leave out --status");
+            return say_refused(send->in_name, "sending is", refusal);
+        }
+        send->cells++;
+        send->filled = (send->entries - here) / send->channels;
+    }
+    return output_write(&send->out, send->log, place) ? STATUS_WELL : STATUS_FILE;
+}
+
+static int open_sender(struct send *send) {
+    send->channels = (unsigned)send->in.about.channels;
+    unsigned refusal = rime_sender_open(send->format, send->channels, send->order, send->number, send->wanted,
+                                        send->second, send->state);
+    if (refusal != RIME_DONE) return say_refused(send->in_name, "a sender of these settings is", refusal);
+    send->about = format_of(send->format);
+    send->times = send->about.slots / send->channels;
+    send->entries = send->channels * send->times;
+    if (send->in.bits > send->about.sample_bits && !send->cut) {
+        warnx("%s: samples of %u bits, and format %02X hex has %u: --cut drops the low ones", send->in_name,
+              send->in.bits, send->format, send->about.sample_bits);
+        return STATUS_REFUSED;
+    }
+    if (send->status) {
+        unsigned bits = send->in.bits < send->about.sample_bits ? send->in.bits : send->about.sample_bits;
+        status_beside(send->beside, (unsigned)send->in.about.samplerate, bits, send->origin, send->destination);
+    }
+    return STATUS_WELL;
+}
+
+static int put_header(struct send *send) {
+    uint64_t next;
+    unsigned refusal =
+        rime_log_put_header(send->log, sizeof send->log, send->format, send->channels, send->order, &next);
+    if (refusal != RIME_DONE) return say_refused(send->out_name, "the header is", refusal);
+    output_write(&send->out, send->log, next);
+    return STATUS_WELL;
+}
+
+static int send_sound(struct send *send) {
+    int status = put_header(send);
+    sf_count_t frames = 0;
+    progress_begin(send->in_name, (uint64_t)send->in.about.frames, send->quiet);
+    while (status == STATUS_WELL) {
+        frames = sf_readf_int(send->in.file, send->sound, (sf_count_t)CELLS * send->times);
+        if (frames <= 0) break;
+        send->frames += (uint64_t)frames;
+        status = pack_all(send, (size_t)frames);
+        progress_at(send->frames);
+    }
+    progress_end();
+    return status == STATUS_WELL ? sound_whole(&send->in, send->frames) : status;
+}
+
+static void say_summary(const struct send *send) {
+    char length[DURATION];
+    fprintf(stderr, "%s: %u channel%s, %d Hz, %u bits, %s\n", send->in_name, send->channels, plural(send->channels),
+            send->in.about.samplerate, send->in.bits,
+            duration((double)send->frames / send->in.about.samplerate, length));
+    fprintf(stderr, "%s: format %02X hex, order %u, %llu cell%s\n", send->out_name, send->format, send->order,
+            (unsigned long long)send->cells, plural(send->cells));
+    if (send->filled > 0)
+        fprintf(stderr, "%s: the last cell is filled with %llu sample%s of silence in each channel\n", send->out_name,
+                (unsigned long long)send->filled, plural(send->filled));
+    if (send->in.bits > send->about.sample_bits)
+        fprintf(stderr, "%s: the low %u bits of each sample are dropped\n", send->out_name,
+                send->in.bits - send->about.sample_bits);
+}
+
+int desk_send(int argc, char **argv) {
+    static struct send send = {.format = 0x56};
+    static const struct argp argp = {
+        .options = options,
+        .parser = parse,
+        .args_doc = "IN.wav OUT.log",
+        .doc = "Packs a sound file into a log.",
+    };
+    argp_parse(&argp, argc, argv, 0, NULL, &send);
+    int status = sound_open(&send.in, send.in_name);
+    if (status != STATUS_WELL) return status;
+    status = open_sender(&send);
+    if (status == STATUS_WELL) status = output_open(&send.out, send.out_name, send.force);
+    if (status == STATUS_WELL) {
+        send.sound = malloc(sizeof *send.sound * CELLS * send.entries);
+        if (send.sound == NULL) err(STATUS_FILE, "%s", send.in_name);
+        status = send_sound(&send);
+        if (status == STATUS_WELL || send.out.error != 0) status = output_keep(&send.out);
+        free(send.sound);
+    }
+    if (status == STATUS_WELL && !send.quiet) say_summary(&send);
+    output_drop(&send.out);
+    sf_close(send.in.file);
+    return status;
+}

@@ -1,0 +1,69 @@
+/* Stretches of a reading that are missing or damaged. */
+#include "stretches.h"
+
+#include <stdio.h>
+
+/* What stands at one sample time: missing, damaged in some channels, or sound. */
+static struct stretch at_time(const struct reading *reading, uint64_t time, const uint8_t *marks) {
+    struct stretch here = {.mark = RIME_MARK_SOUND, .from = time, .past = time + 1};
+    for (unsigned channel = 0; channel < reading->channels; channel++) {
+        if (marks[channel] == RIME_MARK_SOUND) continue;
+        here.mark = marks[channel];
+        if (marks[channel] == RIME_MARK_DOUBTFUL) here.channels |= (uint64_t)1 << channel;
+    }
+    return here;
+}
+
+void stretches_end(struct stretches *stretches, stretch_told *told, void *user) {
+    if (stretches->open.mark != RIME_MARK_SOUND) told(&stretches->open, user);
+    stretches->open.mark = RIME_MARK_SOUND;
+}
+
+uint64_t stretches_take(struct stretches *stretches, const struct reading *reading, stretch_told *told, void *user) {
+    uint64_t damaged = 0;
+    unsigned any = 0;
+    for (size_t at = 0; at < reading->given; at++) {
+        any |= reading->marks[at];
+        damaged += reading->marks[at] == RIME_MARK_DOUBTFUL;
+    }
+    if (any == RIME_MARK_SOUND) {
+        stretches_end(stretches, told, user);
+        return 0;
+    }
+    uint64_t time = reading->time;
+    for (size_t at = 0; at < reading->given; at += reading->channels, time++) {
+        struct stretch here = at_time(reading, time, reading->marks + at), *open = &stretches->open;
+        if (here.mark != open->mark) {
+            stretches_end(stretches, told, user);
+            *open = here;
+        } else {
+            open->past = here.past;
+            open->channels |= here.channels;
+        }
+    }
+    return damaged;
+}
+
+/* " in channel 2", " in channels 1 and 2", " in channels 1, 2 and 5". */
+static int say_channels(uint64_t channels, char *to, size_t room) {
+    int length = snprintf(to, room, " in channel%s", channels & (channels - 1) ? "s" : "");
+    unsigned count = 0;
+    for (unsigned channel = 0; channel < 64; channel++) {
+        if ((channels >> channel & 1) == 0) continue;
+        bool last = channels >> channel == 1;
+        const char *before = count++ == 0 ? " " : last ? " and " : ", ";
+        length += snprintf(to + length, room - (size_t)length, "%s%u", before, channel + 1);
+    }
+    return length;
+}
+
+size_t stretch_label(const struct stretch *stretch, unsigned rate, char line[STRETCH_LINE]) {
+    bool missing = stretch->mark == RIME_MARK_MISSING;
+    unsigned long long from = stretch->from, last = stretch->past - 1;
+    int length = snprintf(line, STRETCH_LINE, "%.6f\t%.6f\t%s", (double)stretch->from / rate,
+                          (double)stretch->past / rate, missing ? "missing" : "damaged");
+    if (!missing) length += say_channels(stretch->channels, line + length, STRETCH_LINE - (size_t)length);
+    if (from == last) length += snprintf(line + length, STRETCH_LINE - (size_t)length, ": sample %llu\n", from);
+    else length += snprintf(line + length, STRETCH_LINE - (size_t)length, ": samples %llu to %llu\n", from, last);
+    return (size_t)length;
+}

@@ -1,0 +1,125 @@
+#!/usr/bin/env python3
+"""Spoiled logs through the desk tool, built to notice a wrong use of memory.
+
+usage: desk_fuzz.py PROGRAM [COUNT [SEED]]
+
+Each log is a whole one in some format, with octets changed, taken out or put in. Every call must end with 0, 1 or 2 and say
+nothing of memory; the marks that `receive` writes must be as many as the records that `list` shows call for; and `list` must
+print what linelist does, where that is built.
+"""
+import os
+import pathlib
+import random
+import subprocess
+import sys
+import tempfile
+import wave
+
+if len(sys.argv) < 2:
+    sys.exit(__doc__)
+program = str(pathlib.Path(sys.argv[1]).resolve())
+count = int(sys.argv[2]) if len(sys.argv) > 2 else 200
+chance = random.Random(int(sys.argv[3]) if len(sys.argv) > 3 else 1)
+linelist = pathlib.Path('target/bin/linelist').resolve()
+os.environ['ASAN_OPTIONS'] = 'detect_leaks=0'
+FORMATS = ['02', '04', '06', '08', '13', '15', '17', '43', '45', '47', '52', '54', '56', '5A']
+
+
+def fail(words):
+    sys.exit(f'desk: {words}')
+
+
+def run(*words, may=(0, 1, 2)):
+    done = subprocess.run([program, *words], capture_output=True, check=False)
+    said = done.stderr.decode(errors='replace')
+    if done.returncode not in may or 'Sanitizer' in said or 'runtime error' in said:
+        fail(f'{" ".join(words)} ended with {done.returncode}\n{said}')
+    return done
+
+
+def whole_log(folder):
+    channels = chance.choice([1, 2, 3, 5, 8])
+    octets = chance.choice([2, 3, 4])
+    with wave.open(str(folder / 'in.wav'), 'wb') as sound:
+        sound.setparams((channels, octets, 48000, 0, 'NONE', ''))
+        sound.writeframes(chance.randbytes(channels * octets * chance.randrange(2000)))
+    words = ['send', '-q', '--cut', '--force', str(folder / 'in.wav'), str(folder / 'in.log')]
+    format_ = chance.choice(FORMATS)
+    words += ['--format', format_, '--order', chance.choice('01'), '--number', str(chance.randrange(16))]
+    if format_[0] in '45' and chance.randrange(2):
+        words += ['--origin', 'ABCD']
+    run(*words, may=(0,))
+    return (folder / 'in.log').read_bytes()
+
+
+def spoiled(log):
+    log = bytearray(log)
+    for _ in range(chance.choice([0, 1, 3, 30])):
+        at = chance.randrange(len(log)) if chance.randrange(9) else chance.randrange(min(3, len(log)))
+        kind = chance.randrange(6)
+        if kind == 0:
+            log[at] = chance.randrange(256)
+        elif kind == 1:
+            log[at] ^= 1 << chance.randrange(8)
+        elif kind == 2:
+            del log[at:at + chance.choice([1, 48, 49])]
+        elif kind == 3:
+            log[at:at] = bytes(chance.choice([1, 48, 49]))
+        else:  # whole records taken out
+            at = 3 + at // 49 * 49
+            del log[at:at + 49 * chance.randrange(1, 20)]
+        if not log:
+            break
+    return bytes(log)
+
+
+def salvaged(folder, name, listed, sheet, answer):
+    """What is salvaged has the sound records and no other, and the figures and the answer of the log itself."""
+    new = str(folder / 'new.log')
+    run('salvage', '--force', name, new)
+    kept = run('list', new, may=(0,)).stdout.decode().splitlines()
+    words = [line.split() for line in listed.splitlines()]
+    if [line.split()[1:] for line in kept[1:-1]] != [line[1:] for line in words[1:-1] if line[1] == 'sound']:
+        fail(f'salvage kept other records than are sound of\n{listed}')
+    old, new_sheet = (text.splitlines()[1].split(',') for text in (sheet, run('sheet', new).stdout.decode()))
+    if old[1:3] + old[7:] != new_sheet[1:3] + new_sheet[7:] or old[1] != words[-1][1] or old[2] != words[-1][3]:
+        fail(f'{sheet} of\n{listed}')
+    if sum(map(int, old[3:7])) != int(words[-1][5]) or answer[:3] != run('anything', new).stdout.decode()[:3]:
+        fail(f'{sheet} and {answer} of\n{listed}')
+
+
+def try_log(folder, log):
+    name = str(folder / 'spoiled.log')
+    pathlib.Path(name).write_bytes(log)
+    listed = run('list', name).stdout.decode()
+    if linelist.exists():
+        expected = subprocess.run([linelist], input=log, capture_output=True, check=True).stdout.decode()
+        if listed != expected:
+            fail(f'list prints\n{listed}and linelist\n{expected}')
+    run('labels', name)
+    sheet = run('sheet', name).stdout.decode()
+    answer = run('anything', name).stdout.decode()
+    if listed.startswith('log refused'):
+        run('salvage', name, str(folder / 'no.log'), may=(2,))
+    else:
+        salvaged(folder, name, listed, sheet, answer)
+    run('picture', '-q', '--force', name, str(folder / 'out.png'))
+    marks = folder / 'out.marks'
+    received = run('receive', '-q', '--force', name, str(folder / 'out.wav'), '--marks', str(marks), '--labels',
+                   str(folder / 'out.txt'))
+    lines = listed.splitlines()
+    if not lines[0].startswith('format') or b'no sound file holds' in received.stderr:
+        return
+    octet, channels, _ = map(int, lines[0].split()[1:])
+    bits = 4 * (octet % 16) + 4 * (octet // 64) + 4 * (octet // 16 % 4)
+    entries = channels * (48 * 8 // bits // channels)
+    _, sound, _, missing, *_ = lines[-1].split()
+    told = marks.read_bytes()
+    if len(told) != (int(sound) + int(missing)) * entries or told.count(2) != int(missing) * entries:
+        fail(f'{len(told)} marks, {told.count(2)} of them missing, of\n{listed}')
+
+
+with tempfile.TemporaryDirectory() as place:
+    for _ in range(count):
+        try_log(pathlib.Path(place), spoiled(whole_log(pathlib.Path(place))))
+print(f'desk: {count} spoiled logs, no fault')

@@ -1,0 +1,98 @@
+#!/usr/bin/env bash
+# A user's first hour: the commands of README.md, "Use it" and "Link it", and of docs/LINKING.md are run as they stand there, in a
+# copy of the repository, with a home of its own and nothing else on the path; what they print is what the pages say. Then a C
+# program elsewhere is built by pkg-config alone, and each rule of docs/RULES.md is cited in docs/PROMISES.md.
+#
+# The copy gets target/ as the gate has it: what was proved is found there, and not proved once more.
+set -eu -o pipefail
+export LC_ALL=C
+bash tests/need.sh pkg-config
+dir=$(mktemp -d)
+trap 'rm -rf "$dir"' EXIT
+export CARGO_HOME=${CARGO_HOME:-$HOME/.cargo} RUSTUP_HOME=${RUSTUP_HOME:-$HOME/.rustup}
+mkdir "$dir/home" "$dir/clone" "$dir/bin" "$dir/elsewhere"
+tar --exclude=./target --exclude=./.git -cf - . | tar -xf - -C "$dir/clone"
+mkdir "$dir/clone/target"
+for folder in bin log obj rlib stamp staticlib; do
+    [ ! -e "target/$folder" ] || cp -a "target/$folder" "$dir/clone/target/"
+done
+for program in rt cargo rustc python3; do ln -s "$(command -v "$program")" "$dir/bin/$program"; done
+export HOME=$dir/home PATH=$dir/bin:/usr/bin:/bin
+
+cat > "$dir/follow.py" << 'PYTHON'
+"""Runs the commands of a page's sections: the lines that begin with `    $ `, with what they print below them."""
+import pathlib
+import re
+import subprocess
+import sys
+
+page, *wanted = sys.argv[1:]
+commands, section, printed_here = [], None, False
+for line in pathlib.Path(page).read_text(encoding='utf-8').split('\n'):
+    if line.startswith('## '):
+        section = line[3:]
+    elif section in wanted and line.startswith('    $ '):
+        commands.append((line[6:], []))
+        printed_here = True
+    elif not line.startswith('    '):
+        printed_here = False
+    elif printed_here:
+        commands[-1][1].append(line[4:])
+script = 'exec 2>&1\n' + ''.join(f'echo "@@"\n{command} || {{ echo "@@failed"; exit 1; }}\n' for command, _ in commands)
+ran = subprocess.run(['bash', '-c', script], stdout=subprocess.PIPE, stdin=subprocess.DEVNULL, text=True)
+parts = [part.rstrip('\n').split('\n') for part in re.split(r'^@@\n', ran.stdout, flags=re.M)[1:]]
+wrong = ran.returncode != 0 or len(parts) != len(commands)
+for (command, expected), printed in zip(commands, parts):
+    # `..` stands for any lines; a command without lines may print anything
+    pattern = ''.join('(?:.*\n)*' if line == '..' else re.escape(line) + '\n' for line in expected)
+    if expected and not re.fullmatch(pattern, '\n'.join(printed) + '\n'):
+        print(f'{page}: {command}: printed', *printed, sep='\n  ')
+        wrong = True
+if wrong:
+    print(ran.stdout[-3000:])
+    sys.exit(1)
+print(f'{page}: {len(commands)} commands print what they should')
+PYTHON
+(
+    cd "$dir/clone"
+    python3 "$dir/follow.py" README.md 'Use it' 'Link it'
+    python3 "$dir/follow.py" docs/LINKING.md C Rust Python
+)
+
+# What was installed, from a folder that has nothing else.
+cp examples/c/handover.c "$dir/elsewhere/"
+cp examples/handover.expected examples/reading.log examples/reading.expected "$dir/elsewhere/"
+cd "$dir/elsewhere"
+export PKG_CONFIG_PATH=$HOME/.local/lib/pkgconfig PYTHONDONTWRITEBYTECODE=1
+# shellcheck disable=SC2046 # several words
+gcc -std=c99 -Wall -Wextra -Werror handover.c $(pkg-config --cflags --libs rimesatchel) -o handover
+./handover > printed
+diff handover.expected printed
+"$HOME/.local/bin/linelist" reading.log > printed
+diff reading.expected printed
+version=$(pkg-config --modversion rimesatchel)
+export PYTHONPATH=$HOME/.local/lib/python3/dist-packages
+[ "$(python3 -c 'import rimesatchel; print(rimesatchel.VERSION)')" = "$version" ]
+echo "install: a C program elsewhere is built by pkg-config alone; version $version"
+cd "$OLDPWD"
+
+python3 - << 'PYTHON'
+import pathlib
+import re
+import sys
+
+chapter, rules = None, set()
+for line in pathlib.Path('docs/RULES.md').read_text(encoding='utf-8').split('\n'):
+    if found := re.match(r'## (\d+)\. ', line):
+        chapter = found[1]
+    elif (found := re.match(r'(\d+)\. ', line)) and chapter:
+        rules.add(f'{chapter}.{found[1]}')
+text = pathlib.Path('docs/PROMISES.md').read_text(encoding='utf-8')
+table = text.split('## By rule', 1)[1].split('\n## ', 1)[0]
+cited = {rule for row in re.findall(r'^\| (\d[\d., ]*) \|', table, re.M) for rule in row.split(', ')}
+for rule in sorted(rules ^ cited):
+    print(f'docs/PROMISES.md: rule {rule} is', 'not cited' if rule in rules else 'no rule', file=sys.stderr)
+if rules ^ cited or not rules:
+    sys.exit(1)
+print(f'docs/PROMISES.md: {len(rules)} rules are cited')
+PYTHON
