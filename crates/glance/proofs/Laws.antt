@@ -30,14 +30,14 @@ use Rattle.cells.specs.Placement.{slotOfEntry, entryOfSlot}
 use Rattle.cells.proofs.Placement.{slot-lt, entry-lt, slot-of-entry, slot-next}
 use Rattle.cells.proofs.Subframes.{guard-le, four-ancillary}
 use Rattle.receiver.specs.declared.Receiver.{Receiver}
-use Rattle.receiver.specs.Unpacking.{usedIn, ownEntries}
+use Rattle.receiver.specs.Unpacking.{usedIn, ownEntries, fours}
 use Rattle.receiver.proofs.Reading.{read, read-more, walk-begun}
 use Rattle.receiver.proofs.Unpacking.{own-at, slot-straight}
 use Rattle.reading.specs.Totals.{totalOf, countOf}
 use Rattle.reading.proofs.Totals.{total-more}
 use Rattle.glance.specs.declared.Marks.{Marks}
 use Rattle.glance.specs.Glance.{isSound, some, soundAt, ownSamples, ownMarks, readable, soundsOf, markedOf}
-use Rattle.glance.specs.Code.{soundIn, markedIn}
+use Rattle.glance.specs.Code.{soundIn, markedIn, Usual}
 use Rattle.glance.proofs.Some.{some-here, some-from, same-bool}
 
 -- octets read one more at a time
@@ -366,3 +366,26 @@ module _ (st : Receiver) (cell : List ℕ) {set : Settled}
           rw read-whole
           ((λ i. record { sound = zeros i; damaged = ones-is i })
           ∙ ap (λ (x : Settled). record { sound = markedIn 0 x cell; damaged = markedIn 1 x cell }) is)
+
+-- 56 hex in order 0: its format, and each entry in its own slot
+module _ {set : Settled} (u : Usual set) where
+  pub usual-format : Sound (set .format) → fours ≡ set .format
+  usual-format sound =
+      let width : 4 ≡ set .format .width = omega (arith, sound .bits, u .sample, u .ancillary, u .overhead) in
+      let slots-of : set .format .slots * 4 ≡ 48 = ap (λ (n : ℕ). set .format .slots * n) width ∙ sound .cell in
+      let slots : 12 ≡ set .format .slots = omega (arith, slots-of) in
+      λ i. record {
+        «sample_bits» = sym (u .sample) i;
+        «ancillary_bits» = sym (u .ancillary) i;
+        «overhead_bits» = sym (u .overhead) i;
+        width = width i;
+        slots = slots i;
+      }
+
+  pub usual-slot : (i : ℕ) → i ≡ slotOfEntry (set .«by_channel») (set .channels) (set .times) i
+  usual-slot = slot-straight set (u .straight)
+
+  pub usual-mark : {cell : List ℕ} {i mark subframe : ℕ} → Sound (set .format) → mark ≡ markIn fours subframe
+      → subframe ≡ subframeAt fours cell i → mark ≡ markIn (set .format) (subframeAt (set .format) cell i)
+  usual-mark {cell} {i} sound is read =
+      is ∙ ap (markIn fours) read ∙ ap (λ (f : Format). markIn f (subframeAt f cell i)) (usual-format sound)

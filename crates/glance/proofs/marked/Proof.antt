@@ -21,24 +21,24 @@ mul-used c =
     let limits = limits-of _ _ _ (c .before .before .before .before .settings .ensures) (c .before .before .if1 .left) in
     omega (arith, limits .used-to)
 
-damaged-in-requires : tie.Need-damaged-in-requires
-damaged-in-requires c κs = (
+damaged-by-requires : tie.Need-damaged-by-requires
+damaged-by-requires c κs = (
   limits-of _ _ _ (c .before .before .before .before .settings .ensures) (c .before .before .if1 .left),
   refl,
   c .before .if2 .left,
 )
 
 sub-t10 : tie.Need-sub-t10
-sub-t10 c = c .damaged-in .ensures .1
+sub-t10 c = c .damaged-by .ensures .1
 
 returns-3 : tie.Need-returns-3
 returns-3 c =
     marked-said _ _ (c .before .before .before .before .before .settings .ensures) (c .before .before .before .if1 .left)
-    (c .before .before .if2 .left) refl (c .damaged-in .ensures .0)
+    (c .before .before .if2 .left) refl (c .damaged-by .ensures .0)
 
 pub marked-spec : {M : Type 1} → statement M
 marked-spec =
     tie.close
     (tie.spec (search needs) (search needs)
-    (search needs) settings-requires returns returns-2 mul-used damaged-in-requires sub-t10
+    (search needs) settings-requires returns returns-2 mul-used damaged-by-requires sub-t10
     returns-3)
