@@ -19,25 +19,27 @@ use Rattle.formats.specs.declared.Format.{Format}
 use Rattle.formats.specs.declared.Settled.{Settled}
 use Rattle.formats.specs.Formats.{settingsRefusal}
 use Rattle.formats.specs.Settings.{settled, settingsOf}
+use Rattle.formats.specs.Code.{isUsual, usualWith}
 use Rattle.formats.specs.Sound.{Sound, Limits}
-use Rattle.formats.proofs.Laws.{refusal-of, settled-of, settled-limits}
+use Rattle.formats.proofs.Laws.{refusal-of, settled-of, settled-limits, usual-is}
 use Rattle.guards.specs.Guards.{nineOf, protectedBits, vOf, tenGuard, guardOf}
 use Rattle.guards.specs.Code.{sevenGuards}
 use Rattle.guards.proofs.Laws.{v-none, v-some, nine-lt, nine-shifted, seven-guard}
 use Rattle.cells.specs.Cells.{guardIn, subframeAt, sampleIn, ancillaryIn, markIn, entriesOf}
 use Rattle.cells.specs.Code.{stepOn}
-use Rattle.cells.specs.Placement.{slotOfEntry, entryOfSlot}
+use Rattle.cells.specs.Placement.{slotOf, slotOfEntry, entryOfSlot}
 use Rattle.cells.proofs.Placement.{slot-lt, entry-lt, slot-of-entry, slot-next}
 use Rattle.cells.proofs.Subframes.{guard-le, four-ancillary}
 use Rattle.receiver.specs.declared.Receiver.{Receiver}
-use Rattle.receiver.specs.Unpacking.{usedIn, ownEntries, fours}
+use Rattle.receiver.specs.Unpacking.{usedIn, ownEntries, straight}
+use Rattle.receiver.proofs.AllSlots.{sound-usual, usual-settles}
 use Rattle.receiver.proofs.Reading.{read, read-more, walk-begun}
 use Rattle.receiver.proofs.Unpacking.{own-at, slot-straight}
 use Rattle.reading.specs.Totals.{totalOf, countOf}
 use Rattle.reading.proofs.Totals.{total-more}
 use Rattle.glance.specs.declared.Marks.{Marks}
 use Rattle.glance.specs.Glance.{isSound, some, soundAt, ownSamples, ownMarks, readable, soundsOf, markedOf}
-use Rattle.glance.specs.Code.{soundIn, markedIn, Usual}
+use Rattle.glance.specs.Code.{soundIn, markedIn}
 use Rattle.glance.proofs.Some.{some-here, some-from, same-bool}
 
 -- octets read one more at a time
@@ -367,25 +369,35 @@ module _ (st : Receiver) (cell : List ℕ) {set : Settled}
           ((λ i. record { sound = zeros i; damaged = ones-is i })
           ∙ ap (λ (x : Settled). record { sound = markedIn 0 x cell; damaged = markedIn 1 x cell }) is)
 
--- 56 hex in order 0: its format, and each entry in its own slot
-module _ {set : Settled} (u : Usual set) where
-  pub usual-format : Sound (set .format) → fours ≡ set .format
-  usual-format sound =
-      let width : 4 ≡ set .format .width = omega (arith, sound .bits, u .sample, u .ancillary, u .overhead) in
-      let slots-of : set .format .slots * 4 ≡ 48 = ap (λ (n : ℕ). set .format .slots * n) width ∙ sound .cell in
-      let slots : 12 ≡ set .format .slots = omega (arith, slots-of) in
-      λ i. record {
-        «sample_bits» = sym (u .sample) i;
-        «ancillary_bits» = sym (u .ancillary) i;
-        «overhead_bits» = sym (u .overhead) i;
-        width = width i;
-        slots = slots i;
-      }
+-- every slot of 56 hex as an entry
+pub straight-limits : Limits straight
+straight-limits =
+    record {
+      sound = sound-usual;
+      channels-from = omega arith;
+      times-from = omega arith;
+      used-in = omega arith;
+      used-to = omega arith;
+      sample-to = omega arith;
+      ancillary-to = omega arith;
+    }
 
-  pub usual-slot : (i : ℕ) → i ≡ slotOfEntry (set .«by_channel») (set .channels) (set .times) i
-  usual-slot = slot-straight set (u .straight)
+pub straight-slot : (i : ℕ) → i ≡ slotOfEntry (straight .«by_channel») (straight .channels) (straight .times) i
+straight-slot i = slot-straight straight [] refl i
 
-  pub usual-mark : {cell : List ℕ} {i mark subframe : ℕ} → Sound (set .format) → mark ≡ markIn fours subframe
-      → subframe ≡ subframeAt fours cell i → mark ≡ markIn (set .format) (subframeAt (set .format) cell i)
-  usual-mark {cell} {i} sound is read =
-      is ∙ ap (markIn fours) read ∙ ap (λ (f : Format). markIn f (subframeAt f cell i)) (usual-format sound)
+-- the usual settings: the same marks with one channel and with two
+marks-as : (cell : List ℕ)
+    → (markedIn 1 straight cell ≡ markedIn 1 (usualWith 1 12) cell) × (markedIn 1 straight cell ≡ markedIn 1 (usualWith 2 6) cell)
+unfolding entriesOf tab slotOfEntry slotOf
+marks-as cell = (refl, refl)
+
+pub usual-marked : (st : Receiver) (cell : List ℕ) {ones : ℕ} → isUsual (st .format) (st .channels) (st .order) ≡ true
+    → length cell ≡ 48 → ones ≡ markedIn 1 straight cell → record { sound = 12 - ones; damaged = ones } ≡ markedOf st cell
+usual-marked st cell {ones} usual whole ones-is =
+    let set : Settled = settingsOf 0x56 (cond (eqb (st .channels) 2) 2 1) 0 in
+    let taken : set .refusal ≡ 0 = usual-is (st .channels) refl (λ (x : Settled). x .refusal ≡ 0) refl refl in
+    let used : 12 ≡ usedIn set = usual-is (st .channels) refl (λ (x : Settled). 12 ≡ usedIn x) refl refl in
+    let same : markedIn 1 straight cell ≡ markedIn 1 set cell
+    = usual-is (st .channels) refl (λ (x : Settled). markedIn 1 straight cell ≡ markedIn 1 x cell) (marks-as cell .0)
+    (marks-as cell .1) in
+    marked-said st cell (usual-settles st refl usual) taken whole used (ones-is ∙ same)

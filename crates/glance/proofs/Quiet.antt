@@ -2,7 +2,7 @@
 -- Assumes nothing.
 use mathlib.Core.Bool.{Bool, true, false, not, _||_}
 use mathlib.Core.List.{List}
-use mathlib.Core.Path.{_≡_, refl, sym, _∙_, ap, ap₂}
+use mathlib.Core.Path.{_≡_, refl, sym, _∙_, ap, ap₂, subst}
 use Prim.Native.Nat.{ℕ, _+_, _*_, _/_, _%_, _≤_, _<_}
 use native.Mathlib.Numerals.{add-one}
 use native.Mathlib.Omega.{arith}
@@ -39,6 +39,14 @@ use Rattle.glance.specs.Code.{soundIn, loudAt}
 use Rattle.glance.proofs.Some.{some-none, some-fails}
 use Rattle.glance.proofs.Laws.{zero-silent, limits-of, refused-silent, sounds-said}
 
+-- a number of four octets that only the last one makes
+last-alone : (a b c d : ℕ) → (a * 256 + b) * 65536 + (c * 256 + d) < 256 → a + b * 256 + c * 65536 ≡ 0
+last-alone a b c d h =
+    let za : a ≡ 0 = omega (arith, h) in
+    let zb : b ≡ 0 = omega (arith, h) in
+    let zc : c ≡ 0 = omega (arith, h) in
+    rw (za, zb, zc)
+
 -- four octets, the first as the lowest: the three lowest are the sample
 module _ (a b c d number low : ℕ) (a-fits : a < 256) (b-fits : b < 256) (c-fits : c < 256) (d-fits : d < 256)
     (low-is : low ≡ a + b * 256 + c * 65536 + d * 16777216) (is : number ≡ (a * 256 + b) * 65536 + (c * 256 + d)) where
@@ -49,7 +57,10 @@ module _ (a b c d number low : ℕ) (a-fits : a < 256) (b-fits : b < 256) (c-fit
   told =
       split (leb 256 number)
       (λ t. rw t (ap not (ne-eqb (low % 16777216) 0 (λ z. omega (arith, z, three, leb-true 256 number t)))))
-      (λ t. rw t (ap not (eq-eqb (low % 16777216) 0 (omega (arith, three, leb-false 256 number t)))))
+      (λ t.
+      rw t
+      (ap not
+      (eq-eqb (low % 16777216) 0 (three ∙ last-alone a b c d (subst (λ (n : ℕ). n < 256) is (leb-false 256 number t))))))
 
 pub low-loud : (cell : List ℕ) (at : ℕ) → at + 4 ≤ length cell → getD cell at 0 < 256 → getD cell (at + 1) 0 < 256
     → getD cell (at + 2) 0 < 256 → getD cell (at + 3) 0 < 256

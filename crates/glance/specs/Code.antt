@@ -1,8 +1,7 @@
 -- Words of the code, which document 01 doesn't have: the entries of a cell slot by slot.
 -- Assumes nothing.
-use mathlib.Core.Bool.{Bool, false}
+use mathlib.Core.Bool.{Bool}
 use mathlib.Core.List.{List}
-use mathlib.Core.Path.{_≡_}
 use Prim.Native.Nat.{ℕ, _*_}
 use lib.Dec.{eqb, leb}
 use lib.ListN.{take, drop}
@@ -25,10 +24,3 @@ markedIn mark set cell = countOf (λ m. eqb m mark) (ownEntries (markIn (set .fo
 -- the sample of a slot of 56 hex isn't zero
 unfoldable pub loudAt : List ℕ → ℕ → Bool
 loudAt cell slot = leb 256 (numberOf (take 4 (drop (slot * 4) cell)))
-
--- 56 hex in order 0, by what its format has beside width and slots
-pub record Usual (set : Settled) : Type 0 where
-  pub sample : set .format .«sample_bits» ≡ 24
-  pub ancillary : set .format .«ancillary_bits» ≡ 4
-  pub overhead : set .format .«overhead_bits» ≡ 4
-  pub straight : set .«by_channel» ≡ false

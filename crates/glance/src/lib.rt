@@ -8,14 +8,15 @@ ghost use Prim.Native.Nat.{ℕ, _+_, _%_, _^_, _≤_, _<_};
 ghost use lib.Dec.{eqb, leb};
 ghost use lib.ListN.{length, take, drop};
 ghost use Rattle.runs.specs.Runs.{numberOf};
+ghost use Rattle.formats.specs.Code.{isUsual};
 ghost use Rattle.formats.specs.Sound.{Sound, Limits};
 ghost use Rattle.guards.specs.Guards.{nineOf, protectedBits, vOf};
 ghost use Rattle.guards.specs.Code.{sevenGuards};
 ghost use Rattle.cells.specs.Cells.{subframeAt, sampleIn, ancillaryIn, markIn};
 ghost use Rattle.cells.specs.Placement.{slotOfEntry};
-ghost use Rattle.receiver.specs.Unpacking.{usedIn};
+ghost use Rattle.receiver.specs.Unpacking.{usedIn, straight};
 ghost use Rattle.glance.specs.Glance.{some, soundsOf, markedOf};
-ghost use Rattle.glance.specs.Code.{soundIn, markedIn, loudAt, Usual};
+ghost use Rattle.glance.specs.Code.{soundIn, markedIn, loudAt};
 
 // How many of a cell's own entries are marked 0, and how many 1.
 pub struct Marks {
@@ -141,27 +142,10 @@ fn damaged_in(set: Settled, used: usize, cell: &[u8]) -> usize
     count
 }
 
-// Whether it is 56 hex in order 0, by what its format has beside width and slots.
-fn is_usual(set: Settled) -> bool
-    ensures { λ r. ⌜ (r ≡ true → Usual set) ⌝ }
-{
-    if set.by_channel {
-        return false;
-    }
-    let format = set.format;
-    if format.sample_bits != 24 {
-        return false;
-    }
-    if format.ancillary_bits != 4 {
-        return false;
-    }
-    format.overhead_bits == 4
-}
-
-// The same for 56 hex in order 0: with constants the compiler takes a subframe apart in few steps.
-fn damaged_usual(set: Settled, used: usize, cell: &[u8]) -> usize
-    requires { ⌜ Limits set × (used ≡ usedIn set) × (length (now cell) ≡ 48) × Usual set ⌝ }
-    ensures { λ r. ⌜ (r ≡ markedIn 1 set (now (cell .entry))) × (r ≤ used) ⌝ }
+// How many of the twelve slots of a cell of 56 hex are marked 1. With constants the compiler takes a subframe apart in few steps.
+fn damaged_usual(cell: &[u8]) -> usize
+    requires { ⌜ length (now cell) ≡ 48 ⌝ }
+    ensures { λ r. ⌜ (r ≡ markedIn 1 straight (now (cell .entry))) × (r ≤ 12) ⌝ }
 {
     let format = Format {
         sample_bits: 24,
@@ -172,22 +156,12 @@ fn damaged_usual(set: Settled, used: usize, cell: &[u8]) -> usize
     };
     let table = guards::sevens();
     let mut count = 0;
-    let mut i = 0;
-    while i < used {
-        count += mark_in(format, &table, subframe_in(format, cell, i));
-        i += 1;
+    let mut slot = 0;
+    while slot < 12 {
+        count += mark_in(format, &table, subframe_in(format, cell, slot));
+        slot += 1;
     }
     count
-}
-
-fn damaged_by(set: Settled, used: usize, cell: &[u8]) -> usize
-    requires { ⌜ Limits set × (used ≡ usedIn set) × (length (now cell) ≡ 48) ⌝ }
-    ensures { λ r. ⌜ (r ≡ markedIn 1 set (now (cell .entry))) × (r ≤ used) ⌝ }
-{
-    if is_usual(set) {
-        return damaged_usual(set, used, cell);
-    }
-    damaged_in(set, used, cell)
 }
 
 // Four octets, the first as the lowest. A function of its own, so that the compiler reads them by one load.
@@ -252,9 +226,8 @@ pub fn sounds(state: Receiver, cell: &[u8]) -> bool
     among(set.format, cell, used)
 }
 
-// How many of the cell's own entries are marked 0, and how many 1. Zeros where the state's settings are refused, or the cell
-// isn't of 48 octets.
-pub fn marked(state: Receiver, cell: &[u8]) -> Marks
+// By the settings of the state, whatever they are.
+fn marked_any(state: Receiver, cell: &[u8]) -> Marks
     ensures { λ r. ⌜ r ≡ markedOf state (now (cell .entry)) ⌝ }
 {
     let set = formats::settings(
@@ -275,9 +248,33 @@ pub fn marked(state: Receiver, cell: &[u8]) -> Marks
         };
     }
     let used = set.channels * set.times;
-    let damaged = damaged_by(set, used, cell);
+    let damaged = damaged_in(set, used, cell);
     Marks {
         sound: used - damaged,
         damaged,
     }
+}
+
+// A whole cell of the usual settings: each of its twelve slots is an entry.
+fn usual_cell(state: Receiver, cell: &[u8]) -> bool
+    ensures { λ r. ⌜ (r ≡ true
+        → (isUsual (state .format) (state .channels) (state .order) ≡ true) × (length (now (cell .entry)) ≡ 48)) ⌝ }
+{
+    if cell.len() != 48 {
+        return false;
+    }
+    formats::is_usual(state.format, state.channels, state.order)
+}
+
+// How many of the cell's own entries are marked 0, and how many 1. Zeros where the state's settings are refused, or the cell
+// isn't of 48 octets.
+pub fn marked(state: Receiver, cell: &[u8]) -> Marks
+    ensures { λ r. ⌜ r ≡ markedOf state (now (cell .entry)) ⌝ }
+{
+    if usual_cell(state, cell) {
+        let damaged = damaged_usual(cell);
+        let sound = 12 - damaged;
+        return Marks { sound, damaged };
+    }
+    marked_any(state, cell)
 }
