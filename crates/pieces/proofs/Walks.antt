@@ -209,7 +209,8 @@ found-room {s} {held} {piece} {place} step two =
     room s held piece place (ap (λ (f : Found). f .what) (sym (step .answered)) ∙ two)
 
 -- what was found is a record: its octets tell it
-pub found-record : (f : Found) (held piece : List ℕ) (place : ℕ) → (f .what ≡ 2 → place + 49 ≤ length piece) → isRecord (f .what) ≡ true
+pub found-record : (f : Found) (held piece : List ℕ) (place : ℕ) → (f .what ≡ 2 → place + 49 ≤ length piece)
+    → isRecord (f .what) ≡ true
     → foundParts f held piece place ≡ whole (frontOf (foundOctets (f .what) held piece place)) ∷ []
 unfolding foundParts isRecord foundOctets inPiece
 found-record f held piece place room is =

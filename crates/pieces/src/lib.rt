@@ -3,8 +3,20 @@
 ghost use mathlib.Core.Path.{_≡_};
 ghost use Prim.Native.Nat.{_+_, _-_, _≤_, _<_};
 ghost use lib.ListN.{length, take, drop};
-ghost use Rattle.pieces.specs.Steps.{startOf, takingOf, faultFound, headerFound, recordFound, wholeFound, beginsAbove, liesWhole, Steps, isRecord, inPiece,
-  foundOctets};
+ghost use Rattle.pieces.specs.Steps.{
+  startOf,
+  takingOf,
+  faultFound,
+  headerFound,
+  recordFound,
+  wholeFound,
+  beginsAbove,
+  liesWhole,
+  Steps,
+  isRecord,
+  inPiece,
+  foundOctets,
+};
 ghost use Rattle.pieces.specs.Taken.{endFault};
 
 // Where a log stands. Its stage: 0 in the header, 1 among the records, 2 the header is refused, 3 a record is broken; the

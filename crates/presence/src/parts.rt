@@ -18,11 +18,7 @@ fn past_front(sought: Sought, octets: [u8; 49]) -> Sought
         return sought;
     }
     let record = log::read_record(&octets, 0);
-    let said = sounds::heard(
-        sought.state,
-        log::read_cell(&octets, 0),
-        record.indication,
-    );
+    let said = sounds::heard(sought.state, log::read_cell(&octets, 0), record.indication);
     let state = said.state;
     if said.sounds {
         return Sought {

@@ -9,34 +9,46 @@ use Rattle.glance.proofs.low4.Statement.{statement}
 use Rattle.glance.proofs.low4.Tie as tie
 
 cast-result : tie.Need-cast-result
-cast-result c = omega (arith, c .shared-slice-known .given (c .before .args .at))
+cast-result c =
+    let a = c .before .args in
+    let known = c .shared-slice-known .given in
+    omega (arith, known (a .at))
 
 cast-result-2 : tie.Need-cast-result-2
 cast-result-2 c =
-    omega (arith, c .shared-slice-known2 .given (c .before .before .args .at), c .shared-slice-known2 .given (c .before .before .args .at + 1))
+    let a = c .before .before .args in
+    let known = c .shared-slice-known2 .given in
+    omega (arith, known (a .at), known (a .at + 1))
 
 mul-result : tie.Need-mul-result
 mul-result c =
-    omega (arith, c .shared-slice-known2 .given (c .before .before .args .at), c .shared-slice-known2 .given (c .before .before .args .at + 1))
+    let a = c .before .before .args in
+    let known = c .shared-slice-known2 .given in
+    omega (arith, known (a .at), known (a .at + 1))
 
 add-result-2 : tie.Need-add-result-2
 add-result-2 c =
-    omega (arith, c .shared-slice-known2 .given (c .before .before .args .at), c .shared-slice-known2 .given (c .before .before .args .at + 1))
+    let a = c .before .before .args in
+    let known = c .shared-slice-known2 .given in
+    omega (arith, known (a .at), known (a .at + 1))
 
 cast-result-3 : tie.Need-cast-result-3
 cast-result-3 c =
     let a = c .before .before .before .args in
-    omega (arith, c .shared-slice-known3 .given (a .at), c .shared-slice-known3 .given (a .at + 1), c .shared-slice-known3 .given (a .at + 2))
+    let known = c .shared-slice-known3 .given in
+    omega (arith, known (a .at), known (a .at + 1), known (a .at + 2))
 
 mul-result-2 : tie.Need-mul-result-2
 mul-result-2 c =
     let a = c .before .before .before .args in
-    omega (arith, c .shared-slice-known3 .given (a .at), c .shared-slice-known3 .given (a .at + 1), c .shared-slice-known3 .given (a .at + 2))
+    let known = c .shared-slice-known3 .given in
+    omega (arith, known (a .at), known (a .at + 1), known (a .at + 2))
 
 add-result-4 : tie.Need-add-result-4
 add-result-4 c =
     let a = c .before .before .before .args in
-    omega (arith, c .shared-slice-known3 .given (a .at), c .shared-slice-known3 .given (a .at + 1), c .shared-slice-known3 .given (a .at + 2))
+    let known = c .shared-slice-known3 .given in
+    omega (arith, known (a .at), known (a .at + 1), known (a .at + 2))
 
 cast-result-4 : tie.Need-cast-result-4
 cast-result-4 c =

@@ -17,7 +17,9 @@ abbrev μ-loop : tie.MeasureT-loop
 μ-loop piece place octets₀ i₀ octets i = 49 - i
 
 size : (c : tie.Start Inv-loop μ-loop) → length (take 49 (drop (c .args .place) (c .args .piece .now))) ≡ 49
-size c = length-take-le 49 (drop (c .args .place) (c .args .piece .now)) (omega (arith, c .pre, length-drop (c .args .place) (c .args .piece .now)))
+size c =
+    length-take-le 49 (drop (c .args .place) (c .args .piece .now))
+    (omega (arith, c .pre, length-drop (c .args .place) (c .args .piece .now)))
 
 loop-holds : tie.Need-loop-holds Inv-loop μ-loop
 loop-holds c = begun _ _ _
@@ -38,4 +40,5 @@ returns c =
 pub copied-spec : {M : Type 1} → statement M
 copied-spec =
     tie.close
-    (tie.spec Inv-loop μ-loop loop-holds (search needs) (search needs) (search needs) (search needs) (search needs) loop-again returns)
+    (tie.spec Inv-loop μ-loop loop-holds (search needs) (search needs) (search needs) (search needs) (search needs) loop-again
+    returns)

@@ -38,4 +38,5 @@ returns-3 c =
 pub past-front-spec : {M : Type 1} → statement M
 past-front-spec =
     tie.close
-    (tie.spec returns (search needs) (search needs) (search needs) (search needs) (search needs) returns-2 (search needs) returns-3)
+    (tie.spec returns (search needs) (search needs) (search needs) (search needs) (search needs) returns-2 (search needs)
+    returns-3)
