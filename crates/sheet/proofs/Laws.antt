@@ -1,13 +1,13 @@
 -- Laws of a sheet under way and of what a read delivers, over plain values.
 -- Assumes nothing.
-use mathlib.Core.Bool.{true, false, true≢false}
+use mathlib.Core.Bool.{false}
 use mathlib.Core.List.{List}
-use mathlib.Core.Path.{_≡_, refl, sym, _∙_, ap, subst}
-use Prim.Native.Nat.{ℕ, _+_, _*_, _/_, _-_, _≤_, _<_}
+use mathlib.Core.Path.{_≡_, refl, _∙_, ap, subst}
+use Prim.Native.Nat.{ℕ, _≤_, _<_}
 use native.Mathlib.Omega.{arith}
-use borrow.Author.Tests.{ltb-true, ltb-false}
+use borrow.Author.Tests.{ltb-true}
 use lib.Dec.{ltb}
-use lib.ListN.{length, take, replicate}
+use lib.ListN.{length, take}
 use Rattle.runs.proofs.Laws.{split}
 use Rattle.table.specs.declared.Input.{Input}
 use Rattle.table.specs.declared.Shared.{Shared}
@@ -28,20 +28,25 @@ next-outside i = split (ltb 4095 (i .logs)) (λ e. rw e refl) (λ e. rw e refl)
 pub share-some : (i : Input) (room : ℕ) {s : Shared} → s ≡ sharedOf i room → (i .left ≡ 0 → ⊥) → 0 < room
     → (0 < s .count) × (s .count ≤ room)
 unfolding sharedOf
-share-some i room is some here =
+share-some i room {s} is some here =
     split (ltb (i .left) room)
     (λ e.
-    let count = ap (λ (s : Shared). s .count) (is ∙ rw e refl) in
-    (omega (arith, count, some), omega (arith, count, ltb-true (i .left) room e)))
-    (λ e. let count = ap (λ (s : Shared). s .count) (is ∙ rw e refl) in (omega (arith, count, here), omega (arith, count)))
+    let all : sharedOf i room .count ≡ i .left = rw e refl in
+    let count : s .count ≡ i .left = ap (λ (x : Shared). x .count) is ∙ all in
+    let less : i .left < room = ltb-true (i .left) room e in
+    (omega (arith, count, some), omega (arith, count, less)))
+    (λ e.
+    let part : sharedOf i room .count ≡ room = rw e refl in
+    let count : s .count ≡ room = ap (λ (x : Shared). x .count) is ∙ part in
+    (omega (arith, count, here), omega (arith, count)))
 
 -- the row of all together has ten numbers
-pub all-ten : (totals : Counts) {answer : Answer} → answer ≡ closedOf totals → length (answer .totals) ≡ 10
+closed-ten : (totals : Counts) → length (closedOf totals .totals) ≡ 10
 unfolding closedOf rowOf
-all-ten totals is =
-    split (tooMany totals)
-    (λ e. ap (λ (a : Answer). length (a .totals)) (is ∙ rw e refl))
-    (λ e. ap (λ (a : Answer). length (a .totals)) (is ∙ rw e refl))
+closed-ten totals = split (tooMany totals) (λ e. rw e refl) (λ e. rw e refl)
+
+pub all-ten : (totals : Counts) {answer : Answer} → answer ≡ closedOf totals → length (answer .totals) ≡ 10
+all-ten totals is = ap (λ (a : Answer). length (a .totals)) is ∙ closed-ten totals
 
 -- so many octets of the buffer are handed on, as the read said
 pub handed-on : {t : Tally} {held held-after : List ℕ} {answer : Tally} {n k : ℕ} (buffer : List ℕ) → n ≡ k

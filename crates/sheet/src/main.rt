@@ -299,9 +299,10 @@ fn read_log(fd: i32, name: &[u8], held: &mut [u8; 49], buffer: &mut [u8]) -> Cou
         if got < 0 {
             told(name);
             let part = tally.noted;
+            let counts = part.counts;
             return Counted {
                 read: false,
-                counts: part.counts,
+                counts,
             };
         }
         let more = io::count(got, buffer);
@@ -309,10 +310,8 @@ fn read_log(fd: i32, name: &[u8], held: &mut [u8; 49], buffer: &mut [u8]) -> Cou
         left = left_of(left, more as u64, false);
     }
     let noted = tally.noted;
-    Counted {
-        read: true,
-        counts: noted.counts,
-    }
+    let counts = noted.counts;
+    Counted { read: true, counts }
 }
 
 fn count_log(fd: i32, name: &[u8]) -> Counted {
