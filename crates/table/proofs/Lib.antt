@@ -1,0 +1,5 @@
+pub mod Inputs
+pub mod Laws
+pub mod One
+pub mod Short
+pub mod Wrong
