@@ -10,7 +10,7 @@ returns : tie.Need-returns
 unfolding frontOf
 returns c =
     let start = c .before .before .before .before .before .before .before in
-    past-record (start .args .noted) (start .args .octets) (c .before .before .before .before .before .read-record .ensures)
+    past-record (start .args .noted) _ (c .before .before .before .before .before .read-record .ensures)
     (c .before .before .before .read-cell .ensures .0)
     (c .before .before .heard .ensures) (c .plus .ensures)
 

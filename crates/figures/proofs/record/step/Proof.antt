@@ -13,7 +13,7 @@ returns : tie.Need-returns
 returns c =
     let at-octets = c .before in
     let at-if1 = at-octets .before in
-    let start = at-if1 .before .before .before .before in
+    let start = at-if1 .before .before .before in
     notes-record (start .args .noted) (start .args .found) (start .args .held .now) (start .args .piece .now)
     (start .args .place) (start .pre) (sym (at-if1 .before .is-record .ensures) ∙ at-if1 .if1 .taken)
     (c .counted .ensures
@@ -22,14 +22,14 @@ returns c =
 returns-2 : tie.Need-returns-2
 returns-2 c =
     let at-if2 = c .before .before in
-    let start = at-if2 .before .before .before .before .before .before in
+    let start = at-if2 .before .before .before .before .before in
     notes-header (start .args .noted) (start .args .found) (start .args .held .now) (start .args .piece .now) (start .args .place)
     (at-if2 .if2 .taken) (c .begun .ensures)
 
 returns-3 : tie.Need-returns-3
 returns-3 c =
     let at-if1 = c .before .before in
-    let start = at-if1 .before .before .before .before in
+    let start = at-if1 .before .before .before in
     notes-nothing (start .args .noted) (start .args .found) (start .args .held .now) (start .args .piece .now)
     (start .args .place) (c .if2 .left) (sym (at-if1 .before .is-record .ensures) ∙ at-if1 .if1 .left)
 

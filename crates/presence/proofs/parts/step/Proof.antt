@@ -12,7 +12,7 @@ returns : tie.Need-returns
 returns c =
     let at-octets = c .before in
     let at-if1 = at-octets .before in
-    let start = at-if1 .before .before .before .before in
+    let start = at-if1 .before .before .before in
     past-one-record _ _ _ _ _ (start .pre) (sym (at-if1 .before .is-record .ensures) ∙ at-if1 .if1 .taken)
     (c .past-front .ensures
     ∙ ap (λ octets. pastRecord (start .args .sought) (frontOf octets)) (at-octets .record-octets .ensures))
