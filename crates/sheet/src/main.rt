@@ -1,6 +1,6 @@
-// `sheet`, request 3: prints one table over many logs, from the files that its arguments name or from standard input, where each log
-// stands after its length. What is counted is in `figures`, what is read and printed in `table`; here the logs are read piece by
-// piece, and the lines are written when all are read.
+// `sheet`, request 3: prints one table over many logs, from the files that its arguments name or from standard input, where each
+// log stands after its length. What is counted is in `figures`, what is read and printed in `table`; here the logs are read piece
+// by piece, and the lines are written when all are read.
 use figures::Counts;
 use figures::Tally;
 use libc::STDOUT_FILENO;
@@ -136,13 +136,7 @@ fn settled(sheet: Sheet, rows: &mut [u32]) -> Sheet
 }
 
 // A step along a piece of the input: an octet of a length, or what the piece has of a log. Behind a refusal nothing is read.
-fn step(
-    before: Sheet,
-    held: &mut [u8; 49],
-    rows: &mut [u32],
-    piece: &[u8],
-    place: usize,
-) -> Stepped
+fn step(before: Sheet, held: &mut [u8; 49], rows: &mut [u32], piece: &[u8], place: usize) -> Stepped
     requires { ⌜ place < length (now piece) ⌝ }
     ensures { λ r. ⌜ (place < r .next) × (r .next ≤ length (now (piece .entry))) ⌝ }
 {
@@ -272,13 +266,7 @@ fn from_input(rows: &mut [u32]) -> bool {
     let length = source.length;
     let mut held = [0u8; 49];
     let mut buffer = io::large_buffer();
-    read_input(
-        source.fd,
-        &name[..length],
-        &mut held,
-        &mut buffer,
-        rows,
-    )
+    read_input(source.fd, &name[..length], &mut held, &mut buffer, rows)
 }
 
 // Hands the figures of a log just what a read delivered.
