@@ -65,6 +65,9 @@ prints "no input" "$names" 'all,0,0,0,0,0,0,0,0,0,0'
 printf '0\n' | $sheet - > "$dir/out"
 prints "a log of no octets" "$names" '0,0,0,0,0,0,0,0,0,0,0' 'all,0,0,0,0,0,0,0,0,0,0'
 
+$sheet examples/reading.log > "$dir/out"
+prints "the table of README.md" "$names" '0,5,7,1,1,0,0,60,0,84,583333' 'all,5,7,1,1,0,0,60,0,84,583333'
+
 # Octets that come in uneven pieces, and a log longer than one read. 02 hex has no overhead: a cell of one channel has 48 samples.
 { printf '\x02\x01\x00'; head -c $((49 * 4000)) /dev/zero; } > "$dir/long"
 { wc -c < "$dir/long"; cat "$dir/long"; printf '0000000003\n\x02\x01\x00'; } > "$dir/two"
@@ -83,6 +86,9 @@ $sheet < "$dir/most" > "$dir/out"
 [ "$(sed -n 4097p "$dir/out")" = '4095,0,0,0,0,0,0,0,0,0,0' ]
 { cat "$dir/most"; printf 'x'; } | $sheet > "$dir/out"
 prints "4,097 logs" 'sheet refused 18'
+
+yes /dev/null | head -n 4097 | xargs -n 4097 $sheet > "$dir/out"
+prints "4,097 files" 'sheet refused 18'
 
 # 5: no length, too long a one, and an input that ends early.
 for given in '\n' 'x\n' ' 3\nabc' '-1\n' '3' '3\nab' '4294967296\n' '00000000001\n' '3\nabcd' '+0\n' '0\r\n'; do
