@@ -87,7 +87,7 @@ $sheet < "$dir/most" > "$dir/out"
 { cat "$dir/most"; printf 'x'; } | $sheet > "$dir/out"
 prints "4,097 logs" 'sheet refused 18'
 
-yes /dev/null | head -n 4097 | xargs -n 4097 $sheet > "$dir/out"
+xargs -n 4097 $sheet < <(yes /dev/null | head -n 4097) > "$dir/out"
 prints "4,097 files" 'sheet refused 18'
 
 # 5: no length, too long a one, and an input that ends early.
