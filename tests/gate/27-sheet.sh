@@ -59,22 +59,25 @@ if count < 24:
     sys.exit(f'sheet: only {count} vectors')
 PYTHON
 
-# No input, a log of no octets, and the page's own example line by line.
+# No input, and a log of no octets.
 $sheet < /dev/null > "$dir/out"
 prints "no input" "$names" 'all,0,0,0,0,0,0,0,0,0,0'
 printf '0\n' | $sheet - > "$dir/out"
 prints "a log of no octets" "$names" '0,0,0,0,0,0,0,0,0,0,0' 'all,0,0,0,0,0,0,0,0,0,0'
 
-# Octets that come in uneven pieces, and a log longer than one read. 02 hex has no overhead: a cell of one channel has 16 samples.
+$sheet examples/reading.log > "$dir/out"
+prints "the table of README.md" "$names" '0,5,7,1,1,0,0,60,0,84,583333' 'all,5,7,1,1,0,0,60,0,84,583333'
+
+# Octets that come in uneven pieces, and a log longer than one read. 02 hex has no overhead: a cell of one channel has 48 samples.
 { printf '\x02\x01\x00'; head -c $((49 * 4000)) /dev/zero; } > "$dir/long"
 { wc -c < "$dir/long"; cat "$dir/long"; printf '0000000003\n\x02\x01\x00'; } > "$dir/two"
 { head -c 3; sleep 0.05; head -c 70; sleep 0.05; cat; } < "$dir/two" | $sheet > "$dir/out"
-prints "uneven pieces" "$names" '0,4000,0,0,0,0,0,64000,0,0,0' '1,0,0,0,0,0,0,0,0,0,0' 'all,4000,0,0,0,0,0,64000,0,0,0'
+prints "uneven pieces" "$names" '0,4000,0,0,0,0,0,192000,0,0,0' '1,0,0,0,0,0,0,0,0,0,0' 'all,4000,0,0,0,0,0,192000,0,0,0'
 $sheet "$dir/long" "$dir/long" > "$dir/out"
-prints "two files" "$names" '0,4000,0,0,0,0,0,64000,0,0,0' '1,4000,0,0,0,0,0,64000,0,0,0' 'all,8000,0,0,0,0,0,128000,0,0,0'
+prints "two files" "$names" '0,4000,0,0,0,0,0,192000,0,0,0' '1,4000,0,0,0,0,0,192000,0,0,0' 'all,8000,0,0,0,0,0,384000,0,0,0'
 $sheet - "$dir/long" < "$dir/long" > "$dir/out"
-prints "a file and standard input" "$names" '0,4000,0,0,0,0,0,64000,0,0,0' '1,4000,0,0,0,0,0,64000,0,0,0' \
-    'all,8000,0,0,0,0,0,128000,0,0,0'
+prints "a file and standard input" "$names" '0,4000,0,0,0,0,0,192000,0,0,0' '1,4000,0,0,0,0,0,192000,0,0,0' \
+    'all,8000,0,0,0,0,0,384000,0,0,0'
 
 # 4,096 logs are taken; anything behind them is 18, whatever it is.
 yes 0 | head -n 4096 > "$dir/most" || true
@@ -84,10 +87,13 @@ $sheet < "$dir/most" > "$dir/out"
 { cat "$dir/most"; printf 'x'; } | $sheet > "$dir/out"
 prints "4,097 logs" 'sheet refused 18'
 
+xargs -n 4097 $sheet < <(yes /dev/null | head -n 4097) > "$dir/out"
+prints "4,097 files" 'sheet refused 18'
+
 # 5: no length, too long a one, and an input that ends early.
 for given in '\n' 'x\n' ' 3\nabc' '-1\n' '3' '3\nab' '4294967296\n' '00000000001\n' '3\nabcd' '+0\n' '0\r\n'; do
     # shellcheck disable=SC2059 # the words are a format
-    printf "$given" | $sheet > "$dir/out"
+    printf -- "$given" | $sheet > "$dir/out"
     prints "length $given" 'sheet refused 5'
 done
 printf '4294967295\n\x02\x01\x00' | $sheet > "$dir/out"

@@ -1,4 +1,4 @@
--- A sheet that is made log by log: each log's row is held, and the totals are judged when all logs are counted.
+-- Words of the code that makes a sheet log by log: each log's row is held, and the totals are judged when all logs are counted.
 -- Assumes nothing.
 use mathlib.Core.Bool.{cond}
 use mathlib.Core.List.{List, [], _∷_}

@@ -163,8 +163,8 @@ pub fn sheet(octets: &[u8], lengths: &[u64], rows: &mut [u32]) -> Answer
     Answer { refusal: 0, totals }
 }
 
-// Adds a log that is counted to a sheet under way: its row is written at its place, where the rows go so far, and its counts are added to
-// the totals.
+// Adds a log that is counted to a sheet under way: its row is written at its place, where the rows go so far, and its counts are
+// added to the totals.
 pub fn add(rows: &mut [u32], index: usize, totals: Counts, one: Counts) -> Counts
     ensures { λ r. ⌜ Adds (now (rows .entry)) index totals one r (now (rows .exit)) ⌝ }
 {

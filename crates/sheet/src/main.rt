@@ -1,6 +1,6 @@
-// `sheet`, request 3: prints one table over many logs, from the files that its arguments name or from standard input, where each log
-// stands after its length. What is counted is in `figures`, what is read and printed in `table`; here the logs are read piece by
-// piece, and the lines are written when all are read.
+// `sheet`, request 3: prints one table over many logs, from the files that its arguments name or from standard input, where each
+// log stands after its length. What is counted is in `figures`, what is read and printed in `table`; here the logs are read piece
+// by piece, and the lines are written when all are read.
 use figures::Counts;
 use figures::Tally;
 use libc::STDOUT_FILENO;

@@ -35,13 +35,19 @@ module _ {run run₁ : List ℕ} {past : Put} (room : 512 ≤ length run) where
   pub log-whole : (index : ℕ) (row : List ℕ) → length row ≡ 10 → Prints run past run₁ (logLine index row)
       → (past .whole ≡ true) × (past .octets ≤ length run)
   log-whole index row ten p =
-      prints-whole (logLine index row) (row-short (decimal index) row (omega (arith, one-item [] index {b = 0} (omega arith))) ten)
+      prints-whole (logLine index row) (row-short (decimal index) row (omega (
+        arith,
+        one-item [] index {b = 0}
+            (omega arith),
+      )) ten)
       room p
 
-  pub all-whole : (row : List ℕ) → length row ≡ 10 → Prints run past run₁ (allLine row) → (past .whole ≡ true) × (past .octets ≤ length run)
+  pub all-whole : (row : List ℕ) → length row ≡ 10 → Prints run past run₁ (allLine row) → (past .whole ≡ true) × (past
+      .octets ≤ length run)
   all-whole row ten p = prints-whole (allLine row) (row-short (words "all") row (omega arith) ten) room p
 
-  pub refused-whole : (refusal : ℕ) → Prints run past run₁ (refusedLine refusal) → (past .whole ≡ true) × (past .octets ≤ length run)
+  pub refused-whole : (refusal : ℕ) → Prints run past run₁ (refusedLine refusal) → (past .whole ≡ true) × (past
+      .octets ≤ length run)
   refused-whole refusal p =
       prints-whole (refusedLine refusal)
       (rw (length-append (item (words "sheet refused ") refusal) (words "\n"))

@@ -11,7 +11,8 @@ ghost use Rattle.table.specs.Table.{cellsOf, Prints, namesLine, logLine,
 ghost use Rattle.table.specs.Input.{refusedInput, moreOf, sharedOf, nextOf, lastOf};
 ghost use Rattle.table.specs.Lengths.{noLength, lengthOn};
 
-// A length that is read digit by digit. Its stage: 0 more may come, 1 it is whole, 2 it is none; how many digits, and their number.
+// A length that is read digit by digit. Its stage: 0 more may come, 1 it is whole, 2 it is none; how many digits, and their
+// number.
 pub struct Length {
     pub stage: u8,
     pub digits: u8,
@@ -39,7 +40,8 @@ fn none() -> Length
     }
 }
 
-// An octet more of the length: one to ten decimal digits and then a newline, at most 4,294,967,295. Nothing is read behind its end.
+// An octet more of the length: one to ten decimal digits and then a newline, at most 4,294,967,295. Nothing is read behind its
+// end.
 pub fn length_on(length: Length, octet: u8) -> Length
     ensures { λ r. ⌜ r ≡ lengthOn length octet ⌝ }
 {
@@ -80,8 +82,8 @@ pub fn length_on(length: Length, octet: u8) -> Length
     }
 }
 
-// Logs on standard input, one after the other, each after its length: the refusal so far (0: none), how many logs are whole, whether
-// octets of a log come next and how many are left of it, and the length that is read.
+// Logs on standard input, one after the other, each after its length: the refusal so far (0: none), how many logs are whole,
+// whether octets of a log come next and how many are left of it, and the length that is read.
 pub struct Input {
     pub refusal: u8,
     pub logs: usize,

@@ -13,4 +13,5 @@ same-length-2 c = c .before .before .before .before .before .before .before .set
 
 pub ended-spec : {M : Type 1} → statement M
 ended-spec =
-    tie.close (tie.spec (search needs) (search needs) (search needs) same-length (search needs) (search needs) same-length-2 (search needs))
+    tie.close (tie.spec (search needs) (search needs) (search needs) same-length (search needs) (search needs) same-length-2
+    (search needs))

@@ -15,4 +15,5 @@ slice-aggregate-kind c = sym (length-take-le _ _ (array-share-prefix-name (c .be
 pub is-dash-spec : {M : Type 1} → statement M
 is-dash-spec =
     tie.close
-    (tie.spec (search needs) (search needs) (search needs) array-share-prefix-name slice-aggregate-kind (search needs) (search needs))
+    (tie.spec (search needs) (search needs) (search needs) array-share-prefix-name slice-aggregate-kind (search needs)
+    (search needs))

@@ -13,13 +13,19 @@ use Rattle.sheet.proofs.print_all.Tie as tie
 array-share-prefix-text : tie.Need-array-share-prefix-text
 array-share-prefix-text c =
     let long = length-replicate {A = ℕ} 512 0 in
-    omega (arith, all-whole (omega (arith, long)) _ (c .before .before .before .before .pre) (c .before .all-line .ensures) .1, long)
+    omega (
+      arith,
+      all-whole (omega (arith, long)) _ (c .before .before .before .before .pre) (c .before .all-line .ensures)
+          .1,
+      long,
+    )
 
 slice-aggregate-print : tie.Need-slice-aggregate-print
 slice-aggregate-print c = sym (length-take-le _ _ (array-share-prefix-text (c .before)))
 
 print-requires : tie.Need-print-requires
-print-requires c κs = all-whole (omega (arith, length-replicate {A = ℕ} 512 0)) _ (c .before .before .before .before .before .pre) (c .before .before .all-line .ensures) .0
+print-requires c κs = all-whole (omega (arith, length-replicate {A = ℕ} 512 0)) _ (c .before .before .before .before .before
+    .pre) (c .before .before .all-line .ensures) .0
 
 pub print-all-spec : {M : Type 1} → statement M
 print-all-spec =

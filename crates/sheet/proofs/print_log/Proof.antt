@@ -13,13 +13,19 @@ use Rattle.sheet.proofs.print_log.Tie as tie
 array-share-prefix-text : tie.Need-array-share-prefix-text
 array-share-prefix-text c =
     let long = length-replicate {A = ℕ} 512 0 in
-    omega (arith, log-whole (omega (arith, long)) _ _ (c .before .before .before .before .pre) (c .before .log-line .ensures) .1, long)
+    omega (
+      arith,
+      log-whole (omega (arith, long)) _ _ (c .before .before .before .before .pre) (c .before .log-line
+          .ensures) .1,
+      long,
+    )
 
 slice-aggregate-print : tie.Need-slice-aggregate-print
 slice-aggregate-print c = sym (length-take-le _ _ (array-share-prefix-text (c .before)))
 
 print-requires : tie.Need-print-requires
-print-requires c κs = log-whole (omega (arith, length-replicate {A = ℕ} 512 0)) _ _ (c .before .before .before .before .before .pre) (c .before .before .log-line .ensures) .0
+print-requires c κs = log-whole (omega (arith, length-replicate {A = ℕ} 512 0)) _ _ (c .before .before .before .before
+    .before .pre) (c .before .before .log-line .ensures) .0
 
 pub print-log-spec : {M : Type 1} → statement M
 print-log-spec =

@@ -19,7 +19,8 @@ slice-aggregate-print : tie.Need-slice-aggregate-print
 slice-aggregate-print c = sym (length-take-le _ _ (array-share-prefix-text (c .before)))
 
 print-requires : tie.Need-print-requires
-print-requires c κs = refused-whole (omega (arith, length-replicate {A = ℕ} 512 0)) _ (c .before .before .refused-line .ensures) .0
+print-requires c κs = refused-whole (omega (arith, length-replicate {A = ℕ} 512 0)) _ (c .before .before .refused-line
+    .ensures) .0
 
 pub print-refused-spec : {M : Type 1} → statement M
 print-refused-spec =

@@ -1,4 +1,5 @@
--- `sheet::read_input` is safe and ends. The loop keeps the lengths of what is lent; the measure is how many octets may still be read.
+-- `sheet::read_input` is safe and ends. The loop keeps the lengths of what is lent; the measure is how many octets may still be
+-- read.
 -- Assumes nothing.
 use mathlib.Core.Path.{_≡_, refl, _∙_}
 use borrow.Author.Needs.{needs}
@@ -17,18 +18,25 @@ loop-holds : tie.Need-loop-holds Inv-loop μ-loop
 loop-holds c = (refl, refl)
 
 same-length : tie.Need-same-length Inv-loop μ-loop
-same-length c = c .before .before .before .before .read .kept .1 .0 ∙ c .before .before .before .before .before .before .before .loop .inv .0
+same-length c = c .before .before .before .before .read .kept .1 .0 ∙ c .before .before .before .before .before .before
+    .before .loop .inv .0
 
 same-length-2 : tie.Need-same-length-2 Inv-loop μ-loop
 same-length-2 c = c .before .before .before .before .before .before .before .loop .inv .1
 
 loop-less : tie.Need-loop-less Inv-loop μ-loop
-loop-less c = c .left-of .ensures (c .before .before .before .before .before .before .before .before .before .before .before .before .before .before .before .before .loop-test .taken)
+loop-less c = c .left-of .ensures (c .before .before .before .before .before .before .before .before .before .before .before
+    .before .before .before .before .before .loop-test .taken)
 
 loop-again : tie.Need-loop-again Inv-loop μ-loop
 loop-again c =
-    let at-loop = c .before .before .before .before .before .before .before .before .before .before .before .before .before .before .before .before .before in
-    (c .before .before .before .before .before .before .before .before .before .before .before .before .before .before .read .kept .1 .0 ∙ at-loop .loop .inv .0, c .before .before .before .before .before .take-read .kept .1 .1 .0 ∙ at-loop .loop .inv .1)
+    let at-loop = c .before .before .before .before .before .before .before .before .before .before .before .before .before
+    .before .before .before .before in (
+      c .before .before .before .before .before .before .before .before .before .before .before .before .before .before .read
+          .kept .1 .0 ∙ at-loop .loop .inv .0,
+      c .before .before .before .before .before .take-read .kept .1 .1 .0 ∙ at-loop
+          .loop .inv .1,
+    )
 
 same-length-3 : tie.Need-same-length-3 Inv-loop μ-loop
 same-length-3 c = c .before .before .before .before .before .loop .inv .0

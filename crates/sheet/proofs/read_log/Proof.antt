@@ -17,13 +17,16 @@ loop-holds : tie.Need-loop-holds Inv-loop μ-loop
 loop-holds c = refl
 
 same-length : tie.Need-same-length Inv-loop μ-loop
-same-length c = c .before .before .before .before .before .before .read .kept .1 .0 ∙ c .before .before .before .before .before .before .before .before .before .loop .inv
+same-length c = c .before .before .before .before .before .before .read .kept .1 .0 ∙ c .before .before .before .before
+    .before .before .before .before .before .loop .inv
 
 loop-less : tie.Need-loop-less Inv-loop μ-loop
-loop-less c = c .left-of .ensures (c .before .before .before .before .before .before .before .before .before .before .before .loop-test .taken)
+loop-less c = c .left-of .ensures (c .before .before .before .before .before .before .before .before .before .before .before
+    .loop-test .taken)
 
 loop-again : tie.Need-loop-again Inv-loop μ-loop
-loop-again c = c .before .before .before .before .before .before .before .before .before .read .kept .1 .0 ∙ c .before .before .before .before .before .before .before .before .before .before .before .before .loop .inv
+loop-again c = c .before .before .before .before .before .before .before .before .before .read .kept .1 .0 ∙ c .before
+    .before .before .before .before .before .before .before .before .before .before .before .loop .inv
 
 same-length-2 : tie.Need-same-length-2 Inv-loop μ-loop
 same-length-2 c = c .before .before .before .loop .inv

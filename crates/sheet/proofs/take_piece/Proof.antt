@@ -21,7 +21,8 @@ loop-less : tie.Need-loop-less Inv-loop μ-loop
 loop-less c = omega (arith, c .before .before .before .step .ensures .0, c .before .before .before .step .ensures .1)
 
 loop-again : tie.Need-loop-again Inv-loop μ-loop
-loop-again c = c .before .before .before .step .kept .1 .1 .0 ∙ c .before .before .before .before .before .before .before .loop .inv
+loop-again c = c .before .before .before .step .kept .1 .1 .0 ∙ c .before .before .before .before .before .before .before
+    .loop .inv
 
 same-length : tie.Need-same-length Inv-loop μ-loop
 same-length c = c .before .loop .inv

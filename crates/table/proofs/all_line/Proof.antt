@@ -10,7 +10,8 @@ use Rattle.table.proofs.all_line.Tie as tie
 returns : tie.Need-returns
 returns c =
     let at-word = c .before .before .before .before .before .before in
-    prints (at-word .before .before .before .from-start .ensures) (puts-then (at-word .put-all .ensures) (c .before .before .put-row .ensures))
+    prints (at-word .before .before .before .from-start .ensures) (puts-then (at-word .put-all .ensures) (c .before .before
+    .put-row .ensures))
 
 same-length : tie.Need-same-length
 same-length c = c .before .before .put-row .kept .0 ∙ c .before .before .before .before .before .before .put-all .kept .0

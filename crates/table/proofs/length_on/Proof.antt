@@ -1,8 +1,17 @@
--- `table::length_on` meets its contract.: a law for each return.
+-- `table::length_on` meets its contract: a law for each return.
 -- Assumes nothing.
 use native.Mathlib.Omega.{arith}
 use borrow.Author.Needs.{needs}
-use Rattle.table.proofs.Laws.{length-ended, length-empty, length-whole, no-digit, past-digits, too-many-digits, too-long, length-more}
+use Rattle.table.proofs.Laws.{
+  length-ended,
+  length-empty,
+  length-whole,
+  no-digit,
+  past-digits,
+  too-many-digits,
+  too-long,
+  length-more,
+}
 use Rattle.table.proofs.length_on.Statement.{statement}
 use Rattle.table.proofs.length_on.Tie as tie
 

@@ -9,7 +9,8 @@ returns : tie.Need-returns
 returns c = more-18 _ _ (c .before .if1 .taken) (c .refused .ensures)
 
 returns-2 : tie.Need-returns-2
-returns-2 c = more-5 _ _ (c .before .before .before .before .if1 .left) (c .before .before .before .length-on .ensures) (c .before .if2 .taken)
+returns-2 c = more-5 _ _ (c .before .before .before .before .if1 .left) (c .before .before .before .length-on .ensures) (c
+    .before .if2 .taken)
     (c .refused2 .ensures)
 
 returns-3 : tie.Need-returns-3
