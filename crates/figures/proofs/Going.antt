@@ -86,7 +86,7 @@ module _ (run a b : List ℕ) where
       ∙ drop-drop (length b) (length a) run
       ∙ ap (λ (k : ℕ). drop k run) (sym (length-append a b))
 
-  over-on : written (over a run) (length a) b ≡ over (a ++ b) run
+  pub over-on : written (over a run) (length a) b ≡ over (a ++ b) run
   unfolding over
   over-on =
       ap₂ (λ (x y : List ℕ). x ++ b ++ y) (take-at a (drop (length a) run) (length a) refl) past

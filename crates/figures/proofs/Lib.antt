@@ -1,3 +1,4 @@
+pub mod Adding
 pub mod Adds
 pub mod Cells
 pub mod Demand1

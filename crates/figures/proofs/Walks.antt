@@ -22,9 +22,9 @@ use Rattle.reading.proofs.Reading.{header-three, reading-none}
 use Rattle.pieces.specs.declared.Found.{Found}
 use Rattle.pieces.specs.declared.Standing.{Standing}
 use Rattle.pieces.specs.Limit.{Part, head, whole, refused, broken, done, recordsTo, faultTo, endPart, partsOf}
-use Rattle.pieces.specs.Steps.{startOf, takingOf, Steps, foundParts, Stood, stoodOf, handedOver}
+use Rattle.pieces.specs.Steps.{startOf, takingOf, Steps, foundParts, isRecord, foundOctets, Stood, stoodOf, handedOver}
 use Rattle.pieces.specs.Taken.{Taking, handed, endParts, joinedOf, faultPart}
-use Rattle.pieces.proofs.Walks.{Along, along-start, along-turn, turn-on, along-end, division-parts}
+use Rattle.pieces.proofs.Walks.{Along, along-start, along-turn, turn-on, along-end, division-parts, found-record, no-record}
 use Rattle.figures.specs.declared.Counts.{Counts}
 use Rattle.figures.specs.declared.Noted.{Noted}
 use Rattle.figures.specs.declared.Tally.{Tally}
@@ -158,38 +158,26 @@ module _ (n : Noted) (f : Found) (held piece : List ℕ) (place : ℕ) where
   unfolding notedBy
   found-one p is e = e ∙ ap (notedBy n) (sym is)
 
-  pub notes-in-piece : {m : Noted} → f .what ≡ 2
-      → m ≡ partNoted n (whole (frontOf (take (place + 49 - place) (drop place piece))))
-      → m ≡ notedBy n (foundParts f held piece place)
-  unfolding foundParts
-  notes-in-piece {m} two is =
-      let k : place + 49 - place ≡ 49 = omega arith in
-      let same : m ≡ partNoted n (whole (frontOf (take 49 (drop place piece)))) = rw k at is in
-      found-one (whole (frontOf (take 49 (drop place piece))))
-      (rw (ne-eqb (f .what) 1 (λ one. omega arith), eq-eqb (f .what) 2 two)) same
-
-  pub notes-held : {m : Noted} → f .what ≡ 3 → m ≡ partNoted n (whole (frontOf held))
-      → m ≡ notedBy n (foundParts f held piece place)
-  unfolding foundParts
-  notes-held three is =
-      let not-1 : eqb (f .what) 1 ≡ false = ne-eqb (f .what) 1 (λ one. omega arith) in
-      let not-2 : eqb (f .what) 2 ≡ false = ne-eqb (f .what) 2 (λ two. omega arith) in
-      found-one (whole (frontOf held)) (rw (not-1, not-2, eq-eqb (f .what) 3 three)) is
+  pub notes-record : {m : Noted} → (f .what ≡ 2 → place + 49 ≤ length piece) → isRecord (f .what) ≡ true
+      → m ≡ partNoted n (whole (frontOf (foundOctets (f .what) held piece place))) → m ≡ notedBy n (foundParts f held piece place)
+  notes-record room is-one is =
+      found-one (whole (frontOf (foundOctets (f .what) held piece place))) (found-record f held piece place room is-one) is
 
   pub notes-header : {m : Noted} → f .what ≡ 1 → m ≡ partNoted n (head (headerOf (take 3 held)))
       → m ≡ notedBy n (foundParts f held piece place)
   unfolding foundParts
   notes-header one is = found-one (head (headerOf (take 3 held))) (rw (eq-eqb (f .what) 1 one)) is
 
-  pub notes-nothing : (f .what ≡ 1 → ⊥) → (f .what ≡ 2 → ⊥) → (f .what ≡ 3 → ⊥) → n ≡ notedBy n (foundParts f held piece place)
+  pub notes-nothing : (f .what ≡ 1 → ⊥) → isRecord (f .what) ≡ false → n ≡ notedBy n (foundParts f held piece place)
   unfolding foundParts notedBy partNoted
-  notes-nothing not-1 not-2 not-3 =
+  notes-nothing not-1 none =
+      let neither = no-record (f .what) none in
       split (eqb (f .what) 4)
       (λ e.
       split (eqb (f .standing .stage) 2)
-      (λ g. rw (ne-eqb (f .what) 1 not-1, ne-eqb (f .what) 2 not-2, ne-eqb (f .what) 3 not-3, e, g) refl)
-      (λ g. rw (ne-eqb (f .what) 1 not-1, ne-eqb (f .what) 2 not-2, ne-eqb (f .what) 3 not-3, e, g) refl))
-      (λ e. rw (ne-eqb (f .what) 1 not-1, ne-eqb (f .what) 2 not-2, ne-eqb (f .what) 3 not-3, e) refl)
+      (λ g. rw (ne-eqb (f .what) 1 not-1, neither .0, neither .1, e, g) refl)
+      (λ g. rw (ne-eqb (f .what) 1 not-1, neither .0, neither .1, e, g) refl))
+      (λ e. rw (ne-eqb (f .what) 1 not-1, neither .0, neither .1, e) refl)
 
 -- along a piece: the parts so far, and what they count
 pub record Going (t : Tally) (lent piece : List ℕ) (s : Standing) (n : Noted) (held : List ℕ) (place : ℕ) : Type 0 where

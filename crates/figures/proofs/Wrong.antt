@@ -16,10 +16,16 @@ use Rattle.pieces.specs.Steps.{stepsFrom, stoodOf}
 use Rattle.pieces.proofs.Wrong as pieces
 use Rattle.figures.specs.declared.Answer.{Answer}
 use Rattle.figures.specs.declared.Tally.{Tally}
-use Rattle.figures.specs.Code.{capOf, capped}
+use Rattle.figures.specs.declared.Counts.{Counts}
+use Rattle.figures.specs.Adding.{rowsWith, closedOf}
+use Rattle.figures.specs.Code.{noCounts, capOf, capped, heldRow}
 use Rattle.figures.specs.Figures.{countsOf, perMillion, rowOf, tooMany}
 use Rattle.figures.specs.Sheets.{logsOf, heardOver, rowsOf, unlike, sheetRefusal, sheetOf}
 use Rattle.figures.specs.Taking.{partNoted, notedBy, startTally}
+use Rattle.figures.proofs.add.Kinds as add-kinds
+use Rattle.figures.proofs.add.Reads as add-reads
+use Rattle.figures.proofs.closed.Kinds as closed-kinds
+use Rattle.figures.proofs.closed.Reads as closed-reads
 use Rattle.figures.proofs.sheet.Kinds as sheet-kinds
 use Rattle.figures.proofs.sheet.Reads as sheet-reads
 use Rattle.figures.proofs.start.Kinds as start-kinds
@@ -37,6 +43,25 @@ unfolded = tt
 taking-unfolded : Unit {0}
 unfolding unfolded pieces.unfolded pieces.steps-unfolded stepsFrom stoodOf capOf capped partNoted notedBy
 taking-unfolded = tt
+
+adding-unfolded : Unit {0}
+unfolding capOf capped heldRow perMillion rowOf tooMany rowsWith closedOf
+adding-unfolded = tt
+
+-- so many cells sound, and nothing else
+abbrev sounds : ℕ → Counts
+sounds n =
+    record {
+      sound = n;
+      missing = 0;
+      «refused_8» = 0;
+      «refused_9» = 0;
+      «refused_15» = 0;
+      «refused_20» = 0;
+      «marked_0» = 0;
+      «marked_1» = 0;
+      «marked_2» = 0;
+    }
 
 -- the paper's zero cell, and its log: 56 02 00, then twice 00 and that cell
 abbrev slots : ℕ → List ℕ → List ℕ
@@ -109,3 +134,30 @@ module _ (κs : Lfts 0) where
   pub start-counts-nothing : Started (λ x. x .noted .counts .sound ≡ 1)
   start-counts-nothing x v wrong s = let right : x .noted .counts .sound ≡ 0 = ap (λ (t : Tally). t .noted .counts .sound)
       s in omega arith
+
+  abbrev Closed : Counts → (Answer → Type 0) → Type 0
+  Closed totals Wrong = Never closed-kinds.ps closed-kinds.r closed-reads.Post κs (totals, tt) (λ x v. Wrong x)
+
+  -- the first total that is too many taken, and the last that isn't refused
+  pub too-many-not-taken : Closed (sounds 4294967296) (λ x. x .refusal ≡ 0)
+  unfolding adding-unfolded
+  too-many-not-taken x v wrong s = let right : x .refusal ≡ 19 = ap (λ (a : Answer). a .refusal) s in omega arith
+
+  pub most-not-refused : Closed (sounds 4294967295) (λ x. x .refusal ≡ 19)
+  unfolding adding-unfolded
+  most-not-refused x v wrong s = let right : x .refusal ≡ 0 = ap (λ (a : Answer). a .refusal) s in omega arith
+
+module _ (κs : Lfts 1) (p : Place) where
+  abbrev Added : (Counts → List ℕ → Type 0) → Type 0
+  Added Wrong =
+      Never add-kinds.ps add-kinds.r add-reads.Post κs (lent p (replicate 20 9), (1, (sounds 3, (sounds 4, tt))))
+      (λ x v. Wrong x (v .0))
+
+  -- a log that isn't added to the totals, and a row in the first log's place
+  pub log-not-left-out : Added (λ x rows. x .sound ≡ 3)
+  unfolding adding-unfolded
+  log-not-left-out x v wrong s = let right : x .sound ≡ 7 = ap (λ (c : Counts). c .sound) (s .totals-are) in omega arith
+
+  pub row-not-first : Added (λ x rows. getD rows 0 0 ≡ 4)
+  unfolding adding-unfolded
+  row-not-first x v wrong s = let right : getD (v .0) 0 0 ≡ 9 = ap (λ (l : List ℕ). getD l 0 0) (s .rows-after) in omega arith

@@ -1,3 +1,4 @@
+pub mod Adding
 pub mod Code
 pub mod Figures
 pub mod Sheets

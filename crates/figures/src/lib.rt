@@ -5,6 +5,7 @@ ghost use mathlib.Core.Path.{_≡_};
 ghost use Prim.Native.Nat.{_*_, _≤_};
 ghost use lib.Dec.{eqb};
 ghost use lib.ListN.{length};
+ghost use Rattle.figures.specs.Adding.{Adds, closedOf};
 ghost use Rattle.figures.specs.Code.{capped, Fills};
 ghost use Rattle.figures.specs.Figures.{countsOf};
 ghost use Rattle.figures.specs.Sheets.{heardIn, sumOf, unlike, refusedBy, Sheets};
@@ -160,4 +161,31 @@ pub fn sheet(octets: &[u8], lengths: &[u64], rows: &mut [u32]) -> Answer
     rows::copy(rows, &held);
     let totals = rows::row_of(counts);
     Answer { refusal: 0, totals }
+}
+
+// Adds a log that is counted to a sheet under way: its row is written at its place, where the rows go so far, and its counts are
+// added to the totals.
+pub fn add(rows: &mut [u32], index: usize, totals: Counts, one: Counts) -> Counts
+    ensures { λ r. ⌜ Adds (now (rows .entry)) index totals one r (now (rows .exit)) ⌝ }
+{
+    let counted = sums::plus(sums::none(), one);
+    if rows.len() / 10 <= index {
+        return sums::plus(totals, one);
+    }
+    rows::put(rows, 10 * index, rows::row_of(counted));
+    sums::plus(totals, one)
+}
+
+// The row of all logs together, when the last one is added; or 19.
+pub fn closed(totals: Counts) -> Answer
+    ensures { λ r. ⌜ r ≡ closedOf totals ⌝ }
+{
+    if sums::too_many(totals) {
+        return refused(19);
+    }
+    let row = rows::row_of(totals);
+    Answer {
+        refusal: 0,
+        totals: row,
+    }
 }

@@ -77,20 +77,14 @@ fn heard(state: Receiver, cell: &[u8], indication: bool) -> Noted
 }
 
 // Past the record that octets begin with.
-fn counted(noted: Noted, octets: &[u8]) -> Noted
-    ensures { λ r. ⌜ r ≡ partNoted noted (whole (frontOf (now (octets .entry)))) ⌝ }
+fn counted(noted: Noted, octets: [u8; 49]) -> Noted
+    ensures { λ r. ⌜ r ≡ partNoted noted (whole (frontOf octets)) ⌝ }
 {
-    let here = log::read_record(octets, 0);
-    let one = heard(noted.state, log::read_cell(octets, 0), here.indication);
+    let here = log::read_record(&octets, 0);
+    let one = heard(noted.state, log::read_cell(&octets, 0), here.indication);
     let state = one.state;
     let counts = sums::plus(noted.counts, one.counts);
     Noted { state, counts }
-}
-
-fn counted_held(noted: Noted, held: [u8; 49]) -> Noted
-    ensures { λ r. ⌜ r ≡ partNoted noted (whole (frontOf held)) ⌝ }
-{
-    counted(noted, &held)
 }
 
 fn header_of(held: [u8; 49]) -> Header
@@ -115,12 +109,9 @@ pub(crate) fn step(noted: Noted, found: Found, held: &[u8; 49], piece: &[u8], pl
     requires { ⌜ (found .what ≡ 2 → place + 49 ≤ length (now piece)) ⌝ }
     ensures { λ r. ⌜ r ≡ notedBy noted (foundParts found (now (held .entry)) (now (piece .entry)) place) ⌝ }
 {
-    if found.what == 2 {
-        let end = place + 49;
-        return counted(noted, &piece[place..end]);
-    }
-    if found.what == 3 {
-        return counted_held(noted, *held);
+    if pieces::is_record(found.what) {
+        let octets = pieces::record_octets(found.what, held, piece, place);
+        return counted(noted, octets);
     }
     if found.what == 1 {
         return begun(noted, *held);

@@ -19,18 +19,20 @@ use Rattle.formats.specs.declared.Format.{Format}
 use Rattle.formats.specs.declared.Settled.{Settled}
 use Rattle.formats.specs.Formats.{settingsRefusal}
 use Rattle.formats.specs.Settings.{settled, settingsOf}
+use Rattle.formats.specs.Code.{isUsual, usualWith}
 use Rattle.formats.specs.Sound.{Sound, Limits}
-use Rattle.formats.proofs.Laws.{refusal-of, settled-of, settled-limits}
+use Rattle.formats.proofs.Laws.{refusal-of, settled-of, settled-limits, usual-is}
 use Rattle.guards.specs.Guards.{nineOf, protectedBits, vOf, tenGuard, guardOf}
 use Rattle.guards.specs.Code.{sevenGuards}
 use Rattle.guards.proofs.Laws.{v-none, v-some, nine-lt, nine-shifted, seven-guard}
 use Rattle.cells.specs.Cells.{guardIn, subframeAt, sampleIn, ancillaryIn, markIn, entriesOf}
 use Rattle.cells.specs.Code.{stepOn}
-use Rattle.cells.specs.Placement.{slotOfEntry, entryOfSlot}
+use Rattle.cells.specs.Placement.{slotOf, slotOfEntry, entryOfSlot}
 use Rattle.cells.proofs.Placement.{slot-lt, entry-lt, slot-of-entry, slot-next}
 use Rattle.cells.proofs.Subframes.{guard-le, four-ancillary}
 use Rattle.receiver.specs.declared.Receiver.{Receiver}
-use Rattle.receiver.specs.Unpacking.{usedIn, ownEntries}
+use Rattle.receiver.specs.Unpacking.{usedIn, ownEntries, straight}
+use Rattle.receiver.proofs.AllSlots.{sound-usual, usual-settles}
 use Rattle.receiver.proofs.Reading.{read, read-more, walk-begun}
 use Rattle.receiver.proofs.Unpacking.{own-at, slot-straight}
 use Rattle.reading.specs.Totals.{totalOf, countOf}
@@ -366,3 +368,36 @@ module _ (st : Receiver) (cell : List ℕ) {set : Settled}
           rw read-whole
           ((λ i. record { sound = zeros i; damaged = ones-is i })
           ∙ ap (λ (x : Settled). record { sound = markedIn 0 x cell; damaged = markedIn 1 x cell }) is)
+
+-- every slot of 56 hex as an entry
+pub straight-limits : Limits straight
+straight-limits =
+    record {
+      sound = sound-usual;
+      channels-from = omega arith;
+      times-from = omega arith;
+      used-in = omega arith;
+      used-to = omega arith;
+      sample-to = omega arith;
+      ancillary-to = omega arith;
+    }
+
+pub straight-slot : (i : ℕ) → i ≡ slotOfEntry (straight .«by_channel») (straight .channels) (straight .times) i
+straight-slot i = slot-straight straight [] refl i
+
+-- the usual settings: the same marks with one channel and with two
+marks-as : (cell : List ℕ)
+    → (markedIn 1 straight cell ≡ markedIn 1 (usualWith 1 12) cell) × (markedIn 1 straight cell ≡ markedIn 1 (usualWith 2 6) cell)
+unfolding entriesOf tab slotOfEntry slotOf
+marks-as cell = (refl, refl)
+
+pub usual-marked : (st : Receiver) (cell : List ℕ) {ones : ℕ} → isUsual (st .format) (st .channels) (st .order) ≡ true
+    → length cell ≡ 48 → ones ≡ markedIn 1 straight cell → record { sound = 12 - ones; damaged = ones } ≡ markedOf st cell
+usual-marked st cell {ones} usual whole ones-is =
+    let set : Settled = settingsOf 0x56 (cond (eqb (st .channels) 2) 2 1) 0 in
+    let taken : set .refusal ≡ 0 = usual-is (st .channels) refl (λ (x : Settled). x .refusal ≡ 0) refl refl in
+    let used : 12 ≡ usedIn set = usual-is (st .channels) refl (λ (x : Settled). 12 ≡ usedIn x) refl refl in
+    let same : markedIn 1 straight cell ≡ markedIn 1 set cell
+    = usual-is (st .channels) refl (λ (x : Settled). markedIn 1 straight cell ≡ markedIn 1 x cell) (marks-as cell .0)
+    (marks-as cell .1) in
+    marked-said st cell (usual-settles st refl usual) taken whole used (ones-is ∙ same)

@@ -2,17 +2,19 @@
 use formats::Format;
 use formats::Settled;
 use receiver::Receiver;
-ghost use mathlib.Core.Bool.{true, false};
+ghost use mathlib.Core.Bool.{true, false, not};
 ghost use mathlib.Core.Path.{_≡_};
-ghost use Prim.Native.Nat.{ℕ, _+_, _^_, _≤_, _<_};
+ghost use Prim.Native.Nat.{ℕ, _+_, _%_, _^_, _≤_, _<_};
+ghost use lib.Dec.{eqb, leb};
 ghost use lib.ListN.{length, take, drop};
 ghost use Rattle.runs.specs.Runs.{numberOf};
+ghost use Rattle.formats.specs.Code.{isUsual};
 ghost use Rattle.formats.specs.Sound.{Sound, Limits};
 ghost use Rattle.guards.specs.Guards.{nineOf, protectedBits, vOf};
 ghost use Rattle.guards.specs.Code.{sevenGuards};
 ghost use Rattle.cells.specs.Cells.{subframeAt, sampleIn, ancillaryIn, markIn};
 ghost use Rattle.cells.specs.Placement.{slotOfEntry};
-ghost use Rattle.receiver.specs.Unpacking.{usedIn};
+ghost use Rattle.receiver.specs.Unpacking.{usedIn, straight};
 ghost use Rattle.glance.specs.Glance.{some, soundsOf, markedOf};
 ghost use Rattle.glance.specs.Code.{soundIn, markedIn, loudAt};
 
@@ -140,21 +142,52 @@ fn damaged_in(set: Settled, used: usize, cell: &[u8]) -> usize
     count
 }
 
+// How many of the twelve slots of a cell of 56 hex are marked 1. With constants the compiler takes a subframe apart in few steps.
+fn damaged_usual(cell: &[u8]) -> usize
+    requires { ⌜ length (now cell) ≡ 48 ⌝ }
+    ensures { λ r. ⌜ (r ≡ markedIn 1 straight (now (cell .entry))) × (r ≤ 12) ⌝ }
+{
+    let format = Format {
+        sample_bits: 24,
+        ancillary_bits: 4,
+        overhead_bits: 4,
+        width: 4,
+        slots: 12,
+    };
+    let table = guards::sevens();
+    let mut count = 0;
+    let mut slot = 0;
+    while slot < 12 {
+        count += mark_in(format, &table, subframe_in(format, cell, slot));
+        slot += 1;
+    }
+    count
+}
+
+// Four octets, the first as the lowest. A function of its own, so that the compiler reads them by one load.
+fn low4(cell: &[u8], at: usize) -> u64
+    requires { ⌜ at + 4 ≤ length (now cell) ⌝ }
+    ensures { λ r. ⌜ not (eqb (r % 16777216) 0) ≡ leb 256 (numberOf (take 4 (drop at (now (cell .entry))))) ⌝ }
+{
+    cell[at] as u64
+        + cell[at + 1] as u64 * 256
+        + cell[at + 2] as u64 * 65536
+        + cell[at + 3] as u64 * 16777216
+}
+
 // Whether one of the twelve samples of a cell of 56 hex isn't zero, whatever its mark. A subframe there has four octets, and the
-// sample stands above the last.
+// sample stands above the last: the first three octets, which are the low ones here.
 fn loud(cell: &[u8]) -> bool
     requires { ⌜ length (now cell) ≡ 48 ⌝ }
     ensures { λ r. ⌜ r ≡ some (loudAt (now (cell .entry))) 12 ⌝ }
 {
+    let mut all: u64 = 0;
     let mut slot = 0;
     while slot < 12 {
-        let subframe = number_in(cell, slot * 4, 4);
-        if subframe >= 256 {
-            return true;
-        }
+        all |= low4(cell, slot * 4) % 16777216;
         slot += 1;
     }
-    false
+    all != 0
 }
 
 // A cell of 56 hex, the usual format, with no sample but zeros: silence there is told by few instructions.
@@ -193,9 +226,8 @@ pub fn sounds(state: Receiver, cell: &[u8]) -> bool
     among(set.format, cell, used)
 }
 
-// How many of the cell's own entries are marked 0, and how many 1. Zeros where the state's settings are refused, or the cell
-// isn't of 48 octets.
-pub fn marked(state: Receiver, cell: &[u8]) -> Marks
+// By the settings of the state, whatever they are.
+fn marked_any(state: Receiver, cell: &[u8]) -> Marks
     ensures { λ r. ⌜ r ≡ markedOf state (now (cell .entry)) ⌝ }
 {
     let set = formats::settings(
@@ -221,4 +253,28 @@ pub fn marked(state: Receiver, cell: &[u8]) -> Marks
         sound: used - damaged,
         damaged,
     }
+}
+
+// A whole cell of the usual settings: each of its twelve slots is an entry.
+fn usual_cell(state: Receiver, cell: &[u8]) -> bool
+    ensures { λ r. ⌜ (r ≡ true
+        → (isUsual (state .format) (state .channels) (state .order) ≡ true) × (length (now (cell .entry)) ≡ 48)) ⌝ }
+{
+    if cell.len() != 48 {
+        return false;
+    }
+    formats::is_usual(state.format, state.channels, state.order)
+}
+
+// How many of the cell's own entries are marked 0, and how many 1. Zeros where the state's settings are refused, or the cell
+// isn't of 48 octets.
+pub fn marked(state: Receiver, cell: &[u8]) -> Marks
+    ensures { λ r. ⌜ r ≡ markedOf state (now (cell .entry)) ⌝ }
+{
+    if usual_cell(state, cell) {
+        let damaged = damaged_usual(cell);
+        let sound = 12 - damaged;
+        return Marks { sound, damaged };
+    }
+    marked_any(state, cell)
 }

@@ -17,9 +17,9 @@ use Rattle.reading.specs.Records.{frontOf}
 use Rattle.pieces.specs.declared.Found.{Found}
 use Rattle.pieces.specs.declared.Standing.{Standing}
 use Rattle.pieces.specs.Limit.{Part, head, whole, refused, broken, done, endPart}
-use Rattle.pieces.specs.Steps.{takingOf, Steps, foundParts}
+use Rattle.pieces.specs.Steps.{takingOf, Steps, foundParts, isRecord, foundOctets}
 use Rattle.pieces.specs.Taken.{Taking, handed, endFault, endParts}
-use Rattle.pieces.proofs.Walks.{Along, along-start, along-turn, along-end, turn-on}
+use Rattle.pieces.proofs.Walks.{Along, along-start, along-turn, along-end, turn-on, found-record, no-record}
 pub use Rattle.pieces.proofs.Walks.{found-room}
 use Rattle.text.specs.declared.Put.{Put}
 use Rattle.listing.specs.declared.Listing.{Listing}
@@ -32,8 +32,6 @@ use Rattle.listing.specs.Taking.{
   freshTally,
   judgedWhole,
   judgedFront,
-  isRecord,
-  recordOctets,
   afterOf,
   endText,
   partText,
@@ -115,26 +113,14 @@ module _ (t : Tally) (f : Found) (held piece : List ℕ) (place : ℕ) where
       (puts-same (same ∙ sym (one-text t p) ∙ ap (textOf t) (sym is)) puts, counts ∙ sym (one-tally t p) ∙ ap (tallyOf t) (sym is))
 
   -- a record, in the piece or held
-  found-record : isRecord (f .what) ≡ true → foundParts f held piece place ≡ whole (frontOf (recordOctets (f .what) held piece place)) ∷ []
-  unfolding foundParts isRecord recordOctets
-  found-record is =
-      split (eqb (f .what) 2)
-      (λ t.
-      let two : f .what ≡ 2 = eqb-true (f .what) 2 t in
-      let not-1 : eqb (f .what) 1 ≡ false = ne-eqb (f .what) 1 (λ one. omega (arith, one, two)) in
-      rw (not-1, t))
-      (λ t.
-      let three : f .what ≡ 3 = eqb-true (f .what) 3 (rw t at is) in
-      let not-1 : eqb (f .what) 1 ≡ false = ne-eqb (f .what) 1 (λ one. omega (arith, one, three)) in
-      rw (not-1, t, eq-eqb (f .what) 3 three))
-
-  pub tells-record : {before now : List ℕ} {at past : Put} {tally : Tally} {got : Received} → isRecord (f .what) ≡ true
-      → got ≡ judgedFront (t .state) (recordOctets (f .what) held piece place)
+  pub tells-record : {before now : List ℕ} {at past : Put} {tally : Tally} {got : Received}
+      → (f .what ≡ 2 → place + 49 ≤ length piece) → isRecord (f .what) ≡ true
+      → got ≡ judgedFront (t .state) (foundOctets (f .what) held piece place)
       → Puts before at now past (lineOf (t .records) got) → tally ≡ afterOf t got → Tells before at now past tally
   unfolding partText partTally
-  tells-record record-found is puts counts =
-      tells {p = whole (frontOf (recordOctets (f .what) held piece place))} (found-record record-found) (ap (lineOf (t .records)) is) puts
-      (counts ∙ ap (afterOf t) is)
+  tells-record room is-one is puts counts =
+      tells {p = whole (frontOf (foundOctets (f .what) held piece place))} (found-record f held piece place room is-one)
+      (ap (lineOf (t .records)) is) puts (counts ∙ ap (afterOf t) is)
 
   pub tells-header : {before now : List ℕ} {at past : Put} {tally : Tally} {h : Header} → f .what ≡ 1 → h ≡ headerOf (take 3 held)
       → Puts before at now past (formatLine (h .format) (h .channels) (h .order)) → tally ≡ freshTally h → Tells before at now past tally
@@ -145,12 +131,10 @@ module _ (t : Tally) (f : Found) (held piece : List ℕ) (place : ℕ) where
 
   -- what is no record
   not-two : isRecord (f .what) ≡ false → eqb (f .what) 2 ≡ false
-  unfolding isRecord
-  not-two none = neither (eqb (f .what) 2) (eqb (f .what) 3) none .0
+  not-two none = no-record (f .what) none .0
 
   not-three : isRecord (f .what) ≡ false → eqb (f .what) 3 ≡ false
-  unfolding isRecord
-  not-three none = neither (eqb (f .what) 2) (eqb (f .what) 3) none .1
+  not-three none = no-record (f .what) none .1
 
   module _ (none : isRecord (f .what) ≡ false) (not-1 : f .what ≡ 1 → ⊥) where
     pub tells-nothing : {before : List ℕ} {at : Put} → (f .what ≡ 4 → ⊥) → Tells before at before at t

@@ -1,12 +1,12 @@
 -- The list of a log that is taken in pieces: the text of each part, and the counts behind it. These are the code's words: what the list
 -- is stands in List.antt.
 -- Assumes nothing.
-use mathlib.Core.Bool.{Bool, cond, _||_}
+use mathlib.Core.Bool.{cond}
 use mathlib.Core.List.{List, [], _∷_, _++_}
 use mathlib.Core.Path.{_≡_}
 use Prim.Native.Nat.{ℕ, _+_, _%_, _^_}
 use lib.Dec.{eqb}
-use lib.ListN.{length, take, drop}
+use lib.ListN.{length, take}
 use Rattle.runs.specs.Runs.{over}
 use Rattle.log.specs.declared.Header.{Header}
 use Rattle.receiver.specs.declared.Receiver.{Receiver}
@@ -35,13 +35,6 @@ judgedWhole state w = judgedOf state (w .cell) (w .indication)
 
 abbrev pub judgedFront : Receiver → List ℕ → Received
 judgedFront state octets = judgedWhole state (frontOf octets)
-
--- the octets of a record that was found: in a piece at a place, or held
-unfoldable pub isRecord : ℕ → Bool
-isRecord what = eqb what 2 || eqb what 3
-
-unfoldable pub recordOctets : ℕ → List ℕ → List ℕ → ℕ → List ℕ
-recordOctets what held piece place = cond (eqb what 2) (take 49 (drop place piece)) held
 
 -- the counts past a record. They are numbers of 64 bits; the theorem of the list says that none wraps.
 unfoldable pub afterOf : Tally → Received → Tally

@@ -8,13 +8,13 @@ use receiver::Receiver;
 use text::Put;
 ghost use mathlib.Core.Path.{_≡_};
 ghost use Prim.Native.Nat.{_+_, _≤_};
-ghost use lib.ListN.{length, take, drop};
+ghost use lib.ListN.{length, take};
 ghost use Rattle.log.specs.Records.{headerOf};
 ghost use Rattle.reading.specs.Reading.{freshOf};
 ghost use Rattle.pieces.specs.Steps.{foundParts};
 ghost use Rattle.text.specs.Put.{Puts};
 ghost use Rattle.listing.specs.List.{lineOf};
-ghost use Rattle.listing.specs.Taking.{freshTally, judgedFront, isRecord, recordOctets, afterOf, endText, textOf, tallyOf};
+ghost use Rattle.listing.specs.Taking.{freshTally, judgedFront, afterOf, endText, textOf, tallyOf};
 
 // What was written, and the counts to go on with.
 pub(crate) struct Stepped {
@@ -48,41 +48,6 @@ fn judged_front(state: Receiver, octets: [u8; 49]) -> Received
 {
     let record = log::read_record(&octets, 0);
     receiver::judged(state, log::read_cell(&octets, 0), record.indication)
-}
-
-// Whether what was found is a record.
-fn is_record(what: u8) -> bool
-    ensures { λ r. ⌜ r ≡ isRecord what ⌝ }
-{
-    if what == 2 {
-        return true;
-    }
-    what == 3
-}
-
-// A record that lies in a piece, as an array.
-fn in_piece(piece: &[u8], place: usize) -> [u8; 49]
-    requires { ⌜ place + 49 ≤ length (now piece) ⌝ }
-    ensures { λ r. ⌜ r ≡ take 49 (drop place (now (piece .entry))) ⌝ }
-{
-    let mut octets = [0u8; 49];
-    let mut i = 0;
-    while i < 49 {
-        octets[i] = piece[place + i];
-        i += 1;
-    }
-    octets
-}
-
-// The octets of a record that was found: those in the piece, or those held.
-fn record_octets(what: u8, held: [u8; 49], piece: &[u8], place: usize) -> [u8; 49]
-    requires { ⌜ (what ≡ 2 → place + 49 ≤ length (now piece)) ⌝ }
-    ensures { λ r. ⌜ r ≡ recordOctets what held (now (piece .entry)) place ⌝ }
-{
-    if what == 2 {
-        return in_piece(piece, place);
-    }
-    held
 }
 
 // The counts past a record that the receiver judged. No log is so long that one of them wraps.
@@ -146,9 +111,8 @@ pub(crate) fn step(
     ensures { λ r. ⌜ Puts (now (run .entry)) at (now (run .exit)) (r .past) (textOf tally (foundParts found (now (held .entry)) (now (piece .entry)) place))
         × (r .tally ≡ tallyOf tally (foundParts found (now (held .entry)) (now (piece .entry)) place)) ⌝ }
 {
-    // a record is handled in one place of the program: what is called in two isn't compiled into this loop
-    if is_record(found.what) {
-        let octets = record_octets(found.what, *held, piece, place);
+    if pieces::is_record(found.what) {
+        let octets = pieces::record_octets(found.what, held, piece, place);
         let got = judged_front(tally.state, octets);
         let past = record_line(run, at, tally.records, got);
         let counted = after(tally, got);

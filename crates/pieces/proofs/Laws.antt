@@ -5,16 +5,18 @@ use mathlib.Core.List.{List}
 use mathlib.Core.Path.{_≡_, refl, sym, _∙_}
 use Prim.Native.Nat.{ℕ, _+_, _-_, _%_, _^_, _≤_, _<_}
 use native.Mathlib.Omega.{arith}
-use borrow.Author.Tests.{eq-eqb, ne-eqb, lt-ltb, le-ltb, le-leb, lt-leb, eqb-true, leb-true}
+use borrow.Author.Tests.{eq-eqb, ne-eqb, lt-ltb, le-ltb, le-leb, lt-leb, eqb-true, leb-true, leb-false}
 use lib.Dec.{eqb, leb, ltb}
-use lib.ListN.{length, getD, take, set}
+use lib.ListN.{length, getD, take, drop, set}
 use lib.Seq.{length-take-le}
 use Rattle.log.specs.declared.Header.{Header}
 use Rattle.log.specs.Records.{headerOf}
-use Rattle.runs.proofs.Laws.{both-true}
+use Rattle.runs.proofs.Laws.{split, both-true}
 use Rattle.pieces.specs.declared.Found.{Found}
 use Rattle.pieces.specs.declared.Standing.{Standing}
 use Rattle.pieces.specs.Steps.{
+  inPiece,
+  foundOctets,
   heldCount,
   takingOf,
   faultFound,
@@ -110,6 +112,35 @@ lies-facts count ahead left e =
     let one = both-true (eqb count 0) (leb 49 ahead && leb 49 left) e in
     let two = both-true (leb 49 ahead) (leb 49 left) (one .1) in
     (eqb-true count 0 (one .0), leb-true 49 ahead (two .0), leb-true 49 left (two .1))
+
+-- a record in a piece
+pub in-not : {what : ℕ} (size place : ℕ) → (what ≡ 2 → ⊥) → false ≡ inPiece what size place
+unfolding inPiece
+in-not {what} size place other = rw (ne-eqb what 2 other)
+
+pub in-short : {what size : ℕ} (place : ℕ) → what ≡ 2 → size < 49 → false ≡ inPiece what size place
+unfolding inPiece
+in-short {what} {size} place two h = rw (eq-eqb what 2 two, lt-leb (place + 49) size (omega arith))
+
+pub in-to : {what size : ℕ} (place : ℕ) → what ≡ 2 → 49 ≤ size → leb place (size - 49) ≡ inPiece what size place
+unfolding inPiece
+in-to {what} {size} place two h =
+    split (leb place (size - 49))
+    (λ e. rw (e, eq-eqb what 2 two) (sym (le-leb (place + 49) size (omega (arith, leb-true place (size - 49) e, h)))))
+    (λ e. rw (e, eq-eqb what 2 two) (sym (lt-leb (place + 49) size (omega (arith, leb-false place (size - 49) e, h)))))
+
+pub in-room : (what size place : ℕ) → inPiece what size place ≡ true → place + 49 ≤ size
+unfolding inPiece
+in-room what size place e = leb-true (place + 49) size (both-true (eqb what 2) (leb (place + 49) size) e .1)
+
+module _ (what : ℕ) (held piece : List ℕ) (place : ℕ) where
+  pub octets-held : inPiece what (length piece) place ≡ false → held ≡ foundOctets what held piece place
+  unfolding foundOctets
+  octets-held e = rw e
+
+  pub octets-there : inPiece what (length piece) place ≡ true → take 49 (drop place piece) ≡ foundOctets what held piece place
+  unfolding foundOctets
+  octets-there e = rw e
 
 -- the step
 module _ (s : Standing) (held piece : List ℕ) (place : ℕ) where

@@ -5,14 +5,15 @@ use mathlib.Core.List.{List, [], _∷_, _++_, append-nil, append-assoc}
 use mathlib.Core.Path.{_≡_, refl, sym, _∙_, ap}
 use Prim.Native.Nat.{ℕ, zero, suc, _+_, _-_, _%_, _≤_, _<_}
 use native.Mathlib.Omega.{arith}
-use borrow.Author.Tests.{lt-ltb, le-ltb, ltb-true, ltb-false}
+use borrow.Author.Tests.{eq-eqb, ne-eqb, eqb-true, le-leb, lt-ltb, le-ltb, ltb-true, ltb-false}
 use lib.Dec.{eqb, leb, ltb}
 use lib.ListN.{length, getD, take, drop, set, drop-of-length-le}
-use Rattle.runs.proofs.Laws.{split}
+use Rattle.runs.proofs.Laws.{split, neither}
 use Rattle.log.specs.Records.{headerOf}
+use Rattle.reading.specs.Records.{frontOf}
 use Rattle.pieces.specs.declared.Found.{Found}
 use Rattle.pieces.specs.declared.Standing.{Standing}
-use Rattle.pieces.specs.Limit.{Part, partsOf}
+use Rattle.pieces.specs.Limit.{Part, whole, partsOf}
 use Rattle.pieces.specs.Steps.{
   startOf,
   heldCount,
@@ -25,6 +26,9 @@ use Rattle.pieces.specs.Steps.{
   heldNow,
   Steps,
   foundParts,
+  isRecord,
+  inPiece,
+  foundOctets,
   Stood,
   stepsFrom,
   stoodOf,
@@ -203,3 +207,24 @@ pub found-room : {s : Standing} {held piece : List ℕ} {place : ℕ} {f : Found
     → f .what ≡ 2 → place + 49 ≤ length piece
 found-room {s} {held} {piece} {place} step two =
     room s held piece place (ap (λ (f : Found). f .what) (sym (step .answered)) ∙ two)
+
+-- what was found is a record: its octets tell it
+pub found-record : (f : Found) (held piece : List ℕ) (place : ℕ) → (f .what ≡ 2 → place + 49 ≤ length piece)
+    → isRecord (f .what) ≡ true
+    → foundParts f held piece place ≡ whole (frontOf (foundOctets (f .what) held piece place)) ∷ []
+unfolding foundParts isRecord foundOctets inPiece
+found-record f held piece place room is =
+    split (eqb (f .what) 2)
+    (λ t.
+    let two : f .what ≡ 2 = eqb-true (f .what) 2 t in
+    let not-1 : eqb (f .what) 1 ≡ false = ne-eqb (f .what) 1 (λ one. omega (arith, one, two)) in
+    rw (not-1, t, le-leb (place + 49) (length piece) (room two)))
+    (λ t.
+    let three : f .what ≡ 3 = eqb-true (f .what) 3 (rw t at is) in
+    let not-1 : eqb (f .what) 1 ≡ false = ne-eqb (f .what) 1 (λ one. omega (arith, one, three)) in
+    rw (not-1, t, eq-eqb (f .what) 3 three))
+
+-- and where it is none
+pub no-record : (what : ℕ) → isRecord what ≡ false → (eqb what 2 ≡ false) × (eqb what 3 ≡ false)
+unfolding isRecord
+no-record what none = let each = neither (eqb what 2) (eqb what 3) none in (each .0, each .1)

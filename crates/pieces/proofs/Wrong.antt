@@ -1,6 +1,7 @@
 -- Wrong answers to the public functions: the contracts rule each of them out. And a wrong walk over pieces: it forgets what is held
 -- where a piece ends inside a record, and the theorem of any division is false of it.
 -- Assumes nothing.
+use mathlib.Core.Bool.{Bool, true, false, true≢false}
 use mathlib.Core.List.{List, [], _∷_, _++_}
 use mathlib.Core.Path.{_≡_, sym, _∙_, ap}
 use Prim.Native.Nat.{ℕ}
@@ -22,12 +23,19 @@ use Rattle.pieces.specs.Steps.{
   beginsAbove,
   nextOf,
   heldNow,
+  isRecord,
+  inPiece,
+  foundOctets,
 }
 use Rattle.pieces.specs.Taken.{Taking, freshTaking, inHeader, inRecord, one, after, handed, endFault, endParts, joinedOf}
 use Rattle.pieces.proofs.end.Kinds as end-kinds
 use Rattle.pieces.proofs.end.Reads as end-reads
+use Rattle.pieces.proofs.is_record.Kinds as is-record-kinds
+use Rattle.pieces.proofs.is_record.Reads as is-record-reads
 use Rattle.pieces.proofs.next.Kinds as next-kinds
 use Rattle.pieces.proofs.next.Reads as next-reads
+use Rattle.pieces.proofs.record_octets.Kinds as record-octets-kinds
+use Rattle.pieces.proofs.record_octets.Reads as record-octets-reads
 use Rattle.pieces.proofs.sized.Kinds as sized-kinds
 use Rattle.pieces.proofs.sized.Reads as sized-reads
 use Rattle.pieces.proofs.start.Kinds as start-kinds
@@ -49,6 +57,13 @@ among count left = record { stage = 1; fault = 0; count = count; left = left; re
 abbrev zeros : List ℕ
 zeros = replicate 49 0
 
+abbrev ones : List ℕ
+ones = replicate 49 1
+
+unfoldable first : List ℕ → ℕ
+first [] = 0
+first (x ∷ l) = x
+
 module _ (κs : Lfts 2) (p q : Place) where
   abbrev Next : Standing → List ℕ → (Found → List ℕ → Type 0) → Type 0
   Next s piece Wrong =
@@ -62,13 +77,9 @@ module _ (κs : Lfts 2) (p q : Place) where
 
   -- it is counted, and not kept
   pub held-octet-not-lost : Next (among 0 100) (1 ∷ []) (λ x held. held ≡ zeros)
-  unfolding steps-unfolded
+  unfolding steps-unfolded first
   held-octet-not-lost x v wrong s =
       let octet : _≡_ {A = ℕ} 0 1 = ap (λ (l : List ℕ). first l) (sym wrong ∙ s .left) in omega arith
-    where
-      first : List ℕ → ℕ
-      first [] = 0
-      first (x ∷ l) = x
 
   -- an octet above 1 taken for an indication
   pub no-record-begins-with-2 : Next (among 0 100) (2 ∷ []) (λ x held. x .what ≡ 0)
@@ -87,7 +98,33 @@ module _ (κs : Lfts 2) (p q : Place) where
   whole-record-counted x v wrong s =
       let right : x .standing .records ≡ 8 = ap (λ (f : Found). f .standing .records) (s .answered) in omega arith
 
+  abbrev Octets : ℕ → (List ℕ → Type 0) → Type 0
+  Octets what Wrong =
+      Never record-octets-kinds.ps record-octets-kinds.r record-octets-reads.Post κs
+      (what, (lent p zeros, (lent q ones, (0, tt)))) (λ x v. Wrong x)
+
+  -- a record in the piece taken from what is held, and one that is held from the piece
+  pub octets-in-the-piece : Octets 2 (λ x. x ≡ zeros)
+  unfolding inPiece foundOctets first
+  octets-in-the-piece x v wrong s = let octet : _≡_ {A = ℕ} 0 1 = ap first (sym wrong ∙ s) in omega arith
+
+  pub octets-that-are-held : Octets 3 (λ x. x ≡ ones)
+  unfolding inPiece foundOctets first
+  octets-that-are-held x v wrong s = let octet : _≡_ {A = ℕ} 1 0 = ap first (sym wrong ∙ s) in omega arith
+
 module _ (κs : Lfts 0) where
+  abbrev IsRecord : ℕ → (Bool → Type 0) → Type 0
+  IsRecord what Wrong = Never is-record-kinds.ps is-record-kinds.r is-record-reads.Post κs (what, tt) (λ x v. Wrong x)
+
+  -- a record that is held passed over, and a fault taken for a record
+  pub held-record-not-passed-over : IsRecord 3 (λ x. x ≡ false)
+  unfolding isRecord
+  held-record-not-passed-over x v wrong s = true≢false (sym s ∙ wrong)
+
+  pub fault-is-no-record : IsRecord 4 (λ x. x ≡ true)
+  unfolding isRecord
+  fault-is-no-record x v wrong s = true≢false (sym wrong ∙ s)
+
   abbrev End : Standing → (ℕ → Type 0) → Type 0
   End s Wrong = Never end-kinds.ps end-kinds.r end-reads.Post κs (s, (zeros, tt)) (λ x v. Wrong x)
 
@@ -120,11 +157,8 @@ module _ (κs : Lfts 0) where
   sized-not-shorter x v wrong s = omega (arith, s .1)
 
   pub sized-not-altered : Sized (λ x. x ≡ replicate 49 1)
+  unfolding first
   sized-not-altered x v wrong s = let octet : _≡_ {A = ℕ} 1 0 = ap first (sym wrong ∙ s .0) in omega arith
-    where
-      first : List ℕ → ℕ
-      first [] = 0
-      first (x ∷ l) = x
 
 -- a walk that forgets
 unfoldable pub forgotten : Taking → Taking

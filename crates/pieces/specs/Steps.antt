@@ -1,6 +1,6 @@
 -- What a step along a piece answers, and what the lent array holds afterwards.
 -- Assumes nothing.
-use mathlib.Core.Bool.{Bool, cond, not, _&&_}
+use mathlib.Core.Bool.{Bool, cond, not, _&&_, _||_}
 use mathlib.Core.List.{List, [], _∷_, _++_}
 use mathlib.Core.Path.{_≡_}
 use Prim.Native.Nat.{ℕ, zero, suc, _+_, _-_, _%_, _^_}
@@ -96,6 +96,18 @@ foundParts found held piece place =
     (cond (eqb (found .what) 2) (whole (frontOf (take 49 (drop place piece))) ∷ [])
     (cond (eqb (found .what) 3) (whole (frontOf held) ∷ [])
     (cond (eqb (found .what) 4) (faultPart (found .standing .stage) (found .standing .fault) ∷ []) [])))
+
+-- what is found is a record
+unfoldable pub isRecord : ℕ → Bool
+isRecord what = eqb what 2 || eqb what 3
+
+-- it lies in a piece of this size, at this place
+unfoldable pub inPiece : ℕ → ℕ → ℕ → Bool
+inPiece what size place = eqb what 2 && leb (place + 49) size
+
+-- its octets: those in the piece, or those held
+unfoldable pub foundOctets : ℕ → List ℕ → List ℕ → ℕ → List ℕ
+foundOctets what held piece place = cond (inPiece what (length piece) place) (take 49 (drop place piece)) held
 
 -- where a log stands behind a piece: the standing, and what the lent array holds
 pub record Stood : Type 0 where

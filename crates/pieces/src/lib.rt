@@ -1,9 +1,22 @@
 // A log taken in pieces, request 14: what turns pieces of any length into the header and the records of the log. The octets of a
 // part that isn't whole yet are held in an array that the caller lends.
 ghost use mathlib.Core.Path.{_≡_};
-ghost use Prim.Native.Nat.{_-_, _≤_, _<_};
-ghost use lib.ListN.{length};
-ghost use Rattle.pieces.specs.Steps.{startOf, takingOf, faultFound, headerFound, recordFound, wholeFound, beginsAbove, liesWhole, Steps};
+ghost use Prim.Native.Nat.{_+_, _-_, _≤_, _<_};
+ghost use lib.ListN.{length, take, drop};
+ghost use Rattle.pieces.specs.Steps.{
+  startOf,
+  takingOf,
+  faultFound,
+  headerFound,
+  recordFound,
+  wholeFound,
+  beginsAbove,
+  liesWhole,
+  Steps,
+  isRecord,
+  inPiece,
+  foundOctets,
+};
 ghost use Rattle.pieces.specs.Taken.{endFault};
 
 // Where a log stands. Its stage: 0 in the header, 1 among the records, 2 the header is refused, 3 a record is broken; the
@@ -246,4 +259,52 @@ pub fn sized(held: [u8; 49]) -> [u8; 49]
     ensures { λ r. ⌜ (r ≡ held) × (length r ≡ 49) ⌝ }
 {
     held
+}
+
+// Whether what was found is a record.
+pub fn is_record(what: u8) -> bool
+    ensures { λ r. ⌜ r ≡ isRecord what ⌝ }
+{
+    if what == 2 {
+        return true;
+    }
+    what == 3
+}
+
+// Whether it lies in a piece of this size, at this place.
+fn in_piece(what: u8, size: usize, place: usize) -> bool
+    ensures { λ r. ⌜ r ≡ inPiece what size place ⌝ }
+{
+    if what != 2 {
+        return false;
+    }
+    if size < 49 {
+        return false;
+    }
+    place <= size - 49
+}
+
+// A record that lies in a piece, as an array.
+fn copied(piece: &[u8], place: usize) -> [u8; 49]
+    requires { ⌜ place + 49 ≤ length (now piece) ⌝ }
+    ensures { λ r. ⌜ r ≡ take 49 (drop place (now (piece .entry))) ⌝ }
+{
+    let mut octets = [0u8; 49];
+    let mut i = 0;
+    while i < 49 {
+        octets[i] = piece[place + i];
+        i += 1;
+    }
+    octets
+}
+
+// The octets of a record that was found: those in the piece, or else those held. With them in one array a caller handles a record
+// in one place of the program: what is called in two isn't compiled into its loop.
+pub fn record_octets(what: u8, held: &[u8; 49], piece: &[u8], place: usize) -> [u8; 49]
+    ensures { λ r. ⌜ r ≡ foundOctets what (now (held .entry)) (now (piece .entry)) place ⌝ }
+{
+    if in_piece(what, piece.len(), place) {
+        return copied(piece, place);
+    }
+    *held
 }

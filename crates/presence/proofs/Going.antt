@@ -21,9 +21,9 @@ use Rattle.reading.proofs.Records.{octets-counted}
 use Rattle.pieces.specs.declared.Found.{Found}
 use Rattle.pieces.specs.declared.Standing.{Standing}
 use Rattle.pieces.specs.Limit.{Part, head, whole, refused, broken, done, recordsTo, faultTo, endPart, partsOf}
-use Rattle.pieces.specs.Steps.{takingOf, stoodOf, Steps, foundParts, handedOver}
+use Rattle.pieces.specs.Steps.{takingOf, stoodOf, Steps, foundParts, isRecord, foundOctets, handedOver}
 use Rattle.pieces.specs.Taken.{Taking, handed, endFault, endParts, joinedOf}
-use Rattle.pieces.proofs.Walks.{Along, along-start, along-turn, along-end, turn-on, division-parts}
+use Rattle.pieces.proofs.Walks.{Along, along-start, along-turn, along-end, turn-on, division-parts, found-record, no-record}
 use Rattle.presence.specs.declared.Presence.{Presence}
 use Rattle.presence.specs.declared.Search.{Search}
 use Rattle.presence.specs.declared.Sought.{Sought}
@@ -84,31 +84,22 @@ module _ (t : Sought) (f : Found) (held piece : List ℕ) (place : ℕ) where
   unfolding soughtOf
   past-one is e = e ∙ ap (soughtOf t) (sym is)
 
-  pub past-in-piece : {r : Sought} → f .what ≡ 2 → r ≡ pastRecord t (frontOf (take (place + 49 - place) (drop place piece)))
-      → r ≡ soughtOf t (foundParts f held piece place)
-  unfolding foundParts pastPart
-  past-in-piece two e =
-      let n : place + 49 - place ≡ 49 = omega arith in
-      let not-1 : eqb (f .what) 1 ≡ false = ne-eqb (f .what) 1 (λ one. omega arith) in
-      past-one {p = whole (frontOf (take 49 (drop place piece)))} (rw (not-1, eq-eqb (f .what) 2 two)) (rw n at e)
-
-  pub past-held : {r : Sought} → f .what ≡ 3 → r ≡ pastRecord t (frontOf held) → r ≡ soughtOf t (foundParts f held piece place)
-  unfolding foundParts pastPart
-  past-held three e =
-      let not-1 : eqb (f .what) 1 ≡ false = ne-eqb (f .what) 1 (λ one. omega arith) in
-      let not-2 : eqb (f .what) 2 ≡ false = ne-eqb (f .what) 2 (λ two. omega arith) in
-      past-one {p = whole (frontOf held)} (rw (not-1, not-2, eq-eqb (f .what) 3 three)) e
+  pub past-one-record : {r : Sought} → (f .what ≡ 2 → place + 49 ≤ length piece) → isRecord (f .what) ≡ true
+      → r ≡ pastRecord t (frontOf (foundOctets (f .what) held piece place)) → r ≡ soughtOf t (foundParts f held piece place)
+  unfolding pastPart
+  past-one-record room is e =
+      past-one {p = whole (frontOf (foundOctets (f .what) held piece place))} (found-record f held piece place room is) e
 
   pub past-header : {r : Sought} → f .what ≡ 1 → r ≡ freshSought (headerOf (take 3 held))
       → r ≡ soughtOf t (foundParts f held piece place)
   unfolding foundParts pastPart
   past-header one e = past-one {p = head (headerOf (take 3 held))} (rw (eq-eqb (f .what) 1 one)) e
 
-  module _ (not-1 : f .what ≡ 1 → ⊥) (not-2 : f .what ≡ 2 → ⊥) (not-3 : f .what ≡ 3 → ⊥) where
+  module _ (not-1 : f .what ≡ 1 → ⊥) (none : isRecord (f .what) ≡ false) where
     pub past-nothing : (f .what ≡ 4 → ⊥) → t ≡ soughtOf t (foundParts f held piece place)
     unfolding foundParts soughtOf
     past-nothing not-4 =
-        rw (ne-eqb (f .what) 1 not-1, ne-eqb (f .what) 2 not-2, ne-eqb (f .what) 3 not-3, ne-eqb (f .what) 4 not-4)
+        rw (ne-eqb (f .what) 1 not-1, no-record (f .what) none .0, no-record (f .what) none .1, ne-eqb (f .what) 4 not-4)
 
     module _ (four : f .what ≡ 4) where
       pub past-refused : {r : Sought} → f .standing .stage ≡ 2
@@ -119,8 +110,8 @@ module _ (t : Sought) (f : Found) (held piece : List ℕ) (place : ℕ) where
           past-one {p = refused (f .standing .fault)}
           (rw (
             ne-eqb (f .what) 1 not-1,
-            ne-eqb (f .what) 2 not-2,
-            ne-eqb (f .what) 3 not-3,
+            no-record (f .what) none .0,
+            no-record (f .what) none .1,
             eq-eqb (f .what) 4 four,
             eq-eqb (f .standing .stage) 2 two,
           )) e
@@ -131,8 +122,8 @@ module _ (t : Sought) (f : Found) (held piece : List ℕ) (place : ℕ) where
           past-one {p = broken (f .standing .fault)}
           (rw (
             ne-eqb (f .what) 1 not-1,
-            ne-eqb (f .what) 2 not-2,
-            ne-eqb (f .what) 3 not-3,
+            no-record (f .what) none .0,
+            no-record (f .what) none .1,
             eq-eqb (f .what) 4 four,
             ne-eqb (f .standing .stage) 2 other,
           )) refl

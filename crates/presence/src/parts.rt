@@ -11,14 +11,14 @@ ghost use Rattle.pieces.specs.Steps.{foundParts};
 ghost use Rattle.presence.specs.Taking.{freshSought, pastRecord, soughtOf};
 
 // Past the record that octets begin with. No log is so long that its number wraps.
-fn past_front(sought: Sought, octets: &[u8]) -> Sought
-    ensures { λ r. ⌜ r ≡ pastRecord sought (frontOf (now (octets .entry))) ⌝ }
+fn past_front(sought: Sought, octets: [u8; 49]) -> Sought
+    ensures { λ r. ⌜ r ≡ pastRecord sought (frontOf octets) ⌝ }
 {
     if sought.found {
         return sought;
     }
-    let record = log::read_record(octets, 0);
-    let said = sounds::heard(sought.state, log::read_cell(octets, 0), record.indication);
+    let record = log::read_record(&octets, 0);
+    let said = sounds::heard(sought.state, log::read_cell(&octets, 0), record.indication);
     let state = said.state;
     if said.sounds {
         return Sought {
@@ -35,12 +35,6 @@ fn past_front(sought: Sought, octets: &[u8]) -> Sought
         found: false,
         number,
     }
-}
-
-fn past_held(sought: Sought, held: [u8; 49]) -> Sought
-    ensures { λ r. ⌜ r ≡ pastRecord sought (frontOf held) ⌝ }
-{
-    past_front(sought, &held)
 }
 
 // Past the header that is held.
@@ -82,12 +76,9 @@ pub(crate) fn step(
     requires { ⌜ (found .what ≡ 2 → place + 49 ≤ length (now piece)) ⌝ }
     ensures { λ r. ⌜ r ≡ soughtOf sought (foundParts found (now (held .entry)) (now (piece .entry)) place) ⌝ }
 {
-    if found.what == 2 {
-        let end = place + 49;
-        return past_front(sought, &piece[place..end]);
-    }
-    if found.what == 3 {
-        return past_held(sought, *held);
+    if pieces::is_record(found.what) {
+        let octets = pieces::record_octets(found.what, held, piece, place);
+        return past_front(sought, octets);
     }
     if found.what == 1 {
         return past_header(*held);

@@ -1,44 +1,23 @@
--- `glance::marked` meets its contract: a law for each return.
+-- `glance::marked` meets its contract: each way counts the same.
 -- Assumes nothing.
-use native.Mathlib.Omega.{arith}
-use mathlib.Core.Path.{refl}
 use borrow.Author.Needs.{needs}
-use Rattle.glance.proofs.Laws.{refused-none, limits-of, short-none, marked-said}
+use Rattle.glance.proofs.Laws.{usual-marked}
 use Rattle.glance.proofs.marked.Statement.{statement}
 use Rattle.glance.proofs.marked.Tie as tie
 
-settings-requires : tie.Need-settings-requires
-settings-requires c κs = search needs
+damaged-usual-requires : tie.Need-damaged-usual-requires
+damaged-usual-requires c κs = c .before .usual-cell .ensures (c .if1 .taken) .1
+
+sub-sound : tie.Need-sub-sound
+sub-sound c = c .damaged-usual .ensures .1
 
 returns : tie.Need-returns
-returns c = refused-none _ _ (c .before .before .settings .ensures) (c .if1 .taken)
+returns c =
+    let is = c .before .before .usual-cell .ensures (c .before .if1 .taken) in
+    usual-marked _ _ (is .0) (is .1) (c .damaged-usual .ensures .0)
 
 returns-2 : tie.Need-returns-2
-returns-2 c = short-none _ _ (c .before .before .before .settings .ensures) (c .before .if1 .left) (c .if2 .taken)
-
-mul-used : tie.Need-mul-used
-mul-used c =
-    let limits = limits-of _ _ _ (c .before .before .before .before .settings .ensures) (c .before .before .if1 .left) in
-    omega (arith, limits .used-to)
-
-damaged-in-requires : tie.Need-damaged-in-requires
-damaged-in-requires c κs = (
-  limits-of _ _ _ (c .before .before .before .before .settings .ensures) (c .before .before .if1 .left),
-  refl,
-  c .before .if2 .left,
-)
-
-sub-t10 : tie.Need-sub-t10
-sub-t10 c = c .damaged-in .ensures .1
-
-returns-3 : tie.Need-returns-3
-returns-3 c =
-    marked-said _ _ (c .before .before .before .before .before .settings .ensures) (c .before .before .before .if1 .left)
-    (c .before .before .if2 .left) refl (c .damaged-in .ensures .0)
+returns-2 c = c .marked-any .ensures
 
 pub marked-spec : {M : Type 1} → statement M
-marked-spec =
-    tie.close
-    (tie.spec (search needs) (search needs)
-    (search needs) settings-requires returns returns-2 mul-used damaged-in-requires sub-t10
-    returns-3)
+marked-spec = tie.close (tie.spec (search needs) damaged-usual-requires sub-sound returns (search needs) returns-2)

@@ -9,10 +9,12 @@ use Rattle.figures.proofs.record.counted.Tie as tie
 returns : tie.Need-returns
 unfolding frontOf
 returns c =
-    let start = c .before .before .before .before .before .before in
-    past-record (start .args .noted) (start .args .octets .now) (c .before .before .before .before .read-record .ensures)
+    let start = c .before .before .before .before .before .before .before in
+    past-record (start .args .noted) _ (c .before .before .before .before .before .read-record .ensures)
     (c .before .before .before .read-cell .ensures .0)
     (c .before .before .heard .ensures) (c .plus .ensures)
 
 pub counted-spec : {M : Type 1} → statement M
-counted-spec = tie.close (tie.spec (search needs) (search needs) (search needs) (search needs) returns)
+counted-spec =
+    tie.close
+    (tie.spec (search needs) (search needs) (search needs) (search needs) (search needs) (search needs) returns)

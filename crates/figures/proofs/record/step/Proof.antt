@@ -1,43 +1,37 @@
--- `figures::record::step` meets its contract.: a law for each kind of what was found.
+-- `figures::record::step` meets its contract: a law for each kind of what was found.
 -- Assumes nothing.
-use native.Mathlib.Omega.{arith}
+use mathlib.Core.Path.{sym, _∙_, ap}
 use borrow.Author.Needs.{needs}
-use Rattle.figures.proofs.Walks.{notes-in-piece, notes-held, notes-header, notes-nothing}
+use Rattle.reading.specs.Records.{frontOf}
+use Rattle.pieces.specs.Limit.{whole}
+use Rattle.figures.specs.Taking.{partNoted}
+use Rattle.figures.proofs.Walks.{notes-record, notes-header, notes-nothing}
 use Rattle.figures.proofs.record.step.Statement.{statement}
 use Rattle.figures.proofs.record.step.Tie as tie
 
-add-end : tie.Need-add-end
-add-end c = omega (arith, c .before .before .before .pre (c .if1 .taken))
-
-part-counted-end : tie.Need-part-counted-end
-part-counted-end c = c .before .before .before .pre (c .if1 .taken)
-
 returns : tie.Need-returns
 returns c =
-    let start = c .before .before .before .before .before in
-    notes-in-piece (start .args .noted) (start .args .found) (start .args .held .now) (start .args .piece .now)
-    (start .args .place)
-    (c .before .before .if1 .taken) (c .counted .ensures)
+    let at-octets = c .before in
+    let at-if1 = at-octets .before in
+    let start = at-if1 .before .before .before in
+    notes-record (start .args .noted) (start .args .found) (start .args .held .now) (start .args .piece .now)
+    (start .args .place) (start .pre) (sym (at-if1 .before .is-record .ensures) ∙ at-if1 .if1 .taken)
+    (c .counted .ensures
+    ∙ ap (λ octets. partNoted (start .args .noted) (whole (frontOf octets))) (at-octets .record-octets .ensures))
 
 returns-2 : tie.Need-returns-2
 returns-2 c =
-    let start = c .before .before .before .before .before .before .before in
-    notes-held (start .args .noted) (start .args .found) (start .args .held .now) (start .args .piece .now) (start .args .place)
-    (c .before .before .if2 .taken) (c .counted-held .ensures)
+    let at-if2 = c .before .before in
+    let start = at-if2 .before .before .before .before .before in
+    notes-header (start .args .noted) (start .args .found) (start .args .held .now) (start .args .piece .now) (start .args .place)
+    (at-if2 .if2 .taken) (c .begun .ensures)
 
 returns-3 : tie.Need-returns-3
 returns-3 c =
-    let start = c .before .before .before .before .before .before .before .before .before in
-    notes-header (start .args .noted) (start .args .found) (start .args .held .now) (start .args .piece .now) (start .args .place)
-    (c .before .before .if3 .taken) (c .begun .ensures)
-
-returns-4 : tie.Need-returns-4
-returns-4 c =
-    let start = c .before .before .before .before .before .before .before in
+    let at-if1 = c .before .before in
+    let start = at-if1 .before .before .before in
     notes-nothing (start .args .noted) (start .args .found) (start .args .held .now) (start .args .piece .now)
-    (start .args .place)
-    (c .if3 .left) (c .before .before .before .before .if1 .left) (c .before .before .if2 .left)
+    (start .args .place) (c .if2 .left) (sym (at-if1 .before .is-record .ensures) ∙ at-if1 .if1 .left)
 
 pub step-spec : {M : Type 1} → statement M
-step-spec = tie.close (tie.spec add-end (search needs) (search needs) part-counted-end (search needs) returns (search needs)
-    returns-2 (search needs) returns-3 returns-4)
+step-spec = tie.close (tie.spec (search needs) (search needs) (search needs) returns (search needs) returns-2 returns-3)

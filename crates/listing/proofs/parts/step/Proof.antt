@@ -7,17 +7,15 @@ use Rattle.listing.proofs.Texts.{tells-record, tells-header, tells-noth
 use Rattle.listing.proofs.parts.step.Statement.{statement}
 use Rattle.listing.proofs.parts.step.Tie as tie
 
-record-octets-requires : tie.Need-record-octets-requires
-record-octets-requires c κs = c .before .before .before .before .before .pre
-
 returns : tie.Need-returns
 returns c =
     let at-line = c .before .before .before in
     let at-judged = at-line .before .before in
     let at-octets = at-judged .before in
-    let at-if1 = at-octets .before .before in
+    let at-if1 = at-octets .before in
     let start = at-if1 .before .before .before .before in
     tells-record (start .args .tally) (start .args .found) (start .args .held .now) (start .args .piece .now) (start .args .place)
+    (start .pre)
     (sym (at-if1 .before .is-record .ensures) ∙ at-if1 .if1 .taken)
     (at-judged .judged-front .ensures ∙ ap (judgedFront (start .args .tally .state)) (at-octets .record-octets .ensures))
     (at-line .record-line .ensures) (c .after .ensures)
@@ -64,6 +62,6 @@ returns-5 c =
 pub step-spec : {M : Type 1} → statement M
 step-spec =
     tie.close
-    (tie.spec (search needs) record-octets-requires (search needs) (search needs) (search needs) (search needs) returns (search needs)
+    (tie.spec (search needs) (search needs) (search needs) (search needs) (search needs) (search needs) returns (search needs)
     (search needs) (search needs) (search needs) (search needs) (search needs) (search needs) returns-2 returns-3 (search needs)
     (search needs) (search needs) returns-4 (search needs) (search needs) returns-5)

@@ -1,4 +1,4 @@
--- `listing::parts::in_piece` meets its contract. The loop fills the array from its start.
+-- `pieces::copied` meets its contract. The loop fills the array from its start.
 -- Assumes nothing.
 use mathlib.Core.Path.{_≡_, sym, _∙_, ap}
 use Prim.Native.Nat.{ℕ, _-_}
@@ -7,8 +7,8 @@ use borrow.Author.Needs.{needs}
 use lib.ListN.{length, take, drop, length-drop}
 use lib.Seq.{length-take-le, getD-take, getD-drop}
 use Rattle.runs.proofs.Filling.{Filled, begun, turned-front, done-to-end}
-use Rattle.listing.proofs.parts.in_piece.Statement.{statement}
-use Rattle.listing.proofs.parts.in_piece.Tie as tie
+use Rattle.pieces.proofs.copied.Statement.{statement}
+use Rattle.pieces.proofs.copied.Tie as tie
 
 abbrev Inv-loop : tie.InvT-loop
 Inv-loop piece place octets₀ i₀ octets i = Filled octets octets₀ 0 (take 49 (drop place piece)) i
@@ -17,7 +17,9 @@ abbrev μ-loop : tie.MeasureT-loop
 μ-loop piece place octets₀ i₀ octets i = 49 - i
 
 size : (c : tie.Start Inv-loop μ-loop) → length (take 49 (drop (c .args .place) (c .args .piece .now))) ≡ 49
-size c = length-take-le 49 (drop (c .args .place) (c .args .piece .now)) (omega (arith, c .pre, length-drop (c .args .place) (c .args .piece .now)))
+size c =
+    length-take-le 49 (drop (c .args .place) (c .args .piece .now))
+    (omega (arith, c .pre, length-drop (c .args .place) (c .args .piece .now)))
 
 loop-holds : tie.Need-loop-holds Inv-loop μ-loop
 loop-holds c = begun _ _ _
@@ -35,7 +37,8 @@ returns c =
     let s = c .before .before in
     done-to-end _ _ 0 (c .before .loop .inv) (omega (arith, c .loop-test .left, size s)) (omega (arith, size s))
 
-pub in-piece-spec : {M : Type 1} → statement M
-in-piece-spec =
+pub copied-spec : {M : Type 1} → statement M
+copied-spec =
     tie.close
-    (tie.spec Inv-loop μ-loop loop-holds (search needs) (search needs) (search needs) (search needs) (search needs) loop-again returns)
+    (tie.spec Inv-loop μ-loop loop-holds (search needs) (search needs) (search needs) (search needs) (search needs) loop-again
+    returns)

@@ -1,9 +1,9 @@
--- `listing::parts::is_record` meets its contract.
+-- `pieces::is_record` meets its contract.
 -- Assumes nothing.
 use borrow.Author.Tests.{eq-eqb, ne-eqb}
-use Rattle.listing.specs.Taking.{isRecord}
-use Rattle.listing.proofs.parts.is_record.Statement.{statement}
-use Rattle.listing.proofs.parts.is_record.Tie as tie
+use Rattle.pieces.specs.Steps.{isRecord}
+use Rattle.pieces.proofs.is_record.Statement.{statement}
+use Rattle.pieces.proofs.is_record.Tie as tie
 
 returns : tie.Need-returns
 unfolding isRecord

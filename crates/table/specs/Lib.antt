@@ -1,0 +1,3 @@
+pub mod Input
+pub mod Lengths
+pub mod Table

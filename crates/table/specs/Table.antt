@@ -1,0 +1,38 @@
+-- The table that `sheet` prints: the line of names, a line for each log, and the line of all logs together.
+-- Assumes nothing.
+use mathlib.Core.Bool.{cond}
+use mathlib.Core.List.{List, [], _∷_, _++_}
+use mathlib.Core.Path.{_≡_}
+use Prim.Native.Nat.{ℕ}
+use lib.ListN.{length, take}
+use Rattle.runs.specs.Runs.{over}
+use Rattle.text.specs.declared.Put.{Put}
+use Rattle.text.specs.Put.{listed}
+use Rattle.text.specs.Text.{decimal, item}
+use Rattle.text.specs.Words.{words}
+
+-- numbers, each behind a comma
+unfoldable pub cellsOf : List ℕ → List ℕ
+cellsOf [] = []
+cellsOf (n ∷ ns) = item (words ",") n ++ cellsOf ns
+
+abbrev pub namesLine : List ℕ
+namesLine =
+    words "log,sound,missing,refused 8,refused 9,refused 15,refused 20,marked 0,marked 1,marked 2,missing per million\n"
+
+-- as `0,5,7,1,1,0,0,60,0,84,583333`
+abbrev pub logLine : ℕ → List ℕ → List ℕ
+logLine index row = decimal index ++ (cellsOf row ++ words "\n")
+
+-- as `all,5,7,1,1,0,0,60,0,84,583333`
+abbrev pub allLine : List ℕ → List ℕ
+allLine row = words "all" ++ (cellsOf row ++ words "\n")
+
+-- "A sheet that is refused prints one line alone"
+abbrev pub refusedLine : ℕ → List ℕ
+refusedLine refusal = item (words "sheet refused ") refusal ++ words "\n"
+
+-- the whole promise of a line: what was said, and what the lent run holds afterwards
+pub record Prints (run : List ℕ) (put : Put) (run₁ : List ℕ) (line : List ℕ) : Type 0 where
+  pub said : put ≡ listed (length run) line
+  pub wrote : run₁ ≡ over (take (length run) line) run
