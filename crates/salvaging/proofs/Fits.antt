@@ -169,18 +169,21 @@ last-short octets t =
     split (eqb (t .refusal) 0)
     (λ e. rw e (omega (
       arith,
-      three-short (words "end ") (words " kept ") (words " left out ") (words " cut\n") (t .kept) (t .«left_out») (octets - t .taken) {i = 4} {j = 6} {k = 10} {l = 5}
+      three-short (words "end ") (words " kept ") (words " left out ") (words " cut\n") (t .kept) (t .«left_out»)
+          (octets - t .taken) {i = 4} {j = 6} {k = 10} {l = 5}
           (omega arith) (omega arith) (omega arith) (omega arith),
     )))
     (λ e. rw e (omega (
       arith,
-      with-words (item (words "log refused ") (t .refusal)) (words "\n") {a = 32} {b = 1} (one-item (words "log refused ") (t .refusal) {b = 12} (omega arith)) (omega arith),
+      with-words (item (words "log refused ") (t .refusal)) (words "\n") {a = 32} {b = 1}
+          (one-item (words "log refused ") (t .refusal) {b = 12} (omega arith)) (omega arith),
     )))
 
 -- so runs of that many octets hold all of it
 pub takes-whole : {s : Salvaging} {held piece out notes held-after out-after notes-after : List ℕ} {answer : Wrote}
     → Takes s held piece out notes answer held-after out-after notes-after → length piece ≤ 65536 → 131072 ≤ length out → 131072 ≤ length notes
-    → ((answer .saved .whole ≡ true) × (answer .saved .octets ≤ length out)) × ((answer .noted .whole ≡ true) × (answer .noted .octets ≤ length notes))
+    → ((answer .saved .whole ≡ true) × (answer .saved .octets ≤ length out)) ×
+    ((answer .noted .whole ≡ true) × (answer .noted .octets ≤ length notes))
 takes-whole {s} {held} {piece} {out} {notes} takes few room room-too =
     let k : Taking = takingOf (s .standing) held in (
       listed-whole (pieceOctets s held piece) out 131072

@@ -28,7 +28,8 @@ use Rattle.salvaging.proofs.take.Reads as take-reads
 
 -- every definition on the way down to the numbers
 unfolded : Unit {0}
-unfolding over receiver.unfolded pieces.unfolded pieces.steps-unfolded stepsFrom stoodOf digitsOf afterOf partOctets partText partTally octetsBy textBy tallyBy lastText
+unfolding over receiver.unfolded pieces.unfolded pieces.steps-unfolded stepsFrom stoodOf digitsOf afterOf partOctets partText
+    partTally octetsBy textBy tallyBy lastText
 unfolded = tt
 
 abbrev zeros : ℕ → List ℕ

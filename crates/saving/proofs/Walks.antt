@@ -267,7 +267,8 @@ putting-start log state out₀ list₀ e = subst (λ (s : Standing). Putting log
           noted-rest = refl;
         }
 
-module _ {log : List ℕ} {state : Receiver} {out₀ list₀ : List ℕ} {here : Standing} {out list : List ℕ} (p : Putting log state out₀ list₀ here out list) where
+module _ {log : List ℕ} {state : Receiver} {out₀ list₀ : List ℕ} {here : Standing} {out list : List ℕ}
+    (p : Putting log state out₀ list₀ here out list) where
   pub putting-room : Room log state (length out₀) (length list₀) → Room log state (length out) (length list)
   putting-room room =
       record {
@@ -332,7 +333,8 @@ module _ {log : List ℕ} {state : Receiver} {out₀ list₀ : List ℕ} {here :
           ∙ ap (listFrom index) (sym (heard-turn log here (is-one w one))))
           ∙ p .noted-rest
 
-      module _ {out′ list′ : List ℕ} (puts : PutsOne out list here (h .answer .refusal) (front log here .indication) (front log here .cell) out′ list′)
+      module _ {out′ list′ : List ℕ} (puts : PutsOne out list here (h .answer .refusal) (front log here .indication)
+          (front log here .cell) out′ list′)
           (same-out′ : length out′ ≡ length out) (same-list′ : length list′ ≡ length list)
         where
           put : Putting log state out₀ list₀ (past log here) out′ list′

@@ -30,58 +30,86 @@ same-length-3 : tie.Need-same-length-3 Inv-loop μ-loop
 same-length-3 c = c .before .before .before .before .before .before .before .loop .inv .2
 
 finish-requires : tie.Need-finish-requires Inv-loop μ-loop
-finish-requires c κs = omega (arith, c .before .before .before .before .before .before .before .before .before .before .before .loop .inv .2, c .before .before .before .before .before .before .before .before .before .before .before .before .before .before .before .before .before .pre .2)
+finish-requires c κs = omega (
+  arith,
+  c .before .before .before .before .before .before .before .before .before .before .before .loop .inv .2,
+  c .before .before .before .before .before .before .before .before .before .before .before .before .before .before .before .before .before .pre .2,
+)
 
 same-length-4 : tie.Need-same-length-4 Inv-loop μ-loop
-same-length-4 c = c .before .before .before .before .before .before .before .before .before .before .before .read .kept .1 .0 ∙ c .before .before .before .before .before .before .before .before .before .before .before .before .before .before .loop .inv .0
+same-length-4 c = c .before .before .before .before .before .before .before .before .before .before .before .read .kept .1 .0 ∙
+    c .before .before .before .before .before .before .before .before .before .before .before .before .before .before .loop .inv .0
 
 same-length-5 : tie.Need-same-length-5 Inv-loop μ-loop
 same-length-5 c = c .before .before .before .before .before .before .before .before .before .before .before .before .before .before .loop .inv .1
 
 same-length-6 : tie.Need-same-length-6 Inv-loop μ-loop
-same-length-6 c = c .before .before .finish .kept .1 .1 .0 ∙ c .before .before .before .before .before .before .before .before .before .before .before .before .before .before .loop .inv .2
+same-length-6 c = c .before .before .finish .kept .1 .1 .0 ∙
+    c .before .before .before .before .before .before .before .before .before .before .before .before .before .before .loop .inv .2
 
 take-read-requires : tie.Need-take-read-requires Inv-loop μ-loop
 take-read-requires c κs =
     let at-loop = c .before .before .before .before .before .before .before .before .before .before .before .before .before in
     let start = at-loop .before .before .before .before .before .before in (
-      omega (arith, c .before .before .before .before .before .before .before .before .before .before .read .kept .1 .0, at-loop .loop .inv .0, start .pre .0),
+      omega (
+        arith,
+        c .before .before .before .before .before .before .before .before .before .before .read .kept .1 .0,
+        at-loop .loop .inv .0,
+        start .pre .0,
+      ),
       omega (arith, at-loop .loop .inv .1, start .pre .1),
       omega (arith, at-loop .loop .inv .2, start .pre .2),
     )
 
 print-both-requires : tie.Need-print-both-requires Inv-loop μ-loop
-print-both-requires c κs = let at-take = c .before .before .before .before .before .before .before .before in (at-take .take-read .ensures .1, at-take .take-read .ensures .2)
+print-both-requires c κs = let at-take = c .before .before .before .before .before .before .before .before in
+    (at-take .take-read .ensures .1, at-take .take-read .ensures .2)
 
 same-length-7 : tie.Need-same-length-7 Inv-loop μ-loop
-same-length-7 c = c .before .before .before .before .before .before .before .before .before .before .before .before .before .before .before .before .before .before .before .before .before .read .kept .1 .0 ∙ c .before .before .before .before .before .before .before .before .before .before .before .before .before .before .before .before .before .before .before .before .before .before .before .before .loop .inv .0
+same-length-7 c =
+    let at-take = c .before .before .before .before .before .before .before .before .before .before in
+    let at-read = at-take .before .before .before .before .before .before .before .before .before .before .before in
+    at-read .read .kept .1 .0 ∙ at-read .before .before .before .loop .inv .0
 
 same-length-8 : tie.Need-same-length-8 Inv-loop μ-loop
-same-length-8 c = c .before .before .before .before .before .before .before .before .before .before .take-read .kept .1 .1 .1 .1 .0 ∙ c .before .before .before .before .before .before .before .before .before .before .before .before .before .before .before .before .before .before .before .before .before .before .before .before .loop .inv .1
+same-length-8 c =
+    let at-take = c .before .before .before .before .before .before .before .before .before .before in
+    let at-read = at-take .before .before .before .before .before .before .before .before .before .before .before in
+    at-take .take-read .kept .1 .1 .1 .1 .0 ∙ at-read .before .before .before .loop .inv .1
 
 same-length-9 : tie.Need-same-length-9 Inv-loop μ-loop
-same-length-9 c = c .before .before .before .before .before .before .before .before .before .before .take-read .kept .1 .1 .1 .1 .1 .0 ∙ c .before .before .before .before .before .before .before .before .before .before .before .before .before .before .before .before .before .before .before .before .before .before .before .before .loop .inv .2
+same-length-9 c =
+    let at-take = c .before .before .before .before .before .before .before .before .before .before in
+    let at-read = at-take .before .before .before .before .before .before .before .before .before .before .before in
+    at-take .take-read .kept .1 .1 .1 .1 .1 .0 ∙ at-read .before .before .before .loop .inv .2
 
 add-octets : tie.Need-add-octets Inv-loop μ-loop
 add-octets c =
-    let at-loop = c .before .before .before .before .before .before .before .before .before .before .before .before .before .before .before .before .before .before .before .before .before .before .before .before .before in
+    let at-take = c .before .before .before .before .before .before .before .before .before .before .before in
+    let at-count = at-take .before .before .before .before .before .before in
+    let at-read = at-count .before .before .before .before .before in
+    let at-test = at-read .before .before in
+    let at-loop = at-test .before in
     omega (
       arith,
-      c .before .before .before .before .before .before .before .before .before .before .before .before .before .before .before .before .before .before .before .before .before .before .before .before .loop-test .taken,
-      c .before .before .before .before .before .before .before .before .before .before .before .before .before .before .before .before .before .count .ensures .0 .0,
-      c .before .before .before .before .before .before .before .before .before .before .before .before .before .before .before .before .before .before .before .before .before .before .read .kept .1 .0,
+      at-test .loop-test .taken,
+      at-count .count .ensures .0 .0,
+      at-read .read .kept .1 .0,
       at-loop .loop .inv .0,
       at-loop .before .before .before .before .before .before .pre .0,
     )
 
 loop-less : tie.Need-loop-less Inv-loop μ-loop
-loop-less c = omega (arith, c .before .before .before .before .before .before .before .before .before .before .before .before .before .before .before .before .before .before .before .before .before .before .before .before .loop-test .taken, c .before .before .before .before .before .before .before .before .before .before .before .before .before .before .before .before .if2 .left)
+loop-less c =
+    let at-more = c .before .before .before .before .before .before .before .before .before .before .before .before .before .before .before .before in
+    omega (arith, at-more .before .before .before .before .before .before .before .before .loop-test .taken, at-more .if2 .left)
 
 loop-again : tie.Need-loop-again Inv-loop μ-loop
 loop-again c =
-    let at-loop = c .before .before .before .before .before .before .before .before .before .before .before .before .before .before .before .before .before .before .before .before .before .before .before .before .before in
-    let at-take = c .before .before .before .before .before .before .before .before .before .before .before in (
-      c .before .before .before .before .before .before .before .before .before .before .before .before .before .before .before .before .before .before .before .before .before .before .read .kept .1 .0 ∙ at-loop .loop .inv .0,
+    let at-take = c .before .before .before .before .before .before .before .before .before .before .before in
+    let at-read = at-take .before .before .before .before .before .before .before .before .before .before .before in
+    let at-loop = at-read .before .before .before in (
+      at-read .read .kept .1 .0 ∙ at-loop .loop .inv .0,
       at-take .take-read .kept .1 .1 .1 .1 .0 ∙ at-loop .loop .inv .1,
       at-take .take-read .kept .1 .1 .1 .1 .1 .0 ∙ at-loop .loop .inv .2,
     )
@@ -98,4 +126,7 @@ same-length-12 c = c .before .before .loop .inv .2
 pub save-spec : {M : Type 1} → statement M
 save-spec =
     tie.close
-    (tie.spec Inv-loop μ-loop (search needs) loop-holds (search needs) (search needs) same-length same-length-2 same-length-3 (search needs) (search needs) finish-requires same-length-4 same-length-5 same-length-6 (search needs) take-read-requires print-both-requires same-length-7 same-length-8 same-length-9 (search needs) add-octets loop-less loop-again (search needs) same-length-10 same-length-11 same-length-12 (search needs))
+    (tie.spec Inv-loop μ-loop (search needs) loop-holds (search needs) (search needs) same-length same-length-2 same-length-3
+    (search needs) (search needs) finish-requires same-length-4 same-length-5 same-length-6 (search needs)
+    take-read-requires print-both-requires same-length-7 same-length-8 same-length-9 (search needs) add-octets loop-less
+    loop-again (search needs) same-length-10 same-length-11 same-length-12 (search needs))

@@ -46,9 +46,11 @@ same-length-2 c = c .before .before .loop .inv .same-notes
 
 returns : tie.Need-returns Inv-loop μ-loop
 returns c =
-    going-end (c .before .before .before .before .before .before .before .before .before .before .args .salvaging) (c .before .before .loop .inv) (c .before .loop-test .left) (c .wrapping-add-usize .ensures)
+    going-end (c .before .before .before .before .before .before .before .before .before .before .args .salvaging)
+    (c .before .before .loop .inv) (c .before .loop-test .left) (c .wrapping-add-usize .ensures)
 
 pub take-spec : {M : Type 1} → statement M
 take-spec =
     tie.close
-    (tie.spec Inv-loop μ-loop (search needs) loop-holds (search needs) step-requires loop-less loop-again (search needs) same-length same-length-2 returns)
+    (tie.spec Inv-loop μ-loop (search needs) loop-holds (search needs) step-requires loop-less loop-again (search needs)
+    same-length same-length-2 returns)

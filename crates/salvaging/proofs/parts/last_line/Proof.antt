@@ -9,12 +9,14 @@ use Rattle.salvaging.proofs.parts.last_line.Tie as tie
 returns : tie.Need-returns
 returns c =
     let start = c .before .before .before .before .before .before .before .before in
-    puts-same (last-refused (start .args .octets) (start .args .tally) (c .before .before .before .before .before .if1 .taken)) (c .before .before .log-refused-line .ensures)
+    puts-same (last-refused (start .args .octets) (start .args .tally) (c .before .before .before .before .before .if1 .taken))
+    (c .before .before .log-refused-line .ensures)
 
 returns-2 : tie.Need-returns-2
 returns-2 c =
     let start = c .before .before .before .before .before .before .before .before in
-    puts-same (last-counts (start .args .octets) (start .args .tally) (c .before .before .before .before .before .if1 .left) (c .before .before .before .before .cut-of .ensures))
+    puts-same (last-counts (start .args .octets) (start .args .tally) (c .before .before .before .before .before .if1 .left)
+    (c .before .before .before .before .cut-of .ensures))
     (c .before .before .end-line .ensures)
 
 pub last-line-spec : {M : Type 1} → statement M

@@ -38,7 +38,8 @@ returns-3 c =
     let at-if3 = c .before .before .before .before .before .before .before in
     let start = at-if3 .before .before .before .before .before .before .before .before .before in
     tells-header (start .args .tally) (start .args .found) (start .args .held .now) (start .args .piece .now) (start .args .place)
-    (at-if3 .if3 .taken) (c .before .before .before .before .before .header-of .ensures) (c .before .before .before .put-header .ensures) (c .fresh .ensures)
+    (at-if3 .if3 .taken) (c .before .before .before .before .before .header-of .ensures)
+    (c .before .before .before .put-header .ensures) (c .fresh .ensures)
 
 returns-4 : tie.Need-returns-4
 returns-4 c =
@@ -73,4 +74,6 @@ returns-6 c =
 pub step-spec : {M : Type 1} → statement M
 step-spec =
     tie.close
-    (tie.spec add-end (search needs) (search needs) part-record-step-end (search needs) (search needs) (search needs) returns (search needs) (search needs) (search needs) returns-2 (search needs) (search needs) (search needs) (search needs) returns-3 returns-4 (search needs) returns-5 returns-6)
+    (tie.spec add-end (search needs) (search needs) part-record-step-end (search needs) (search needs) (search needs) returns
+    (search needs) (search needs) (search needs) returns-2 (search needs) (search needs) (search needs) (search needs)
+    returns-3 returns-4 (search needs) returns-5 returns-6)
