@@ -28,7 +28,9 @@ static int of_log(const char *name, bool several) {
     int status = lent_open(&lent, name);
     if (status != STATUS_WELL) return status;
     uint64_t answer[RIME_ANSWER]; /* yes or no, and a record or how many */
+    progress_watch(lent.name, lent.mapped, lent.size);
     unsigned refusal = rime_anything(lent.octets, lent.count, answer);
+    progress_watched();
     progress_clear();
     if (several) printf("%s: ", name);
     if (refusal != RIME_DONE) printf("log refused %u\n", refusal);

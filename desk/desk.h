@@ -57,6 +57,10 @@ void progress_begin(const char *name, uint64_t total, bool quiet); /* total 0: n
 void progress_at(uint64_t done);
 void progress_clear(void); /* for a line of text; the bar is drawn again after it */
 void progress_end(void);
+void progress_within(const char *name, uint64_t total); /* a bar in the place of the other one, up to progress_without */
+void progress_without(void);
+void progress_watch(const char *name, const void *start, size_t size); /* how far a call is in what is mapped there */
+void progress_watched(void);
 
 /*
  * output.c: a file that is written under a temporary name beside its own, and gets its own when it is whole. An output

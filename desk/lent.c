@@ -19,12 +19,18 @@ static bool spool(struct lent *lent) {
     char octets[65536];
     ssize_t got;
     bool well = true;
+    uint64_t sum = 0;
+    progress_within(lent->name, 0);
     while (well && (got = read(lent->fd, octets, sizeof octets)) != 0) {
         if (got < 0) well = errno == EINTR;
         else well = fwrite(octets, 1, (size_t)got, file) == (size_t)got;
+        if (got > 0) progress_at(sum += (uint64_t)got);
     }
-    int fd = well && fflush(file) == 0 ? dup(fileno(file)) : -1;
     int why = errno;
+    progress_without();
+    errno = why;
+    int fd = well && fflush(file) == 0 ? dup(fileno(file)) : -1;
+    why = errno;
     fclose(file);
     errno = why;
     if (fd < 0) return false;

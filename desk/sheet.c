@@ -36,7 +36,9 @@ static int take_log(struct sheet *sheet, const char *name, bool quiet) {
     if (status != STATUS_WELL) return status;
     uint64_t length = lent.count;
     uint32_t figures[FIGURES], totals[FIGURES];
+    progress_watch(lent.name, lent.mapped, lent.size);
     sheet->refusal = rime_sheet(lent.octets, lent.count, &length, 1, figures, FIGURES, totals);
+    progress_watched();
     if (sheet->refusal == RIME_DONE) {
         struct row row;
         for (unsigned at = 0; at < FIGURES; at++) row.of[at] = figures[at];
