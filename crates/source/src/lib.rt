@@ -32,7 +32,7 @@ pub fn kind(word: &[u8]) -> u8
 }
 
 // Says how a program is called.
-pub fn usage(program: &[u8], words: &[u8]) {
+fn usage(program: &[u8], words: &[u8]) {
     io::write_all(STDERR_FILENO, b"usage: ");
     io::write_all(STDERR_FILENO, program);
     io::write_all(STDERR_FILENO, b" ");
@@ -40,7 +40,7 @@ pub fn usage(program: &[u8], words: &[u8]) {
     io::write_all(STDERR_FILENO, b"\n");
 }
 
-// Says what failed, and the system's reason.
+// Says what failed, and the system's reason, on standard error. It answers nothing and changes nothing lent, so it has no promise.
 pub fn told(program: &[u8], what: &[u8]) {
     io::write_all(STDERR_FILENO, program);
     io::write_all(STDERR_FILENO, b": ");
@@ -112,7 +112,7 @@ pub fn chosen(program: &[u8], words: &[u8], name: &mut [u8]) -> Source
     named(program, words, 1, name)
 }
 
-// Closes what was opened.
+// Closes what was opened. It answers nothing and changes nothing lent, so it has no promise.
 pub fn done(source: Source) {
     if source.fd != STDIN_FILENO {
         libc::close(source.fd);
