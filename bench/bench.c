@@ -1,6 +1,6 @@
 /*
  * The proved sender and receiver, the AES3 cable's calls (frames.c) and the data units' calls (units.c), beside the baseline of
- * plain.c, in one process.
+ * plain.c, and a sheet (sheets.c) beside plainsheet.c, in one process.
  *
  *   bench rows                the rows' names, one a line
  *   bench times [ROWS]        ns per cell of each row: the least of many batches, the two taking turns
@@ -16,9 +16,11 @@
 #include <string.h>
 #include <time.h>
 
+#include "formats.h"
 #include "frames.h"
 #include "plain.h"
 #include "rimesatchel.h"
+#include "sheets.h"
 #include "units.h"
 
 enum { CELLS = 16, BATCH = 10 * CELLS, REPEATS = 1000, MOST_ENTRIES = 15 * RIME_MOST_SLOTS };
@@ -51,36 +53,8 @@ struct bench {
     uint8_t ancillary[MOST_ENTRIES], marks[MOST_ENTRIES];
 };
 
-struct format {
-    uint8_t octet, slots, sample_bits;
-    bool ancillary, overhead;
-};
-
-/* A format is one line here; its rows follow from it. */
-static const struct format formats[] = {
-    {0x02, 48, 8, false, false},
-    {0x04, 24, 16, false, false},
-    {0x06, 16, 24, false, false},
-    {0x08, 12, 32, false, false},
-    {0x43, 24, 12, true, false},
-    {0x45, 16, 20, true, false},
-    {0x47, 12, 28, true, false},
-    {0x13, 24, 12, false, true},
-    {0x15, 16, 20, false, true},
-    {0x17, 12, 28, false, true},
-    {0x52, 24, 8, true, true},
-    {0x54, 16, 16, true, true},
-    {0x56, 12, 24, true, true},
-    {0x5A, 8, 40, true, true},
-};
-enum { FORMATS = sizeof formats / sizeof *formats, CHANNELS = 4, ORDERS = 2, GAP_CHANNELS = 2 };
+enum { CHANNELS = 4, ORDERS = 2, GAP_CHANNELS = 2 };
 enum { MOST_ROWS = FORMATS * ORDERS * (2 * CHANNELS + 1) };
-
-static const struct format *format_of(uint8_t octet) {
-    for (size_t at = 0; at < FORMATS; at++)
-        if (formats[at].octet == octet) return &formats[at];
-    abort();
-}
 
 /* One channel, two, five and as many as there are slots. With two, a line with the longest gap too. */
 static size_t rows_of(const struct format *format, bool unpacks, struct row *rows) {
@@ -269,5 +243,6 @@ int main(int argc, char **argv) {
     }
     frames_rows(argv[1], &pattern);
     units_rows(argv[1], &pattern);
+    sheets_rows(argv[1], &pattern);
     return 0;
 }

@@ -23,6 +23,9 @@ static struct format format_of(unsigned octet) {
     case 0x43: return (struct format){2, 24, 12, true, false};
     case 0x45: return (struct format){3, 16, 20, true, false};
     case 0x47: return (struct format){4, 12, 28, true, false};
+    case 0x13: return (struct format){2, 24, 12, false, true};
+    case 0x15: return (struct format){3, 16, 20, false, true};
+    case 0x17: return (struct format){4, 12, 28, false, true};
     case 0x52: return (struct format){2, 24, 8, true, true};
     case 0x54: return (struct format){3, 16, 16, true, true};
     case 0x56: return (struct format){4, 12, 24, true, true};
@@ -46,7 +49,7 @@ static unsigned number_of(struct format format, const uint8_t *cell) {
     return 16;
 }
 
-/* The complement of the remainder by x^3 + x + 1 of x^3 times the ten bits: nine of the sample, and V. */
+/* The complement of the remainder by x^3 + x + 1 of x^3 times ten bits at most: nine of the sample, and V where there is one. */
 static unsigned protection_of(unsigned ten) {
     unsigned rest = ten << 3;
     for (int bit = 12; bit >= 3; bit--) {
@@ -57,10 +60,10 @@ static unsigned protection_of(unsigned ten) {
 
 /* Whether the three protection bits of a subframe disagree. */
 static bool is_spoiled(struct format format, uint64_t subframe) {
-    uint64_t sample = subframe >> 8;
+    uint64_t sample = subframe >> (format.ancillary ? 8 : 4);
     unsigned nine = (unsigned)(sample << 9 >> format.sample_bits) & 511;
     unsigned valid = (unsigned)(subframe >> 4) & 1;
-    return protection_of(nine << 1 | valid) != (subframe & 7);
+    return protection_of(format.ancillary ? nine << 1 | valid : nine) != (subframe & 7);
 }
 
 static uint64_t subframe_at(struct format format, const uint8_t *cell, unsigned slot) {

@@ -142,9 +142,10 @@ fuzz-list:
 	rm target/long.log target/long.list
 	@echo "linelist: a log of $(LONG_OCTETS) octets is listed alike"
 
-BENCH_SOURCES := bench/bench.c bench/frames.c bench/plain.c bench/units.c
+BENCH_SOURCES := $(addprefix bench/,bench.c formats.c frames.c logs.c plain.c plainsheet.c sheets.c units.c)
+BENCH_HEADERS := $(addprefix bench/,formats.h frames.h logs.h plain.h plainsheet.h sheets.h units.h)
 
-target/bench/bench: $(BENCH_SOURCES) bench/frames.h bench/plain.h bench/units.h include/rimesatchel.h $(ARCHIVE)
+target/bench/bench: $(BENCH_SOURCES) $(BENCH_HEADERS) include/rimesatchel.h $(ARCHIVE)
 	mkdir -p target/bench
 	gcc $(BENCH_FLAGS) -Iinclude -Ibench $(BENCH_SOURCES) $(ARCHIVE) -o $@
 
@@ -170,18 +171,15 @@ target/bench/plainanything: bench/plainanything.c
 bench-anything: target/bench/plainanything
 	python3 bench/anything.py $(ANYTHING) target/bench/plainanything
 
+SHEET_SOURCES := $(addprefix bench/,sheet.c formats.c logs.c plainsheet.c)
 
-target/bench/sheet: bench/sheet.c bench/plainsheet.c bench/plainsheet.h include/rimesatchel.h $(ARCHIVE)
+target/bench/sheet: $(SHEET_SOURCES) $(BENCH_HEADERS) include/rimesatchel.h $(ARCHIVE)
 	mkdir -p target/bench
-	gcc $(BENCH_FLAGS) -Iinclude -Ibench bench/sheet.c bench/plainsheet.c $(ARCHIVE) -o $@
+	gcc $(BENCH_FLAGS) -Iinclude -Ibench $(SHEET_SOURCES) $(ARCHIVE) -o $@
 
-# One sheet over a log of 64 MiB. The log isn't kept.
-SHEET_OCTETS := 67108864
-
+# One sheet over 64 MiB, in each format.
 bench-sheet: target/bench/sheet
-	python3 tests/long_log.py $(SHEET_OCTETS) > target/sheet.log
-	target/bench/sheet target/sheet.log
-	rm target/sheet.log
+	target/bench/sheet
 
 # 19 met by one call: 12,782,642 records in one lent run of 626 MB, each after a gap of 14 but the first.
 target/bench/most: bench/most.c include/rimesatchel.h $(ARCHIVE)

@@ -31,7 +31,7 @@ import sys
 ROOT = pathlib.Path(__file__).resolve().parent.parent / "crates"
 START = ROOT / "line/proofs/Demands.antt"
 BEYOND = ROOT / "line/proofs/Beyond.antt"
-CODE = {"Adding", "Code", "Packing", "Unpacking", "Marks", "Settings", "Sound", "Steps", "Taken", "Taking"}
+CODE = {"Adding", "Code", "Packing", "Unpacking", "Marks", "Settings", "Sound", "Steps", "Stretch", "Taken", "Taking"}
 CONTRACTS = ("line", "Contracts")
 MOST = 1328
 

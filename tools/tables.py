@@ -58,10 +58,10 @@ ARMS, LAST = arms()
 WITHOUT_V = {protection(nine * 2): protection(nine) for nine in range(512)}
 
 HEAD = '''// Three tables by the nine top bits of a sample: the protection bits, which the sender writes, and the marks with V and
-// without it, which the receiver gives. tools/tables.py prints this file: change that, and not this.
+// without it, which the receiver gives and a sheet counts. tools/tables.py prints this file: change that, and not this.
 //
 // A table is a `match` with constant arms. The compiler makes one load of it; a constant array it would copy to the stack first.
-// Two functions have the same table, because the compiler does so only where a function is called in one place of the program.
+// Three functions have the same table, because the compiler does so only where a function is called in one place of the program.
 // Where two loops call it, both make a call for every slot, which takes much longer. So each loop has its own.
 ghost use mathlib.Core.Path.{_≡_};
 ghost use Prim.Native.Nat.{_%_, _<_};
@@ -82,6 +82,7 @@ FUNCTIONS = [
     ('marks_for_others', 'marks', 'top', 'The same, for all its other calls.'),
     ('marks_without_v', 'bare', 'high',
      "The same where there is no V: the five low bits are the sample's lowest, the sequencing bit and three protection bits."),
+    ('marks_for_figures', 'marks', 'first', 'The marks with V once more, for the figures of a log.'),
 ]
 
 

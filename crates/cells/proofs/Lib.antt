@@ -1,3 +1,4 @@
+pub mod Marks
 pub mod One
 pub mod Placement
 pub mod Places

@@ -13,7 +13,7 @@ use Rattle.figures.specs.declared.Answer.{Answer}
 use Rattle.figures.specs.declared.Counts.{Counts}
 use Rattle.figures.specs.Adding.{rowsWith, Adds, closedOf, addedOver}
 use Rattle.figures.specs.Code.{noCounts, capped, heldRow, heldRows}
-use Rattle.figures.specs.Figures.{countsOf, rowOf, tooMany, plusOf}
+use Rattle.figures.specs.Figures.{countsOf, tooMany, plusOf}
 use Rattle.figures.specs.Sheets.{heardIn, heardOver, totalsOf, rowsOf, refusedBy}
 use Rattle.figures.proofs.Going.{over-on, rows-small}
 use Rattle.figures.proofs.Laws.{

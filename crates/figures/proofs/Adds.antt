@@ -1,10 +1,10 @@
 -- Sheets add up: "sheets of two lists joined add up to the sheet of the joined list, if that isn't refused, the per-million
 -- line apart".
 -- Assumes nothing.
-use mathlib.Core.Bool.{true, false, cond, not, _||_}
+use mathlib.Core.Bool.{false, not}
 use mathlib.Core.List.{List, [], _∷_, _++_, append-assoc}
 use mathlib.Core.Path.{_≡_, refl, sym, _∙_, ap, ap₂}
-use Prim.Native.Nat.{ℕ, zero, suc, _+_, _*_, _-_, _≤_, _<_}
+use Prim.Native.Nat.{ℕ, zero, suc, _+_, _*_, _≤_, _<_}
 use native.Mathlib.Omega.{arith}
 use borrow.Author.Tests.{eq-eqb, le-ltb, ltb-false, eqb-true, not-false}
 use lib.Dec.{eqb, ltb}

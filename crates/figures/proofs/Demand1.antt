@@ -1,6 +1,6 @@
 -- Demand 1 for the sheet: it refuses exactly where the request says so, under that number, and then nothing lent changes.
 -- Assumes nothing.
-use mathlib.Core.Bool.{true, false}
+use mathlib.Core.Bool.{false}
 use mathlib.Core.List.{List}
 use mathlib.Core.Path.{_≡_, refl, sym, _∙_, ap}
 use Prim.Native.Nat.{ℕ}

@@ -1,18 +1,18 @@
 -- Laws of the loop over the logs: the totals so far and those of the logs from here are all, and so are the rows.
 -- Assumes nothing.
-use mathlib.Core.Bool.{true, false}
+use mathlib.Core.Bool.{false}
 use mathlib.Core.List.{List, [], _∷_, _++_, append-assoc, append-nil}
 use mathlib.Core.Path.{_≡_, refl, sym, _∙_, ap, ap₂}
-use Prim.Native.Nat.{ℕ, zero, suc, _+_, _*_, _-_, _≤_, _<_}
+use Prim.Native.Nat.{ℕ, _+_, _*_, _-_, _≤_, _<_}
 use native.Mathlib.Numerals.{add-one}
 use native.Mathlib.Omega.{arith}
-use lib.ListN.{length, getD, take, drop, length-append, length-drop, drop-of-length-le}
+use lib.ListN.{length, getD, take, drop, length-append, drop-of-length-le}
 use lib.Seq.{drop-cons, drop-drop, take-at, drop-append-add}
 use Rattle.runs.specs.Runs.{over, written}
 use Rattle.reading.specs.Totals.{totalOf}
 use Rattle.figures.specs.declared.Counts.{Counts}
 use Rattle.figures.specs.Code.{noCounts, capped, heldRow, heldRows, Fills}
-use Rattle.figures.specs.Figures.{countsOf, rowOf, tooMany, plusOf}
+use Rattle.figures.specs.Figures.{countsOf, tooMany, plusOf}
 use Rattle.figures.specs.Sheets.{logsOf, heardIn, heardOver, totalsOf, rowsOf, sumOf}
 use Rattle.figures.proofs.Laws.{
   counts-none,

@@ -3,7 +3,7 @@
 use mathlib.Core.Bool.{Bool, true, false, not, true≢false}
 use mathlib.Core.List.{List, [], _∷_, _++_, append-nil}
 use mathlib.Core.Path.{_≡_, refl, sym, _∙_, ap}
-use Prim.Native.Nat.{ℕ, _+_, _*_, _-_, _/_, _%_, _≤_, _<_}
+use Prim.Native.Nat.{ℕ, _+_, _*_, _-_, _%_, _≤_, _<_}
 use native.Mathlib.Nat.{pos-of-ne-zero, div-lt-iff-lt-mul, le-of-suc-le-suc, mod-eq-of-lt}
 use native.Mathlib.Numerals.{add-one}
 use native.Mathlib.Omega.{arith}
@@ -18,7 +18,7 @@ use Rattle.reading.specs.Heard.{Heard}
 use Rattle.reading.specs.Totals.{totalOf}
 use Rattle.reading.proofs.Totals.{total-joined, total-more}
 use Rattle.figures.specs.declared.Counts.{Counts}
-use Rattle.figures.specs.Code.{noCounts, oneOf, Small, capOf, capped, heldRow}
+use Rattle.figures.specs.Code.{noCounts, oneOf, Under, Small, capOf, capped, heldRow}
 use Rattle.figures.specs.Figures.{countsOf, perMillion, rowOf, above, tooMany, plusOf}
 use Rattle.figures.specs.Sheets.{sumOf, unlike}
 
@@ -121,9 +121,9 @@ module _ (c : Counts) where
         le-ltb 4294967295 _ (s .marked2),
       )
 
--- parts of a sum that isn't too many aren't
-small-first : (a b : Counts) → Small (plusOf a b) → Small a
-small-first a b s =
+-- a part of a sum is under what the sum is under
+pub under-first : {most : ℕ} (a b : Counts) → Under most (plusOf a b) → Under most a
+under-first a b s =
     record {
       sound = omega (arith, s .sound);
       missing = omega (arith, s .missing);
@@ -148,7 +148,7 @@ plus-either-way a b =
     (either-way (a .«marked_2») _)
 
 pub few-first : (a b : Counts) → tooMany (plusOf a b) ≡ false → tooMany a ≡ false
-few-first a b e = few-back a (small-first a b (few (plusOf a b) e))
+few-first a b e = few-back a (under-first a b (few (plusOf a b) e))
 
 pub few-second : (a b : Counts) → tooMany (plusOf a b) ≡ false → tooMany b ≡ false
 few-second a b e = few-first b a (ap tooMany (plus-either-way b a) ∙ e)

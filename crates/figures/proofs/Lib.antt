@@ -1,5 +1,6 @@
 pub mod Adding
 pub mod Adds
+pub mod Bare
 pub mod Cells
 pub mod Demand1
 pub mod Going
@@ -7,6 +8,10 @@ pub mod Laws
 pub mod Marks
 pub mod Most
 pub mod One
+pub mod Passed
 pub mod Refusals
+pub mod Slots
+pub mod Tops
+pub mod Turns
 pub mod Walks
 pub mod Wrong

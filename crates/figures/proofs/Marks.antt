@@ -1,19 +1,16 @@
 -- Laws of how many are marked so in a run.
 -- Assumes nothing.
-use mathlib.Core.Bool.{Bool, true, false, cond}
-use mathlib.Core.List.{List, [], _∷_, _++_}
+use mathlib.Core.Bool.{cond}
 use mathlib.Core.Logic.{⊎-elim}
-use mathlib.Core.Path.{_≡_, refl, sym, _∙_, ap, ap₂, subst}
-use Prim.Native.Nat.{ℕ, zero, suc, _+_, _*_, _-_, _≤_, _<_}
+use mathlib.Core.Path.{_≡_, refl, sym, _∙_, ap}
+use Prim.Native.Nat.{ℕ, zero, suc, _+_, _*_, _≤_, _<_}
 use native.Mathlib.Nat.{eq-or-lt-of-le, suc-mul}
-use native.Mathlib.Numerals.{add-one}
 use native.Mathlib.Omega.{arith}
 use lib.Dec.{eqb}
-use lib.ListN.{length, getD, take, replicate}
-use lib.Seq.{take-suc}
+use lib.ListN.{replicate}
 use Rattle.runs.specs.Runs.{tab}
 use Rattle.reading.specs.Totals.{totalOf}
-use Rattle.reading.proofs.Totals.{total-joined, total-more}
+use Rattle.reading.proofs.Totals.{total-more}
 use Rattle.figures.specs.Code.{marked}
 
 one-more : (n k : ℕ) → suc n * k ≡ k + n * k

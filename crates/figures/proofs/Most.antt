@@ -1,20 +1,20 @@
 -- 19 over the definition: one log of so many silent cells in 02 hex that more than 4,294,967,295 samples are marked 0.
 -- Assumes nothing.
-use mathlib.Core.Bool.{Bool, true, false, cond}
+use mathlib.Core.Bool.{Bool, true, false}
 use mathlib.Core.List.{List, [], _∷_, _++_, append-nil}
-use mathlib.Core.Path.{_≡_, refl, sym, _∙_, ap, ap₂}
+use mathlib.Core.Path.{_≡_, refl, _∙_, ap, ap₂}
 use Prim.Native.Nat.{ℕ, zero, suc, _+_, _*_, _≤_}
 use native.Mathlib.Nat.{mul-suc}
 use native.Mathlib.Omega.{arith}
 use borrow.Author.Tests.{eq-eqb, le-ltb}
-use lib.Dec.{eqb, ltb}
+use lib.Dec.{eqb}
 use lib.ListN.{length, take, replicate}
 use lib.Seq.{take-all}
 use Rattle.runs.proofs.Laws.{split}
 use Rattle.log.specs.Records.{headerOf}
 use Rattle.log.proofs.Wrong as log
 use Rattle.receiver.specs.declared.Receiver.{Receiver}
-use Rattle.receiver.specs.Receiver.{receiveRefusal, openedOf}
+use Rattle.receiver.specs.Receiver.{receiveRefusal}
 use Rattle.receiver.proofs.Wrong as receiver
 use Rattle.reading.specs.Heard.{Heard, heardBy, hear, onward, heardFrom, markedWith}
 use Rattle.reading.specs.Reading.{Reading, freshOf, readingOf}
@@ -22,7 +22,6 @@ use Rattle.reading.specs.Records.{Whole, Framed, octetsIn}
 use Rattle.reading.specs.Totals.{totalOf, countOf, Each}
 use Rattle.reading.proofs.Computed as reading
 use Rattle.reading.proofs.Reading.{wrote-reading}
-use Rattle.figures.specs.declared.Counts.{Counts}
 use Rattle.figures.specs.Figures.{countsOf, tooMany}
 use Rattle.figures.specs.Sheets.{logsOf, heardOver, heardIn, totalsOf, sumOf, unlike, sheetRefusal}
 use Rattle.figures.proofs.Laws.{few}

@@ -1,9 +1,9 @@
 -- Laws of a sheet's answer: what each check gives in its turn, and the sheet where none refuses.
 -- Assumes nothing.
 use mathlib.Core.Bool.{Bool, true, false, cond, not}
-use mathlib.Core.List.{List, [], _∷_, _++_}
+use mathlib.Core.List.{List}
 use mathlib.Core.Path.{_≡_, refl, sym, _∙_, ap}
-use Prim.Native.Nat.{ℕ, suc, _*_, _≤_, _<_}
+use Prim.Native.Nat.{ℕ, _*_, _≤_, _<_}
 use native.Mathlib.Omega.{arith}
 use borrow.Author.Tests.{eq-eqb, ne-eqb, lt-ltb, le-ltb, eqb-true, not-false}
 use lib.Dec.{eqb}
@@ -13,7 +13,7 @@ use Rattle.runs.specs.Runs.{over}
 use Rattle.runs.proofs.Laws.{neither}
 use Rattle.figures.specs.declared.Answer.{Answer}
 use Rattle.figures.specs.declared.Counts.{Counts}
-use Rattle.figures.specs.Code.{capped, heldRow, heldRows, Fills}
+use Rattle.figures.specs.Code.{heldRow, heldRows, Fills}
 use Rattle.figures.specs.Figures.{rowOf, tooMany}
 use Rattle.figures.specs.Sheets.{logsOf, totalsOf, rowsOf, sumOf, unlike, sheetRefusal, refusedBy, sheetOf, Sheets}
 use Rattle.figures.proofs.Going.{rows-small, length-rows}

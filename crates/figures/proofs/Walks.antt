@@ -1,38 +1,54 @@
 -- Laws of a log taken in pieces: what its parts count, and that any division counts what the whole log does.
 -- Assumes nothing.
-use mathlib.Core.Bool.{true, false}
+use mathlib.Core.Bool.{true, false, cond}
 use mathlib.Core.List.{List, [], _∷_, _++_, map, append-nil}
-use mathlib.Core.Path.{_≡_, refl, sym, _∙_, ap, ap₂}
-use Prim.Native.Nat.{ℕ, _+_, _-_, _≤_, _<_}
+use mathlib.Core.Path.{_≡_, refl, sym, _∙_, ap}
+use Prim.Native.Nat.{ℕ, _+_, _*_, _-_, _≤_, _<_}
 use native.Mathlib.Omega.{arith}
 use borrow.Author.Tests.{eq-eqb, ne-eqb, eqb-true, eqb-false}
 use lib.Dec.{eqb}
-use lib.ListN.{length, take, drop, length-drop}
+use lib.ListN.{length, getD, take, length-drop}
 use lib.Seq.{take-all}
+use Rattle.runs.specs.Refusals.{orElse}
 use Rattle.runs.proofs.Laws.{split}
 use Rattle.log.specs.declared.Header.{Header}
-use Rattle.log.specs.declared.Record.{Record}
-use Rattle.log.specs.Records.{headerOf, recordAt, cellAt}
+use Rattle.log.specs.Records.{headerOf, cellAt}
+use Rattle.log.proofs.Places.{record-11}
 use Rattle.receiver.specs.declared.Ready.{Ready}
-use Rattle.receiver.specs.Receiver.{openedOf}
-use Rattle.reading.specs.Heard.{Heard, heardBy, hear, onward, heardFrom}
+use Rattle.receiver.specs.Receiver.{
+  openedOf,
+  stateRefusal,
+  lengthsRefused,
+  receiveRefusal,
+  receivedOf,
+  judgedOf,
+}
+use Rattle.receiver.proofs.Laws.{answer-refusal}
+use Rattle.receiver.proofs.Room.{state-to}
+use Rattle.reading.specs.Heard.{Heard, heardBy, endBy, hear, onward, heardFrom, endOf}
 use Rattle.reading.specs.Reading.{Reading, freshOf, behindHeader, readingOf}
-use Rattle.reading.specs.Records.{Whole, frontOf, recordsIn}
+use Rattle.reading.specs.Records.{Whole, isWhole, frontOf, walkWithin, recordsIn}
 use Rattle.reading.proofs.Reading.{header-three, reading-none}
 use Rattle.pieces.specs.declared.Found.{Found}
 use Rattle.pieces.specs.declared.Standing.{Standing}
-use Rattle.pieces.specs.Limit.{Part, head, whole, refused, broken, done, recordsTo, faultTo, endPart, partsOf}
-use Rattle.pieces.specs.Steps.{startOf, takingOf, Steps, foundParts, isRecord, foundOctets, Stood, stoodOf, handedOver}
-use Rattle.pieces.specs.Taken.{Taking, handed, endParts, joinedOf, faultPart}
-use Rattle.pieces.proofs.Walks.{Along, along-start, along-turn, turn-on, along-end, division-parts, found-record, no-record}
+use Rattle.pieces.specs.declared.Stretch.{Stretch}
+use Rattle.pieces.specs.Limit.{Part, head, whole, recordsTo, faultTo, endPart, partsOf}
+use Rattle.pieces.specs.Steps.{takingOf, Steps, foundParts, stoodOf, handedOver}
+use Rattle.pieces.specs.Stretch.{stretchOf, pastStretch}
+use Rattle.pieces.specs.Taken.{Taking, handed, endParts, joinedOf}
+use Rattle.pieces.proofs.Walks.{Along, along-start, along-turn, turn-on, along-end, division-parts}
+use Rattle.pieces.proofs.Stretches.{walk-one, stretch-again, stretch-to, stretch-fits, along-stretch}
 use Rattle.figures.specs.declared.Counts.{Counts}
 use Rattle.figures.specs.declared.Noted.{Noted}
 use Rattle.figures.specs.declared.Tally.{Tally}
-use Rattle.figures.specs.Code.{noCounts, oneOf, capped, notedOf}
+use Rattle.figures.specs.declared.told.Told.{Told}
+use Rattle.figures.specs.Code.{noCounts, oneOf, capped}
 use Rattle.figures.specs.Figures.{countsOf, plusOf}
 use Rattle.figures.specs.Sheets.{heardIn}
+use Rattle.figures.specs.Stretch.{toldOf, refusedOne, recordsAt, notedOver}
 use Rattle.figures.specs.Taking.{partNoted, notedBy, noNoted, startTally, tallyAfter, Takes, tallyOver}
-use Rattle.figures.proofs.Laws.{counts-none, counts-front, plus-none, none-more, plus-in-turn, capped-more, capped-none}
+use Rattle.figures.proofs.Cells.{refused-one}
+use Rattle.figures.proofs.Laws.{same-counts, counts-none, counts-front, plus-none, none-more, plus-in-turn, capped-more, capped-none}
 
 pub noted-joined : (n : Noted) (a b : List Part) → notedBy n (a ++ b) ≡ notedBy (notedBy n a) b
 unfolding notedBy
@@ -54,23 +70,54 @@ end-counts n t =
     (λ f. rw (e, f) (end-part n _))
     (λ f. rw (e, f) refl))
 
--- records behind a header, and what ends them
-records-noted : (n : Noted) (before : Counts) (ws : List Whole) (fault : ℕ) → n .counts ≡ capped before
-    → notedBy n (map whole ws ++ endPart fault) .counts ≡ capped (plusOf before (countsOf (heardFrom (n .state) ws)))
-unfolding heardBy notedBy partNoted
-records-noted n before [] fault is =
-    ap (λ (m : Noted). m .counts) (end-part n fault)
-    ∙ is
-    ∙ ap capped (sym (ap (plusOf before) counts-none ∙ none-more before))
-records-noted n before (w ∷ ws) fault is =
+-- records one after the other
+wholes-noted : (n : Noted) (before : Counts) (ws : List Whole) → n .counts ≡ capped before
+    → notedBy n (map whole ws)
+    ≡ record { state = endOf (n .state) (heardFrom (n .state) ws); counts = capped (plusOf before (countsOf (heardFrom (n .state) ws))) }
+unfolding heardBy endBy notedBy partNoted
+wholes-noted n before [] is =
+    λ i. record {
+      state = n .state;
+      counts = (is ∙ ap capped (sym (ap (plusOf before) counts-none ∙ none-more before))) i;
+    }
+wholes-noted n before (w ∷ ws) is =
     let h : Heard = hear (n .state) w in
     let next : Noted = partNoted n (whole w) in
     let so-far : next .counts ≡ capped (plusOf before (oneOf h)) =
     ap (λ (c : Counts). capped (plusOf c (oneOf h))) is ∙ capped-more before (oneOf h) in
-    records-noted next (plusOf before (oneOf h)) ws fault so-far
-    ∙ ap capped
-    (plus-in-turn before (oneOf h) (countsOf (heardFrom (onward h) ws))
-    ∙ ap (plusOf before) (sym (counts-front h (heardFrom (onward h) ws))))
+    wholes-noted next (plusOf before (oneOf h)) ws so-far
+    ∙ (λ i. record {
+      state = endOf (onward h) (heardFrom (onward h) ws);
+      counts = capped
+          ((plus-in-turn before (oneOf h) (countsOf (heardFrom (onward h) ws))
+          ∙ ap (plusOf before) (sym (counts-front h (heardFrom (onward h) ws)))) i);
+    })
+
+-- one at least, whatever was counted before
+pub some-noted : (n : Noted) (ws : List Whole) → 1 ≤ length ws → {m : Noted} {counts : Counts} → m ≡ notedOver (n .state) ws
+    → counts ≡ capped (plusOf (n .counts) (m .counts)) → record { state = m .state; counts = counts } ≡ notedBy n (map whole ws)
+unfolding heardBy endBy notedBy partNoted
+some-noted n [] some is added = absurd (omega (arith, some))
+some-noted n (w ∷ ws) some {m} is added =
+    let h : Heard = hear (n .state) w in
+    let rest : List Heard = heardFrom (onward h) ws in
+    (λ i. record {
+      state = is i .state;
+      counts = (added
+          ∙ ap (λ (u : Noted). capped (plusOf (n .counts) (u .counts))) is
+          ∙ ap (λ (c : Counts). capped (plusOf (n .counts) c)) (counts-front h rest)
+          ∙ ap capped (sym (plus-in-turn (n .counts) (oneOf h) (countsOf rest)))) i;
+    })
+    ∙ sym (wholes-noted (partNoted n (whole w)) (plusOf (n .counts) (oneOf h)) ws refl)
+
+-- records behind a header, and what ends them
+records-noted : (n : Noted) (before : Counts) (ws : List Whole) (fault : ℕ) → n .counts ≡ capped before
+    → notedBy n (map whole ws ++ endPart fault) .counts ≡ capped (plusOf before (countsOf (heardFrom (n .state) ws)))
+records-noted n before ws fault is =
+    ap (λ (m : Noted). m .counts)
+    (noted-joined n (map whole ws) (endPart fault)
+    ∙ end-part (notedBy n (map whole ws)) fault
+    ∙ wholes-noted n before ws is)
 
 -- a log whose octets are all within the limit
 module _ (limit : ℕ) (log : List ℕ) (long : length log ≤ limit) where
@@ -131,17 +178,67 @@ log-counts {held} {log} start size long takes =
     ∙ any-division-counts held (log ∷ []) size (rw (append-nil log) long)
     ∙ ap (λ (l : List ℕ). capped (countsOf (heardIn l))) (append-nil log)
 
--- past a record and past a header
-pub past-record : (n : Noted) (octets : List ℕ) {here : Record} {cell : List ℕ} {one : Noted} {counts : Counts}
-    → here ≡ recordAt octets 0
-    → cell ≡ cellAt octets 0 → one ≡ notedOf (n .state) cell (here .indication)
-    → counts ≡ capped (plusOf (n .counts) (one .counts))
-    → record { state = one .state; counts = counts } ≡ partNoted n (whole (frontOf octets))
-unfolding partNoted frontOf
-past-record n octets {one = one} read cell-is heard added =
-    let is : one ≡ notedOf (n .state) (cellAt octets 0) (recordAt octets 0 .indication) =
-    heard ∙ ap₂ (λ (c : List ℕ) (r : Record). notedOf (n .state) c (r .indication)) cell-is read in
-    λ i. record { state = is i .state; counts = (added ∙ ap (λ (m : Noted). capped (plusOf (n .counts) (m .counts))) is) i }
+-- past a record that is held, past octets that begin with none, and past a header
+pub past-held : (n : Noted) (octets : List ℕ) {m : Noted} → isWhole octets ≡ true → m ≡ notedBy n (map whole (recordsAt octets 0 1))
+    → m ≡ partNoted n (whole (frontOf octets))
+unfolding walkWithin notedBy
+past-held n octets here is = is ∙ ap (λ (ws : List Whole). notedBy n (map whole ws)) (walk-one 0 octets here)
+
+-- an octet that isn't zero is there
+some-octet : (octets : List ℕ) → 1 < getD octets 0 0 → 0 < length octets
+some-octet [] high = absurd (omega (arith, high))
+some-octet (x ∷ octets) high = omega arith
+
+module _ (n : Noted) (octets : List ℕ) (high : 1 < getD octets 0 0) where
+  none-there : frontOf octets ≡ record { indication = false; cell = [] }
+  unfolding frontOf cellAt
+  none-there = rw (record-11 octets 0 (some-octet octets high) high) refl
+
+  abbrev told : Told
+  told = toldOf (judgedOf (n .state) [] false)
+
+  cut-refused : receiveRefusal (n .state) [] false 720 720 720 ≡ orElse (stateRefusal (n .state)) 5
+  unfolding receiveRefusal lengthsRefused
+  cut-refused = refl
+
+  refusal-is : told .refusal ≡ orElse (stateRefusal (n .state)) 5
+  unfolding judgedOf
+  refusal-is = answer-refusal (n .state) [] false 720 720 720 ∙ cut-refused
+
+  refusal-few : (told .refusal ≡ 0 → ⊥) × (told .refusal ≤ 5)
+  unfolding orElse
+  refusal-few =
+      let early = state-to (n .state) in
+      split (eqb (stateRefusal (n .state)) 0)
+      (λ e.
+      let five : told .refusal ≡ 5 = refusal-is ∙ rw e refl in
+      (λ none. omega (arith, none, five), omega (arith, five)))
+      (λ e.
+      let first : told .refusal ≡ stateRefusal (n .state) = refusal-is ∙ rw e refl in
+      (λ none. eqb-false (stateRefusal (n .state)) 0 e (sym first ∙ none), omega (arith, first, early)))
+
+  other : (k : ℕ) → 6 ≤ k → _≡_ {A = ℕ} (cond (eqb (told .refusal) k) 1 0) 0
+  other k far =
+      rw (ne-eqb (told .refusal) k (λ e. omega (arith, e, far, refusal-few .1))) refl
+
+  nothing : refusedOne (told .refusal) ≡ noCounts
+  nothing =
+      same-counts {b = noCounts} refl refl (other 8 (omega arith)) (other 9 (omega arith)) (other 15 (omega arith))
+      (other 20 (omega arith)) refl refl refl
+
+  state-same : n .state ≡ onward (hear (n .state) (record { indication = false; cell = [] }))
+  unfolding hear judgedOf receivedOf
+  state-same = sym (rw (ne-eqb _ 0 (λ e. refusal-few .0 (answer-refusal (n .state) [] false 720 720 720 ∙ e))))
+
+  pub past-none : record { state = n .state; counts = capped (plusOf (n .counts) noCounts) } ≡ partNoted n (whole (frontOf octets))
+  unfolding partNoted
+  past-none =
+      (λ i. record {
+        state = state-same i;
+        counts = capped
+            (plusOf (n .counts) ((sym nothing ∙ refused-one (n .state) [] false {told = told} refl (refusal-few .0)) i));
+      })
+      ∙ ap (λ (w : Whole). partNoted n (whole w)) (sym none-there)
 
 pub past-header : (n : Noted) (held : List ℕ) {header : Header} {opened : Ready} → header ≡ headerOf (take 3 held)
     → opened ≡ openedOf (header .format) (header .channels) (header .order)
@@ -158,26 +255,35 @@ module _ (n : Noted) (f : Found) (held piece : List ℕ) (place : ℕ) where
   unfolding notedBy
   found-one p is e = e ∙ ap (notedBy n) (sym is)
 
-  pub notes-record : {m : Noted} → (f .what ≡ 2 → place + 49 ≤ length piece) → isRecord (f .what) ≡ true
-      → m ≡ partNoted n (whole (frontOf (foundOctets (f .what) held piece place))) → m ≡ notedBy n (foundParts f held piece place)
-  notes-record room is-one is =
-      found-one (whole (frontOf (foundOctets (f .what) held piece place))) (found-record f held piece place room is-one) is
+  pub notes-held : {m : Noted} → f .what ≡ 3 → m ≡ partNoted n (whole (frontOf held)) → m ≡ notedBy n (foundParts f held piece place)
+  unfolding foundParts
+  notes-held three is =
+      let not-1 : eqb (f .what) 1 ≡ false = ne-eqb (f .what) 1 (λ e. omega (arith, e, three)) in
+      let not-2 : eqb (f .what) 2 ≡ false = ne-eqb (f .what) 2 (λ e. omega (arith, e, three)) in
+      found-one (whole (frontOf held)) (rw (not-1, not-2, eq-eqb (f .what) 3 three)) is
 
   pub notes-header : {m : Noted} → f .what ≡ 1 → m ≡ partNoted n (head (headerOf (take 3 held)))
       → m ≡ notedBy n (foundParts f held piece place)
   unfolding foundParts
   notes-header one is = found-one (head (headerOf (take 3 held))) (rw (eq-eqb (f .what) 1 one)) is
 
-  pub notes-nothing : (f .what ≡ 1 → ⊥) → isRecord (f .what) ≡ false → n ≡ notedBy n (foundParts f held piece place)
+  pub notes-nothing : (f .what ≡ 1 → ⊥) → (f .what ≡ 2 → ⊥) → (f .what ≡ 3 → ⊥) → n ≡ notedBy n (foundParts f held piece place)
   unfolding foundParts notedBy partNoted
-  notes-nothing not-1 none =
-      let neither = no-record (f .what) none in
+  notes-nothing not-1 not-2 not-3 =
+      let none-1 = ne-eqb (f .what) 1 not-1 in
+      let none-2 = ne-eqb (f .what) 2 not-2 in
+      let none-3 = ne-eqb (f .what) 3 not-3 in
       split (eqb (f .what) 4)
       (λ e.
       split (eqb (f .standing .stage) 2)
-      (λ g. rw (ne-eqb (f .what) 1 not-1, neither .0, neither .1, e, g) refl)
-      (λ g. rw (ne-eqb (f .what) 1 not-1, neither .0, neither .1, e, g) refl))
-      (λ e. rw (ne-eqb (f .what) 1 not-1, neither .0, neither .1, e) refl)
+      (λ g. rw (none-1, none-2, none-3, e, g) refl)
+      (λ g. rw (none-1, none-2, none-3, e, g) refl))
+      (λ e. rw (none-1, none-2, none-3, e) refl)
+
+  -- where no record is found in the piece, the piece isn't looked at
+  found-elsewhere : (f .what ≡ 2 → ⊥) → foundParts f held [] 0 ≡ foundParts f held piece place
+  unfolding foundParts
+  found-elsewhere not-2 = rw (ne-eqb (f .what) 2 not-2)
 
 -- along a piece: the parts so far, and what they count
 pub record Going (t : Tally) (lent piece : List ℕ) (s : Standing) (n : Noted) (held : List ℕ) (place : ℕ) : Type 0 where
@@ -191,15 +297,51 @@ module _ {t : Tally} {lent piece : List ℕ} where
   going-start size = record { parts = []; along = along-start (t .standing) lent piece size; counts = refl }
 
   pub going-turn : {s : Standing} {n m : Noted} {held now : List ℕ} {place : ℕ} {f : Found} → Going t lent piece s n held place
-      → place < length piece → Steps s held piece place f now → m ≡ notedBy n (foundParts f now piece place)
+      → place < length piece → Steps s held piece place f now → (f .what ≡ 2 → ⊥) → m ≡ notedBy n (foundParts f now [] 0)
       → Going t lent piece (f .standing) m now (f .next)
-  going-turn {now = now} {place = place} {f = f} g here step noted =
+  going-turn {n = n} {now = now} {place = place} {f = f} g here step elsewhere noted =
       let found : List Part = foundParts f now piece place in
       record {
         parts = g .parts ++ found;
         along = along-turn (g .along) here step;
-        counts = noted ∙ ap (λ (u : Noted). notedBy u found) (g .counts) ∙ sym (noted-joined (t .noted) (g .parts) found);
+        counts = noted
+            ∙ ap (notedBy n) (found-elsewhere n f now piece place elsewhere)
+            ∙ ap (λ (u : Noted). notedBy u found) (g .counts)
+            ∙ sym (noted-joined (t .noted) (g .parts) found);
       }
+
+  -- past a stretch of records
+  module _ (most : ℕ) {s : Standing} {n : Noted} {held : List ℕ} {place : ℕ} {f : Stretch} (g : Going t lent piece s n held place)
+      (is : f ≡ pastStretch s place (length (stretchOf most s piece place)))
+    where
+      stretch-count : f .records ≡ length (stretchOf most s piece place)
+      stretch-count = ap (λ (u : Stretch). u .records) is
+
+      pub stretch-these : length (recordsAt piece place (f .records)) ≡ f .records
+      stretch-these = ap length (stretch-again most s piece place stretch-count) ∙ sym stretch-count
+
+      pub stretch-most : f .records ≤ most
+      stretch-most = stretch-to most s piece place stretch-count
+
+      pub stretch-on : (f .records ≡ 0 → ⊥) → (place < f .next) × (f .next ≤ length piece)
+      stretch-on some =
+          let next-is : f .next ≡ place + 49 * f .records =
+          ap (λ (u : Stretch). u .next) is ∙ ap (λ (k : ℕ). place + 49 * k) (sym stretch-count) in
+          let fits = stretch-fits most s piece place stretch-count .0 in
+          (omega (arith, next-is, some), omega (arith, next-is, some, fits))
+
+      pub going-stretch : {m : Noted} → m ≡ notedBy n (map whole (recordsAt piece place (f .records)))
+          → Going t lent piece (f .standing) m held (f .next)
+      going-stretch noted =
+          let found : List Part = map whole (stretchOf most s piece place) in
+          record {
+            parts = g .parts ++ found;
+            along = along-stretch most is (g .along);
+            counts = noted
+                ∙ ap (λ (ws : List Whole). notedBy n (map whole ws)) (stretch-again most s piece place stretch-count)
+                ∙ ap (λ (u : Noted). notedBy u found) (g .counts)
+                ∙ sym (noted-joined (t .noted) (g .parts) found);
+          }
 
   pub going-on : {s : Standing} {n : Noted} {held now : List ℕ} {place : ℕ} {f : Found} → Going t lent piece s n held place
       → place < length piece → Steps s held piece place f now → (place < f .next) × (f .next ≤ length piece)

@@ -1,8 +1,7 @@
 -- Wrong answers to the public functions: the contracts rule each of them out. Stated over the contracts themselves.
 -- Assumes nothing.
-use mathlib.Core.Bool.{true, false}
 use mathlib.Core.List.{List, [], _∷_, _++_}
-use mathlib.Core.Path.{_≡_, sym, _∙_, ap}
+use mathlib.Core.Path.{_≡_, ap}
 use Prim.Native.Nat.{ℕ}
 use native.Mathlib.Omega.{arith}
 use contract.Lifetimes.{Lfts}
@@ -18,7 +17,7 @@ use Rattle.figures.specs.declared.Answer.{Answer}
 use Rattle.figures.specs.declared.Tally.{Tally}
 use Rattle.figures.specs.declared.Counts.{Counts}
 use Rattle.figures.specs.Adding.{rowsWith, closedOf}
-use Rattle.figures.specs.Code.{noCounts, capOf, capped, heldRow}
+use Rattle.figures.specs.Code.{capOf, capped, heldRow}
 use Rattle.figures.specs.Figures.{countsOf, perMillion, rowOf, tooMany}
 use Rattle.figures.specs.Sheets.{logsOf, heardOver, rowsOf, unlike, sheetRefusal, sheetOf}
 use Rattle.figures.specs.Taking.{partNoted, notedBy, startTally}

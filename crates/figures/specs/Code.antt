@@ -1,16 +1,14 @@
 -- Words that only the code of a sheet needs: counts that stop at the first number that is too many, and rows of such counts.
 -- Assumes nothing.
-use mathlib.Core.Bool.{Bool, cond}
+use mathlib.Core.Bool.{cond}
 use mathlib.Core.List.{List, [], _∷_, _++_, map}
 use mathlib.Core.Path.{_≡_}
 use Prim.Native.Nat.{ℕ, _%_, _≤_}
 use lib.Dec.{eqb, ltb}
 use Rattle.runs.specs.Runs.{over}
-use Rattle.receiver.specs.declared.Receiver.{Receiver}
-use Rattle.reading.specs.Heard.{Heard, hear, onward, isSound}
+use Rattle.reading.specs.Heard.{Heard, isSound}
 use Rattle.reading.specs.Totals.{countOf}
 use Rattle.figures.specs.declared.Counts.{Counts}
-use Rattle.figures.specs.declared.Noted.{Noted}
 use Rattle.figures.specs.Figures.{countsOf, rowOf}
 use Rattle.figures.specs.Sheets.{logsOf, heardIn, totalsOf}
 
@@ -44,17 +42,21 @@ oneOf h =
       «marked_2» = countOf (λ m. eqb m 2) (h .marks);
     }
 
--- none of the nine is above 4,294,967,295
-pub record Small (c : Counts) : Type 0 where
-  pub sound : c .sound ≤ 4294967295
-  pub missing : c .missing ≤ 4294967295
-  pub refused8 : c .«refused_8» ≤ 4294967295
-  pub refused9 : c .«refused_9» ≤ 4294967295
-  pub refused15 : c .«refused_15» ≤ 4294967295
-  pub refused20 : c .«refused_20» ≤ 4294967295
-  pub marked0 : c .«marked_0» ≤ 4294967295
-  pub marked1 : c .«marked_1» ≤ 4294967295
-  pub marked2 : c .«marked_2» ≤ 4294967295
+-- none of the nine is above a number
+pub record Under (most : ℕ) (c : Counts) : Type 0 where
+  pub sound : c .sound ≤ most
+  pub missing : c .missing ≤ most
+  pub refused8 : c .«refused_8» ≤ most
+  pub refused9 : c .«refused_9» ≤ most
+  pub refused15 : c .«refused_15» ≤ most
+  pub refused20 : c .«refused_20» ≤ most
+  pub marked0 : c .«marked_0» ≤ most
+  pub marked1 : c .«marked_1» ≤ most
+  pub marked2 : c .«marked_2» ≤ most
+
+-- none of them is too many
+abbrev pub Small : Counts → Type 0
+Small c = Under 4294967295 c
 
 -- a number counted no further than 4,294,967,296, the first that is too many
 unfoldable pub capOf : ℕ → ℕ
@@ -77,14 +79,6 @@ capped c =
 -- how many of a run are marked so
 abbrev pub marked : ℕ → List ℕ → ℕ
 marked mark marks = countOf (λ m. eqb m mark) marks
-
--- what one record counts, and the state to go on with
-abbrev pub notedOf : Receiver → List ℕ → Bool → Noted
-notedOf st cell indication =
-    record {
-      state = onward (hear st (record { indication = indication; cell = cell }));
-      counts = oneOf (hear st (record { indication = indication; cell = cell }));
-    }
 
 -- the ten numbers of a row in 32 bits each; they are those of `rowOf` where none of the nine is too many
 unfoldable pub heldRow : Counts → List ℕ

@@ -2,4 +2,5 @@ pub mod Adding
 pub mod Code
 pub mod Figures
 pub mod Sheets
+pub mod Stretch
 pub mod Taking

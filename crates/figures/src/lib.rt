@@ -11,9 +11,12 @@ ghost use Rattle.figures.specs.Figures.{countsOf};
 ghost use Rattle.figures.specs.Sheets.{heardIn, sumOf, unlike, refusedBy, Sheets};
 ghost use Rattle.figures.specs.Taking.{startTally, Takes};
 
+mod damage; // damage.rt: how many samples of a cell are marked 1
 mod record; // record.rt: what the parts of a log count
 mod rows; // rows.rt: the ten numbers of a row
+mod stretch; // stretch.rt: records one behind the other, counted
 mod sums; // sums.rt: counts added up
+mod told; // told.rt: what the receiver makes of a cell
 
 // What is counted of records, each number no further than 4,294,967,296, which is too many.
 pub struct Counts {
@@ -68,10 +71,18 @@ pub fn take(tally: Tally, held: &mut [u8; 49], piece: &[u8]) -> Tally
     let mut noted = tally.noted;
     let mut place = 0;
     while place < piece.len() {
-        let found = pieces::next(standing, held, piece, place);
-        noted = record::step(noted, found, held, piece, place);
-        standing = found.standing;
-        place = found.next;
+        let most = stretch::at_once(noted.state);
+        let stretch = pieces::stretch_at(standing, piece, place, most);
+        if stretch.records == 0 {
+            let found = pieces::next(standing, held, piece, place);
+            noted = record::step(noted, found, held);
+            standing = found.standing;
+            place = found.next;
+        } else {
+            noted = stretch::counted(noted, piece, place, stretch.records);
+            standing = stretch.standing;
+            place = stretch.next;
+        }
     }
     Tally { standing, noted }
 }

@@ -384,6 +384,11 @@ module _ {set : Settled} (octet channels order later : ℕ) (given : set ≡ set
     pub given-later : orElse (settingsRefusal octet channels order) later ≡ later
     given-later = then-later later given-none
 
+-- the limits of settings that nothing refuses
+pub limits-of : (octet channels order : ℕ) {set : Settled} → set ≡ settingsOf octet channels order → set .refusal ≡ 0 → Limits set
+limits-of octet channels order given none =
+    settled-limits octet channels order (given-settled octet channels order 0 given none) (given-none octet channels order 0 given none)
+
 -- 56 hex in order 0, with one channel and with two
 pub usual-one : usualWith 1 12 ≡ settingsOf 0x56 1 0
 unfolding settingsOf settingsRefusal formatOf isListed isAmong listedOctets sampleBits lengthOf ancillaryBits overheadBits widthOf slotsOf

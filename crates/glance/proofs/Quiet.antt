@@ -27,9 +27,9 @@ use Rattle.formats.specs.Formats.{
   formatOf,
   settingsRefusal,
 }
-use Rattle.formats.specs.Settings.{settled, settingsOf}
+use Rattle.formats.specs.Settings.{settingsOf}
 use Rattle.formats.specs.Sound.{Limits}
-use Rattle.formats.proofs.Laws.{refusal-of, settled-of}
+use Rattle.formats.proofs.Laws.{refusal-of, settled-of, limits-of}
 use Rattle.cells.specs.Cells.{subframeAt}
 use Rattle.receiver.specs.declared.Receiver.{Receiver}
 use Rattle.receiver.specs.Unpacking.{usedIn, twoAt}
@@ -37,7 +37,7 @@ use Rattle.receiver.proofs.Reading.{four-read}
 use Rattle.glance.specs.Glance.{some, soundsOf}
 use Rattle.glance.specs.Code.{soundIn, loudAt}
 use Rattle.glance.proofs.Some.{some-none, some-fails}
-use Rattle.glance.proofs.Laws.{zero-silent, limits-of, refused-silent, sounds-said}
+use Rattle.glance.proofs.Laws.{zero-silent, refused-silent, sounds-said}
 
 -- a number of four octets that only the last one makes
 last-alone : (a b c d : ℕ) → (a * 256 + b) * 65536 + (c * 256 + d) < 256 → a + b * 256 + c * 65536 ≡ 0

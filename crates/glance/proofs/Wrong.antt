@@ -1,10 +1,9 @@
--- Wrong answers to the two public functions: the contract rules each of them out.
+-- Wrong answers to the public function: the contract rules each of them out.
 -- Assumes nothing.
 use mathlib.Core.Bool.{Bool, true, false, true≢false}
 use mathlib.Core.List.{List, [], _∷_, _++_}
-use mathlib.Core.Path.{_≡_, sym, _∙_, ap}
+use mathlib.Core.Path.{_≡_, sym, _∙_}
 use Prim.Native.Nat.{ℕ}
-use native.Mathlib.Omega.{arith}
 use contract.Lifetimes.{Lfts}
 use lib.ListN.{replicate}
 use Rattle.runs.proofs.Wrong.{Never, Place, lent}
@@ -12,32 +11,26 @@ use Rattle.receiver.specs.declared.Receiver.{Receiver}
 use Rattle.receiver.specs.Receiver.{openState}
 use Rattle.receiver.proofs.Wrong as receiver
 use Rattle.reading.proofs.Computed as reading
-use Rattle.glance.specs.declared.Marks.{Marks}
-use Rattle.glance.specs.Glance.{isSound, some, soundAt, readable, soundsOf, markedOf}
-use Rattle.glance.proofs.marked.Kinds as marked-kinds
-use Rattle.glance.proofs.marked.Reads as marked-reads
+use Rattle.glance.specs.Glance.{isSound, some, soundAt, readable, soundsOf}
 use Rattle.glance.proofs.sounds.Kinds as sounds-kinds
 use Rattle.glance.proofs.sounds.Reads as sounds-reads
 
 -- every definition on the way down to the numbers
 unfoldable pub unfolded : Unit {0}
-unfolding receiver.unfolded reading.unfolded isSound some soundAt readable soundsOf markedOf
+unfolding receiver.unfolded reading.unfolded isSound some soundAt readable soundsOf
 unfolded = tt
 
 -- 02 hex has eight bits in each of 48 slots and no overhead; with 40 channels its last eight slots are unused
 abbrev plain : Receiver
 plain = openState 0x02 40 0
 
--- 52 hex has overhead: in a cell of zeros no protection bits agree
+-- 52 hex has overhead: protection bits of zeros don't agree with a sample of 7
 abbrev guarded : Receiver
 guarded = openState 0x52 1 0
 
 module _ (κs : Lfts 1) (p : Place) where
   abbrev Sounds : Receiver → List ℕ → (Bool → Type 0) → Type 0
   Sounds st cell Wrong = Never sounds-kinds.ps sounds-kinds.r sounds-reads.Post κs (st, (lent p cell, tt)) (λ x v. Wrong x)
-
-  abbrev Marked : Receiver → List ℕ → (Marks → Type 0) → Type 0
-  Marked st cell Wrong = Never marked-kinds.ps marked-kinds.r marked-reads.Post κs (st, (lent p cell, tt)) (λ x v. Wrong x)
 
   -- an unused slot taken for sound
   pub unused-slot-isn't-sound : Sounds plain (replicate 47 0 ++ (7 ∷ [])) (λ x. x ≡ true)
@@ -49,12 +42,7 @@ module _ (κs : Lfts 1) (p : Place) where
   unfolding unfolded
   sound-is-told x v wrong is = true≢false (sym is ∙ wrong)
 
-  -- a sample whose protection bits disagree counted as sound
-  pub damaged-isn't-sound : Marked guarded (replicate 48 0) (λ x. x .sound ≡ 24)
+  -- a sample whose protection bits disagree taken for sound
+  pub damaged-isn't-sound : Sounds guarded (7 ∷ replicate 47 0) (λ x. x ≡ true)
   unfolding unfolded
-  damaged-isn't-sound x v wrong is = let right : x .sound ≡ 0 = ap (λ (r : Marks). r .sound) is in omega arith
-
-  -- unused slots counted
-  pub unused-slots-aren't-counted : Marked plain (replicate 48 0) (λ x. x .sound ≡ 48)
-  unfolding unfolded
-  unused-slots-aren't-counted x v wrong is = let right : x .sound ≡ 40 = ap (λ (r : Marks). r .sound) is in omega arith
+  damaged-isn't-sound x v wrong is = true≢false (sym wrong ∙ is)

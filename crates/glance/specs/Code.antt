@@ -3,23 +3,16 @@
 use mathlib.Core.Bool.{Bool}
 use mathlib.Core.List.{List}
 use Prim.Native.Nat.{ℕ, _*_}
-use lib.Dec.{eqb, leb}
+use lib.Dec.{leb}
 use lib.ListN.{take, drop}
 use Rattle.runs.specs.Runs.{numberOf}
 use Rattle.formats.specs.declared.Format.{Format}
-use Rattle.formats.specs.declared.Settled.{Settled}
 use Rattle.cells.specs.Cells.{subframeAt, sampleIn, markIn}
-use Rattle.receiver.specs.Unpacking.{ownEntries}
-use Rattle.reading.specs.Totals.{countOf}
 use Rattle.glance.specs.Glance.{isSound}
 
 -- the sample of a slot is marked 0 and isn't zero
 unfoldable pub soundIn : Format → List ℕ → ℕ → Bool
 soundIn f cell slot = isSound (sampleIn f (subframeAt f cell slot)) (markIn f (subframeAt f cell slot))
-
--- how many of a cell's own entries have a mark
-abbrev pub markedIn : ℕ → Settled → List ℕ → ℕ
-markedIn mark set cell = countOf (λ m. eqb m mark) (ownEntries (markIn (set .format)) set cell)
 
 -- the sample of a slot of 56 hex isn't zero
 unfoldable pub loudAt : List ℕ → ℕ → Bool

@@ -1,7 +1,7 @@
--- What a cell's own entries hold: a sample marked 0 that isn't zero, and how many are marked 0 and 1. A gap's entries are no part
--- of it: they are zero and their marks are 2.
+-- What a cell's own entries hold: a sample marked 0 that isn't zero. A gap's entries are no part of it: they are zero and their marks
+-- are 2.
 -- Assumes nothing.
-use mathlib.Core.Bool.{Bool, false, cond, not, _&&_, _||_}
+use mathlib.Core.Bool.{Bool, false, not, _&&_, _||_}
 use mathlib.Core.List.{List}
 use Prim.Native.Nat.{ℕ, zero, suc}
 use lib.Dec.{eqb}
@@ -10,8 +10,6 @@ use Rattle.formats.specs.Formats.{formatOf, settingsRefusal}
 use Rattle.cells.specs.Cells.{sampleIn, markIn, entriesOf}
 use Rattle.receiver.specs.declared.Receiver.{Receiver}
 use Rattle.receiver.specs.Receiver.{timesNow, usedNow}
-use Rattle.reading.specs.Totals.{countOf}
-use Rattle.glance.specs.declared.Marks.{Marks}
 
 -- "a sample marked 0 that isn't zero"
 unfoldable pub isSound : ℕ → ℕ → Bool
@@ -43,10 +41,3 @@ readable st cell = eqb (settingsRefusal (st .format) (st .channels) (st .order))
 -- one of the cell's own samples is marked 0 and isn't zero
 unfoldable pub soundsOf : Receiver → List ℕ → Bool
 soundsOf st cell = readable st cell && some (soundAt (ownSamples st cell) (ownMarks st cell)) (usedNow st)
-
--- how many of the cell's own entries are marked 0, and how many 1
-unfoldable pub markedOf : Receiver → List ℕ → Marks
-markedOf st cell =
-    cond (readable st cell)
-    (record { sound = countOf (λ m. eqb m 0) (ownMarks st cell); damaged = countOf (λ m. eqb m 1) (ownMarks st cell) })
-    (record { sound = 0; damaged = 0 })

@@ -1,28 +1,18 @@
 // A look at one cell: what its own entries hold, without writing them anywhere.
 use formats::Format;
-use formats::Settled;
 use receiver::Receiver;
 ghost use mathlib.Core.Bool.{true, false, not};
 ghost use mathlib.Core.Path.{_≡_};
-ghost use Prim.Native.Nat.{ℕ, _+_, _%_, _^_, _≤_, _<_};
+ghost use Prim.Native.Nat.{_+_, _%_, _^_, _≤_, _<_};
 ghost use lib.Dec.{eqb, leb};
 ghost use lib.ListN.{length, take, drop};
 ghost use Rattle.runs.specs.Runs.{numberOf};
-ghost use Rattle.formats.specs.Code.{isUsual};
-ghost use Rattle.formats.specs.Sound.{Sound, Limits};
+ghost use Rattle.formats.specs.Sound.{Sound};
 ghost use Rattle.guards.specs.Guards.{nineOf, protectedBits, vOf};
 ghost use Rattle.guards.specs.Code.{sevenGuards};
 ghost use Rattle.cells.specs.Cells.{subframeAt, sampleIn, ancillaryIn, markIn};
-ghost use Rattle.cells.specs.Placement.{slotOfEntry};
-ghost use Rattle.receiver.specs.Unpacking.{usedIn, straight};
-ghost use Rattle.glance.specs.Glance.{some, soundsOf, markedOf};
-ghost use Rattle.glance.specs.Code.{soundIn, markedIn, loudAt};
-
-// How many of a cell's own entries are marked 0, and how many 1.
-pub struct Marks {
-    pub sound: usize,
-    pub damaged: usize,
-}
+ghost use Rattle.glance.specs.Glance.{some, soundsOf};
+ghost use Rattle.glance.specs.Code.{soundIn, loudAt};
 
 // The number of up to six octets, most significant octet first.
 fn number_in(cell: &[u8], at: usize, width: usize) -> u64
@@ -109,61 +99,6 @@ fn among(format: Format, cell: &[u8], used: usize) -> bool
     false
 }
 
-// The slot of the entry after the one in this slot.
-fn next_slot(set: Settled, used: usize, slot: usize) -> usize
-    requires { ⌜ Limits set × (used ≡ usedIn set) × (slot < used) ⌝ }
-    ensures { λ r. ⌜ ((i : ℕ) → i < usedIn set → slot ≡ slotOfEntry (set .«by_channel») (set .channels) (set .times) i
-        → r ≡ slotOfEntry (set .«by_channel») (set .channels) (set .times) (i + 1)) ⌝ }
-{
-    if !set.by_channel {
-        return slot + 1;
-    }
-    let next = slot + set.times;
-    if next < used {
-        return next;
-    }
-    next - (used - 1)
-}
-
-// How many of the cell's own entries are marked 1.
-fn damaged_in(set: Settled, used: usize, cell: &[u8]) -> usize
-    requires { ⌜ Limits set × (used ≡ usedIn set) × (length (now cell) ≡ 48) ⌝ }
-    ensures { λ r. ⌜ (r ≡ markedIn 1 set (now (cell .entry))) × (r ≤ used) ⌝ }
-{
-    let table = guards::sevens();
-    let mut count = 0;
-    let mut slot = 0;
-    let mut i = 0;
-    while i < used {
-        count += mark_in(set.format, &table, subframe_in(set.format, cell, slot));
-        slot = next_slot(set, used, slot);
-        i += 1;
-    }
-    count
-}
-
-// How many of the twelve slots of a cell of 56 hex are marked 1. With constants the compiler takes a subframe apart in few steps.
-fn damaged_usual(cell: &[u8]) -> usize
-    requires { ⌜ length (now cell) ≡ 48 ⌝ }
-    ensures { λ r. ⌜ (r ≡ markedIn 1 straight (now (cell .entry))) × (r ≤ 12) ⌝ }
-{
-    let format = Format {
-        sample_bits: 24,
-        ancillary_bits: 4,
-        overhead_bits: 4,
-        width: 4,
-        slots: 12,
-    };
-    let table = guards::sevens();
-    let mut count = 0;
-    let mut slot = 0;
-    while slot < 12 {
-        count += mark_in(format, &table, subframe_in(format, cell, slot));
-        slot += 1;
-    }
-    count
-}
-
 // Four octets, the first as the lowest. A function of its own, so that the compiler reads them by one load.
 fn low4(cell: &[u8], at: usize) -> u64
     requires { ⌜ at + 4 ≤ length (now cell) ⌝ }
@@ -224,57 +159,4 @@ pub fn sounds(state: Receiver, cell: &[u8]) -> bool
     }
     let used = set.channels * set.times;
     among(set.format, cell, used)
-}
-
-// By the settings of the state, whatever they are.
-fn marked_any(state: Receiver, cell: &[u8]) -> Marks
-    ensures { λ r. ⌜ r ≡ markedOf state (now (cell .entry)) ⌝ }
-{
-    let set = formats::settings(
-        state.format as u32,
-        state.channels as u32,
-        state.order as u32,
-    );
-    if set.refusal != 0 {
-        return Marks {
-            sound: 0,
-            damaged: 0,
-        };
-    }
-    if cell.len() != 48 {
-        return Marks {
-            sound: 0,
-            damaged: 0,
-        };
-    }
-    let used = set.channels * set.times;
-    let damaged = damaged_in(set, used, cell);
-    Marks {
-        sound: used - damaged,
-        damaged,
-    }
-}
-
-// A whole cell of the usual settings: each of its twelve slots is an entry.
-fn usual_cell(state: Receiver, cell: &[u8]) -> bool
-    ensures { λ r. ⌜ (r ≡ true
-        → (isUsual (state .format) (state .channels) (state .order) ≡ true) × (length (now (cell .entry)) ≡ 48)) ⌝ }
-{
-    if cell.len() != 48 {
-        return false;
-    }
-    formats::is_usual(state.format, state.channels, state.order)
-}
-
-// How many of the cell's own entries are marked 0, and how many 1. Zeros where the state's settings are refused, or the cell
-// isn't of 48 octets.
-pub fn marked(state: Receiver, cell: &[u8]) -> Marks
-    ensures { λ r. ⌜ r ≡ markedOf state (now (cell .entry)) ⌝ }
-{
-    if usual_cell(state, cell) {
-        let damaged = damaged_usual(cell);
-        let sound = 12 - damaged;
-        return Marks { sound, damaged };
-    }
-    marked_any(state, cell)
 }

@@ -1,14 +1,14 @@
 -- What a log hands out in pieces is what the whole log has, however it is divided.
 -- Assumes nothing.
 use mathlib.Core.Bool.{true, false, cond, _&&_}
-use mathlib.Core.List.{List, [], _∷_, _++_, map, append-nil, append-assoc}
+use mathlib.Core.List.{List, [], _∷_, _++_, append-nil, append-assoc}
 use mathlib.Core.Path.{_≡_, refl, sym, _∙_, ap, subst}
-use Prim.Native.Nat.{ℕ, zero, suc, _+_, _-_, _%_, _^_, _≤_, _<_}
+use Prim.Native.Nat.{ℕ, suc, _+_, _-_, _%_, _^_, _≤_, _<_}
 use native.Mathlib.Omega.{arith}
-use borrow.Author.Tests.{eq-eqb, ne-eqb, lt-ltb, le-ltb, le-leb, lt-leb, eqb-true, eqb-false, ltb-true, ltb-false, leb-true, leb-false}
+use borrow.Author.Tests.{eq-eqb, ne-eqb, le-leb, lt-leb, eqb-true, eqb-false, ltb-true, ltb-false, leb-true, leb-false}
 use lib.Dec.{eqb, leb, ltb}
 use lib.ListN.{length, getD, take, drop, length-append, length-drop, List·getD-append}
-use lib.Seq.{take-all, take-at, drop-at, take-append-le, drop-append-le, take-append-add, take-append-seam, append-snoc}
+use lib.Seq.{take-all, drop-at, take-append-le, drop-append-le, take-append-add, take-append-seam, append-snoc}
 use Rattle.log.specs.declared.Record.{Record}
 use Rattle.log.specs.Records.{headerOf, recordAt}
 use Rattle.log.proofs.Places.{record-end, record-11, record-12}

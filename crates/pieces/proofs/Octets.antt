@@ -9,7 +9,7 @@ use native.Mathlib.Omega.{arith}
 use borrow.Author.Tests.{eq-eqb, ne-eqb, lt-ltb, le-ltb, lt-leb, eqb-true, eqb-false, ltb-true, ltb-false}
 use lib.Dec.{eqb, leb, ltb}
 use lib.ListN.{length, getD, take, drop, set, length-append, length-drop, length-set, take-append-drop}
-use lib.Seq.{drop-cons, drop-drop, drop-length, take-suc, take-suc-set, take-all, length-take-le, getD-take, getD-drop, append-snoc}
+use lib.Seq.{drop-cons, drop-drop, drop-length, take-suc, take-suc-set, take-all, length-take-le, getD-take, append-snoc}
 use Rattle.log.specs.Records.{headerOf}
 use Rattle.reading.specs.Records.{frontOf}
 use Rattle.runs.proofs.Laws.{split, both-true}

@@ -15,6 +15,8 @@ use Rattle.pieces.proofs.sized.Kinds as sized-kinds
 use Rattle.pieces.proofs.sized.Reads as sized-reads
 use Rattle.pieces.proofs.start.Kinds as start-kinds
 use Rattle.pieces.proofs.start.Reads as start-reads
+use Rattle.pieces.proofs.stretch_at.Kinds as stretch-at-kinds
+use Rattle.pieces.proofs.stretch_at.Reads as stretch-at-reads
 
 pub start-one : One start-kinds.ps start-kinds.r start-reads.Pre start-reads.Post
 start-one κs a x y v w pre p q = (p ∙ sym q, refl)
@@ -33,3 +35,6 @@ is-record-one κs a x y v w pre p q = (p ∙ sym q, refl)
 
 pub record-octets-one : One record-octets-kinds.ps record-octets-kinds.r record-octets-reads.Pre record-octets-reads.Post
 record-octets-one κs a x y v w pre p q = (p ∙ sym q, refl)
+
+pub stretch-at-one : One stretch-at-kinds.ps stretch-at-kinds.r stretch-at-reads.Pre stretch-at-reads.Post
+stretch-at-one κs a x y v w pre p q = (p ∙ sym q, refl)

@@ -29,16 +29,15 @@ use Rattle.pieces.specs.Steps.{
   isRecord,
   inPiece,
   foundOctets,
-  Stood,
   stepsFrom,
   stoodOf,
   handedOver,
   stoodOver,
 }
-use Rattle.pieces.specs.Taken.{Taking, freshTaking, after, handed, endParts, joinedOf, afterAll, handedAll}
+use Rattle.pieces.specs.Taken.{Taking, freshTaking, after, handed, joinedOf, afterAll, handedAll}
 use Rattle.pieces.proofs.Division.{any-division, any-division-state}
 use Rattle.pieces.proofs.Laws.{lies-facts}
-use Rattle.pieces.proofs.Octets.{Follows, follows, step-follows}
+use Rattle.pieces.proofs.Octets.{follows, step-follows}
 
 -- steps enough for all octets are enough
 enough : (m n : ℕ) (s : Standing) (held piece : List ℕ) (place : ℕ) → length held ≡ 49
@@ -171,10 +170,21 @@ module _ (limit : ℕ) (held : List ℕ) (pieces : List (List ℕ)) (size : leng
       ∙ any-division-state (takingOf (startOf limit) held) pieces
       ∙ sym (stood-state (startOf limit) held (joinedOf pieces) size)
 
--- a record that is found in a piece lies in it
-room : (s : Standing) (held piece : List ℕ) (place : ℕ) → nextOf s held piece place .what ≡ 2 → place + 49 ≤ length piece
+-- a record that is found in a piece begins and lies in it, within the limit
+pub record Lies (s : Standing) (piece : List ℕ) (place : ℕ) : Type 0 where
+  pub stage-1 : s .stage ≡ 1
+  pub begins : s .count % 49 ≡ 0
+  pub low : getD piece place 0 ≤ 1
+  pub fits : place + 49 ≤ length piece
+  pub within : 49 ≤ s .left
+
+not-above : (count octet : ℕ) → count ≡ 0 → beginsAbove count octet ≡ false → octet ≤ 1
+unfolding beginsAbove
+not-above count octet none e = ltb-false 1 octet (rw (eq-eqb count 0 none) at e)
+
+lies : (s : Standing) (held piece : List ℕ) (place : ℕ) → nextOf s held piece place .what ≡ 2 → Lies s piece place
 unfolding nextOf headerFound recordFound
-room s held piece place =
+lies s held piece place =
     split (leb (length piece) place)
     (λ a. rw a (λ e. absurd (omega (arith, e))))
     (λ a.
@@ -196,17 +206,31 @@ room s held piece place =
     (λ g. rw (a, b, o, l, g) (λ e. absurd (omega (arith, e))))
     (λ g.
     split (liesWhole (s .count % 49) (length piece - place) (s .left))
-    (λ w. rw (a, b, o, l, g, w) (λ e. omega (arith, lies-facts (s .count % 49) (length piece - place) (s .left) w)))
+    (λ w.
+    let facts = lies-facts (s .count % 49) (length piece - place) (s .left) w in
+    let found : Lies s piece place =
+    record {
+      stage-1 = eqb-true (s .stage) 1 o;
+      begins = facts .0;
+      low = not-above (s .count % 49) (getD piece place 0) (facts .0) g;
+      fits = omega (arith, facts .1);
+      within = facts .2;
+    } in
+    rw (a, b, o, l, g, w) (λ e. found))
     (λ w.
     split (eqb (s .count % 49) 48)
     (λ d. rw (a, b, o, l, g, w, d) (λ e. absurd (omega (arith, e))))
     (λ d. rw (a, b, o, l, g, w, d) (λ e. absurd (omega (arith, e))))))))
     (λ o. rw (a, b, o) (λ e. absurd (omega (arith, e))))))
 
+pub found-lies : {s : Standing} {held piece : List ℕ} {place : ℕ} {f : Found} {now : List ℕ} → Steps s held piece place f now
+    → f .what ≡ 2 → Lies s piece place
+found-lies {s} {held} {piece} {place} step two =
+    lies s held piece place (ap (λ (f : Found). f .what) (sym (step .answered)) ∙ two)
+
 pub found-room : {s : Standing} {held piece : List ℕ} {place : ℕ} {f : Found} {now : List ℕ} → Steps s held piece place f now
     → f .what ≡ 2 → place + 49 ≤ length piece
-found-room {s} {held} {piece} {place} step two =
-    room s held piece place (ap (λ (f : Found). f .what) (sym (step .answered)) ∙ two)
+found-room step two = found-lies step two .fits
 
 -- what was found is a record: its octets tell it
 pub found-record : (f : Found) (held piece : List ℕ) (place : ℕ) → (f .what ≡ 2 → place + 49 ≤ length piece)

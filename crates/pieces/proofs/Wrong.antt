@@ -27,6 +27,8 @@ use Rattle.pieces.specs.Steps.{
   inPiece,
   foundOctets,
 }
+use Rattle.pieces.specs.declared.Stretch.{Stretch}
+use Rattle.pieces.specs.Stretch.{least, stretchOf, standingPast}
 use Rattle.pieces.specs.Taken.{Taking, freshTaking, inHeader, inRecord, one, after, handed, endFault, endParts, joinedOf}
 use Rattle.pieces.proofs.end.Kinds as end-kinds
 use Rattle.pieces.proofs.end.Reads as end-reads
@@ -40,6 +42,8 @@ use Rattle.pieces.proofs.sized.Kinds as sized-kinds
 use Rattle.pieces.proofs.sized.Reads as sized-reads
 use Rattle.pieces.proofs.start.Kinds as start-kinds
 use Rattle.pieces.proofs.start.Reads as start-reads
+use Rattle.pieces.proofs.stretch_at.Kinds as stretch-at-kinds
+use Rattle.pieces.proofs.stretch_at.Reads as stretch-at-reads
 
 -- every definition on the way down to the numbers
 unfoldable pub steps-unfolded : Unit {0}
@@ -111,6 +115,40 @@ module _ (κs : Lfts 2) (p q : Place) where
   pub octets-that-are-held : Octets 3 (λ x. x ≡ ones)
   unfolding inPiece foundOctets first
   octets-that-are-held x v wrong s = let octet : _≡_ {A = ℕ} 1 0 = ap first (sym wrong ∙ s) in omega arith
+
+-- two records and the first octet of a third, which is none
+abbrev pairs : List ℕ
+pairs = replicate 49 0 ++ (1 ∷ replicate 48 0) ++ (2 ∷ replicate 48 0)
+
+module _ (κs : Lfts 1) (p : Place) where
+  abbrev StretchAt : Standing → (Stretch → Type 0) → Type 0
+  StretchAt s Wrong =
+      Never stretch-at-kinds.ps stretch-at-kinds.r stretch-at-reads.Post κs (s, (lent p pairs, (0, (10, tt)))) (λ x v. Wrong x)
+
+  -- no record told where one lies
+  pub stretch-not-passed-over : StretchAt (among 0 1000) (λ x. x .records ≡ 0)
+  unfolding unfolded least stretchOf
+  stretch-not-passed-over x v wrong s = let right : x .records ≡ 2 = ap (λ (f : Stretch). f .records) s in omega arith
+
+  -- octets taken that begin with no indication
+  pub stretch-ends-at-a-fault : StretchAt (among 0 1000) (λ x. x .next ≡ 147)
+  unfolding unfolded least stretchOf
+  stretch-ends-at-a-fault x v wrong s = let right : x .next ≡ 98 = ap (λ (f : Stretch). f .next) s in omega arith
+
+  -- a record taken that the limit cuts
+  pub stretch-ends-at-the-limit : StretchAt (among 0 97) (λ x. x .records ≡ 2)
+  unfolding unfolded least stretchOf
+  stretch-ends-at-the-limit x v wrong s = let right : x .records ≡ 1 = ap (λ (f : Stretch). f .records) s in omega arith
+
+  -- a record taken in the middle of another one
+  pub no-stretch-inside-a-record : StretchAt (among 7 1000) (λ x. x .records ≡ 2)
+  unfolding unfolded least stretchOf
+  no-stretch-inside-a-record x v wrong s = let right : x .records ≡ 0 = ap (λ (f : Stretch). f .records) s in omega arith
+
+  -- records not counted
+  pub stretch-is-counted : StretchAt (among 0 1000) (λ x. x .standing .records ≡ 7)
+  unfolding unfolded least stretchOf standingPast
+  stretch-is-counted x v wrong s = let right : x .standing .records ≡ 9 = ap (λ (f : Stretch). f .standing .records) s in omega arith
 
 module _ (κs : Lfts 0) where
   abbrev IsRecord : ℕ → (Bool → Type 0) → Type 0

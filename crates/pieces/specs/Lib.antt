@@ -1,3 +1,4 @@
 pub mod Limit
 pub mod Steps
+pub mod Stretch
 pub mod Taken

@@ -17,7 +17,10 @@ ghost use Rattle.pieces.specs.Steps.{
   inPiece,
   foundOctets,
 };
+ghost use Rattle.pieces.specs.Stretch.{stretchOf, pastStretch};
 ghost use Rattle.pieces.specs.Taken.{endFault};
+
+mod ahead; // ahead.rt: how many whole records lie ahead
 
 // Where a log stands. Its stage: 0 in the header, 1 among the records, 2 the header is refused, 3 a record is broken; the
 // refusal, 0 before that; how many octets are held; how many octets the limit leaves, in the header those of the whole log;
@@ -307,4 +310,41 @@ pub fn record_octets(what: u8, held: &[u8; 49], piece: &[u8], place: usize) -> [
         return copied(piece, place);
     }
     *held
+}
+
+// Whole records that lie one behind the other in a piece: how many, the place behind them, and the standing there.
+pub struct Stretch {
+    pub records: usize,
+    pub next: usize,
+    pub standing: Standing,
+}
+
+// Goes past the whole records that lie one behind the other from a place of a piece on, at most so many, so that a caller can take
+// them in one go. Each of them is one that `next` finds in the piece. There is none where no record begins at the place.
+pub fn stretch_at(standing: Standing, piece: &[u8], place: usize, most: usize) -> Stretch
+    ensures { λ r. ⌜ r ≡ pastStretch standing place (length (stretchOf most standing (now (piece .entry)) place)) ⌝ }
+{
+    let records = ahead::whole_ahead(standing, piece, place, most);
+    if records == 0 {
+        return Stretch {
+            records: 0,
+            next: place,
+            standing,
+        };
+    }
+    let octets = 49 * records;
+    let next = place + octets;
+    let left = standing.left - octets as u64;
+    let counted = std::num::wrapping_add_u64(standing.records, records as u64);
+    Stretch {
+        records,
+        next,
+        standing: Standing {
+            stage: 1,
+            fault: standing.fault,
+            count: 0,
+            left,
+            records: counted,
+        },
+    }
 }

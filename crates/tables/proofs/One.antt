@@ -9,6 +9,8 @@ use Rattle.tables.specs.Marks.{MarksBy}
 use Rattle.tables.proofs.Laws.{same-bits}
 use Rattle.tables.proofs.protection_for_usual.Kinds as protection-kinds
 use Rattle.tables.proofs.protection_for_usual.Reads as protection-reads
+use Rattle.tables.proofs.marks_for_figures.Kinds as figures-kinds
+use Rattle.tables.proofs.marks_for_figures.Reads as figures-reads
 use Rattle.tables.proofs.marks_for_others.Kinds as others-kinds
 use Rattle.tables.proofs.marks_for_others.Reads as others-reads
 use Rattle.tables.proofs.marks_for_usual.Kinds as usual-kinds
@@ -30,3 +32,6 @@ marks-for-usual-one κs a x y v w pre p q = (one-number (λ low. withV (low / 16
 
 pub marks-without-v-one : One bare-kinds.ps bare-kinds.r bare-reads.Pre bare-reads.Post
 marks-without-v-one κs a x y v w pre p q = (one-number (λ low. noV) _ p q, refl)
+
+pub marks-for-figures-one : One figures-kinds.ps figures-kinds.r figures-reads.Pre figures-reads.Post
+marks-for-figures-one κs a x y v w pre p q = (one-number (λ low. withV (low / 16)) _ p q, refl)

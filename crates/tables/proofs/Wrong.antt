@@ -10,6 +10,8 @@ use Rattle.guards.specs.Guards.{VOrNone, noV, withV, protectedBits, tenGuard}
 use Rattle.tables.specs.Marks.{markBit, MarksBy, MarksOf}
 use Rattle.tables.proofs.protection_for_usual.Kinds as protection-kinds
 use Rattle.tables.proofs.protection_for_usual.Reads as protection-reads
+use Rattle.tables.proofs.marks_for_figures.Kinds as figures-kinds
+use Rattle.tables.proofs.marks_for_figures.Reads as figures-reads
 use Rattle.tables.proofs.marks_for_others.Kinds as others-kinds
 use Rattle.tables.proofs.marks_for_others.Reads as others-reads
 use Rattle.tables.proofs.marks_for_usual.Kinds as usual-kinds
@@ -74,6 +76,18 @@ module _ (κs : Lfts 0) where
   pub marks-for-usual-not-without-v : Never usual-kinds.ps usual-kinds.r usual-reads.Post κs (0, tt) (λ x v. x ≡ 0x7F7F7F7F)
   unfolding unfolded
   marks-for-usual-not-without-v x v wrong p = without-v 0 refl p wrong
+
+  pub marks-for-figures-not-always-0 : Never figures-kinds.ps figures-kinds.r figures-reads.Post κs (0, tt) (λ x v. x ≡ 0)
+  unfolding unfolded
+  marks-for-figures-not-always-0 x v wrong p = always-0 (λ low. withV (low / 16)) 0 refl p wrong
+
+  pub marks-for-figures-not-always-1 : Never figures-kinds.ps figures-kinds.r figures-reads.Post κs (0, tt) (λ x v. x ≡ 0xFFFFFFFF)
+  unfolding unfolded
+  marks-for-figures-not-always-1 x v wrong p = always-1 (λ low. withV (low / 16)) 0 refl p wrong
+
+  pub marks-for-figures-not-without-v : Never figures-kinds.ps figures-kinds.r figures-reads.Post κs (0, tt) (λ x v. x ≡ 0x7F7F7F7F)
+  unfolding unfolded
+  marks-for-figures-not-without-v x v wrong p = without-v 0 refl p wrong
 
   pub marks-without-v-not-always-0 : Never bare-kinds.ps bare-kinds.r bare-reads.Post κs (0, tt) (λ x v. x ≡ 0)
   unfolding unfolded

@@ -1,8 +1,8 @@
 // Three tables by the nine top bits of a sample: the protection bits, which the sender writes, and the marks with V and
-// without it, which the receiver gives. tools/tables.py prints this file: change that, and not this.
+// without it, which the receiver gives and a sheet counts. tools/tables.py prints this file: change that, and not this.
 //
 // A table is a `match` with constant arms. The compiler makes one load of it; a constant array it would copy to the stack first.
-// Two functions have the same table, because the compiler does so only where a function is called in one place of the program.
+// Three functions have the same table, because the compiler does so only where a function is called in one place of the program.
 // Where two loops call it, both make a call for every slot, which takes much longer. So each loop has its own.
 ghost use mathlib.Core.Path.{_≡_};
 ghost use Prim.Native.Nat.{_%_, _<_};
@@ -215,5 +215,57 @@ pub fn marks_without_v(nine: u64) -> u64
         389 | 398 | 403 | 408 | 418 | 425 | 436 | 447 => 0xBFBFBFBF,
         448 | 459 | 470 | 477 | 487 | 492 | 497 | 506 => 0xBFBFBFBF,
         _ => 0xDFDFDFDF,
+    }
+}
+
+// The marks with V once more, for the figures of a log.
+pub fn marks_for_figures(nine: u64) -> u64
+    ensures { λ r. ⌜ MarksOf (nine % 512) r × (r < 4294967296) ⌝ }
+{
+    let first = nine % 512;
+    match first {
+        0 | 11 | 22 | 29 | 39 | 44 | 49 | 58 | 69 | 78 | 83 | 88 => 0xEFEF7F7F,
+        98 | 105 | 116 | 127 | 129 | 138 | 151 | 156 | 166 | 173 | 176 | 187 => 0xEFEF7F7F,
+        196 | 207 | 210 | 217 | 227 | 232 | 245 | 254 | 258 | 265 | 276 | 287 => 0xEFEF7F7F,
+        293 | 302 | 307 | 312 | 327 | 332 | 337 | 346 | 352 | 363 | 374 | 381 => 0xEFEF7F7F,
+        387 | 392 | 405 | 414 | 420 | 431 | 434 | 441 | 454 | 461 | 464 | 475 => 0xEFEF7F7F,
+        481 | 490 | 503 | 508 => 0xEFEF7F7F,
+        1 | 10 | 23 | 28 | 38 | 45 | 48 | 59 | 68 | 79 | 82 | 89 => 0xFBFBFDFD,
+        99 | 104 | 117 | 126 | 128 | 139 | 150 | 157 | 167 | 172 | 177 | 186 => 0xFBFBFDFD,
+        197 | 206 | 211 | 216 | 226 | 233 | 244 | 255 | 259 | 264 | 277 | 286 => 0xFBFBFDFD,
+        292 | 303 | 306 | 313 | 326 | 333 | 336 | 347 | 353 | 362 | 375 | 380 => 0xFBFBFDFD,
+        386 | 393 | 404 | 415 | 421 | 430 | 435 | 440 | 455 | 460 | 465 | 474 => 0xFBFBFDFD,
+        480 | 491 | 502 | 509 => 0xFBFBFDFD,
+        2 | 9 | 20 | 31 | 37 | 46 | 51 | 56 | 71 | 76 | 81 | 90 => 0xF7F7FEFE,
+        96 | 107 | 118 | 125 | 131 | 136 | 149 | 158 | 164 | 175 | 178 | 185 => 0xF7F7FEFE,
+        198 | 205 | 208 | 219 | 225 | 234 | 247 | 252 | 256 | 267 | 278 | 285 => 0xF7F7FEFE,
+        295 | 300 | 305 | 314 | 325 | 334 | 339 | 344 | 354 | 361 | 372 | 383 => 0xF7F7FEFE,
+        385 | 394 | 407 | 412 | 422 | 429 | 432 | 443 | 452 | 463 | 466 | 473 => 0xF7F7FEFE,
+        483 | 488 | 501 | 510 => 0xF7F7FEFE,
+        3 | 8 | 21 | 30 | 36 | 47 | 50 | 57 | 70 | 77 | 80 | 91 => 0xDFDFBFBF,
+        97 | 106 | 119 | 124 | 130 | 137 | 148 | 159 | 165 | 174 | 179 | 184 => 0xDFDFBFBF,
+        199 | 204 | 209 | 218 | 224 | 235 | 246 | 253 | 257 | 266 | 279 | 284 => 0xDFDFBFBF,
+        294 | 301 | 304 | 315 | 324 | 335 | 338 | 345 | 355 | 360 | 373 | 382 => 0xDFDFBFBF,
+        384 | 395 | 406 | 413 | 423 | 428 | 433 | 442 | 453 | 462 | 467 | 472 => 0xDFDFBFBF,
+        482 | 489 | 500 | 511 => 0xDFDFBFBF,
+        4 | 15 | 18 | 25 | 35 | 40 | 53 | 62 | 65 | 74 | 87 | 92 => 0xFDFDFBFB,
+        102 | 109 | 112 | 123 | 133 | 142 | 147 | 152 | 162 | 169 | 180 | 191 => 0xFDFDFBFB,
+        192 | 203 | 214 | 221 | 231 | 236 | 241 | 250 | 262 | 269 | 272 | 283 => 0xFDFDFBFB,
+        289 | 298 | 311 | 316 | 323 | 328 | 341 | 350 | 356 | 367 | 370 | 377 => 0xFDFDFBFB,
+        391 | 396 | 401 | 410 | 416 | 427 | 438 | 445 | 450 | 457 | 468 | 479 => 0xFDFDFBFB,
+        485 | 494 | 499 | 504 => 0xFDFDFBFB,
+        5 | 14 | 19 | 24 | 34 | 41 | 52 | 63 => 0x7F7FEFEF,
+        64 | 75 | 86 | 93 | 103 | 108 | 113 | 122 | 132 | 143 | 146 | 153 => 0x7F7FEFEF,
+        163 | 168 | 181 | 190 | 193 | 202 | 215 | 220 | 230 | 237 | 240 | 251 => 0x7F7FEFEF,
+        263 | 268 | 273 | 282 | 288 | 299 | 310 | 317 | 322 | 329 | 340 | 351 => 0x7F7FEFEF,
+        357 | 366 | 371 | 376 | 390 | 397 | 400 | 411 | 417 | 426 | 439 | 444 => 0x7F7FEFEF,
+        451 | 456 | 469 | 478 | 484 | 495 | 498 | 505 => 0x7F7FEFEF,
+        6 | 13 | 16 | 27 | 33 | 42 | 55 | 60 | 67 | 72 | 85 | 94 => 0xBFBFDFDF,
+        100 | 111 | 114 | 121 | 135 | 140 | 145 | 154 | 160 | 171 | 182 | 189 => 0xBFBFDFDF,
+        194 | 201 | 212 | 223 | 229 | 238 | 243 | 248 | 260 | 271 | 274 | 281 => 0xBFBFDFDF,
+        291 | 296 | 309 | 318 | 321 | 330 | 343 | 348 | 358 | 365 | 368 | 379 => 0xBFBFDFDF,
+        389 | 398 | 403 | 408 | 418 | 425 | 436 | 447 => 0xBFBFDFDF,
+        448 | 459 | 470 | 477 | 487 | 492 | 497 | 506 => 0xBFBFDFDF,
+        _ => 0xFEFEF7F7,
     }
 }

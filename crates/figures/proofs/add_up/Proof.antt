@@ -1,7 +1,7 @@
 -- `figures::add_up` meets its contract. The loop: the lengths so far and what is left are all octets. The measure is what is
 -- left.
 -- Assumes nothing.
-use mathlib.Core.Path.{_≡_, refl}
+use mathlib.Core.Path.{_≡_}
 use Prim.Native.Nat.{_+_, _-_, _≤_}
 use native.Mathlib.Omega.{arith}
 use borrow.Author.Needs.{needs}

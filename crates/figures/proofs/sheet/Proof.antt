@@ -1,9 +1,7 @@
 -- `figures::sheet` meets its contract.: a law for each return.
 -- Assumes nothing.
-use mathlib.Core.Path.{_≡_, sym, _∙_, ap}
 use native.Mathlib.Omega.{arith}
 use borrow.Author.Needs.{needs}
-use lib.ListN.{length}
 use Rattle.figures.proofs.Laws.{capped-row}
 use Rattle.figures.proofs.Refusals.{says-18, says-5, octets-are, rows-are, says-19, says-0}
 use Rattle.figures.proofs.sheet.Statement.{statement}

@@ -1,7 +1,6 @@
 -- `figures::start` meets its contract.
 -- Assumes nothing.
 use borrow.Author.Needs.{needs}
-use Rattle.figures.specs.declared.Tally.{Tally}
 use Rattle.figures.proofs.start.Statement.{statement}
 use Rattle.figures.proofs.start.Tie as tie
 

@@ -3,7 +3,7 @@
 use native.Mathlib.Omega.{arith}
 use borrow.Author.Needs.{needs}
 use Rattle.cells.proofs.Subframes.{four}
-use Rattle.glance.proofs.Laws.{mark-plain, found-small, mark-agrees, mark-differs}
+use Rattle.cells.proofs.Marks.{mark-plain, found-small, mark-agrees, mark-differs}
 use Rattle.glance.proofs.mark_in.Statement.{statement}
 use Rattle.glance.proofs.mark_in.Tie as tie
 

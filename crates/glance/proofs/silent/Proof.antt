@@ -2,7 +2,6 @@
 -- Assumes nothing.
 use mathlib.Core.Bool.{true≢false}
 use mathlib.Core.Path.{sym}
-use borrow.Author.Needs.{needs}
 use Rattle.glance.proofs.Quiet.{quiet-silent}
 use Rattle.glance.proofs.silent.Statement.{statement}
 use Rattle.glance.proofs.silent.Tie as tie

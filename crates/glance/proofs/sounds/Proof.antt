@@ -2,7 +2,8 @@
 -- Assumes nothing.
 use native.Mathlib.Omega.{arith}
 use borrow.Author.Needs.{needs}
-use Rattle.glance.proofs.Laws.{refused-silent, limits-of, short-silent, sounds-said}
+use Rattle.formats.proofs.Laws.{limits-of}
+use Rattle.glance.proofs.Laws.{refused-silent, short-silent, sounds-said}
 use Rattle.glance.proofs.sounds.Statement.{statement}
 use Rattle.glance.proofs.sounds.Tie as tie
 

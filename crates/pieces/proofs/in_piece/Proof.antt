@@ -1,6 +1,5 @@
 -- `pieces::in_piece` meets its contract.
 -- Assumes nothing.
-use borrow.Author.Needs.{needs}
 use Rattle.pieces.proofs.Laws.{in-not, in-short, in-to}
 use Rattle.pieces.proofs.in_piece.Statement.{statement}
 use Rattle.pieces.proofs.in_piece.Tie as tie

@@ -1,6 +1,5 @@
 -- `pieces::lies_whole` meets its contract.
 -- Assumes nothing.
-use borrow.Author.Needs.{needs}
 use Rattle.pieces.proofs.Laws.{lies-not, lies-cut, lies-to}
 use Rattle.pieces.proofs.lies_whole.Statement.{statement}
 use Rattle.pieces.proofs.lies_whole.Tie as tie

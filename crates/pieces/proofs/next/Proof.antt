@@ -1,6 +1,6 @@
 -- `pieces::next` meets its contract: a law for each return.
 -- Assumes nothing.
-use mathlib.Core.Path.{_≡_, refl, sym, _∙_}
+use mathlib.Core.Path.{refl, sym, _∙_}
 use native.Mathlib.Omega.{arith}
 use borrow.Author.Needs.{needs}
 use Rattle.pieces.proofs.Laws.{past-end, in-header, behind-fault, at-limit, first-above, lies-in-piece, held-more, lies-facts}

@@ -1,6 +1,6 @@
 -- `figures::rows::put` meets its contract. The loop: the numbers before this one are written. The measure is what is left.
 -- Assumes nothing.
-use mathlib.Core.Path.{_≡_, refl}
+use mathlib.Core.Path.{refl}
 use Prim.Native.Nat.{_-_}
 use native.Mathlib.Omega.{arith}
 use borrow.Author.Needs.{needs}

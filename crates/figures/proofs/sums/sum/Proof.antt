@@ -1,6 +1,5 @@
 -- `figures::sums::sum` meets its contract.
 -- Assumes nothing.
-use native.Mathlib.Omega.{arith}
 use borrow.Author.Needs.{needs}
 use Rattle.figures.proofs.Laws.{sum-full, sum-past, sum-fits}
 use Rattle.figures.proofs.sums.sum.Statement.{statement}
