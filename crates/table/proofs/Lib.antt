@@ -1,6 +1,9 @@
 pub mod Cases
-pub mod Inputs
+pub mod Counted
+pub mod Division
 pub mod Laws
-pub mod One
-pub mod Short
-pub mod Wrong
+pub mod Lengths
+pub mod Printed
+pub mod Steps
+pub mod Taken
+pub mod Whole
