@@ -3,7 +3,10 @@ pub mod Counted
 pub mod Division
 pub mod Laws
 pub mod Lengths
+pub mod One
 pub mod Printed
+pub mod Short
 pub mod Steps
 pub mod Taken
 pub mod Whole
+pub mod Wrong

@@ -1,0 +1,44 @@
+-- No second answer: whatever answer, lent array and lent runs at exit meet the contract of a public function are equal. Stated over
+-- the contracts themselves.
+-- Assumes nothing.
+use mathlib.Core.Path.{_≡_, refl, sym, _∙_, ap}
+use Rattle.runs.proofs.One.{One}
+use Rattle.table.specs.Taking.{Stood}
+use Rattle.table.proofs.end.Kinds as end-kinds
+use Rattle.table.proofs.end.Reads as end-reads
+use Rattle.table.proofs.line.Kinds as line-kinds
+use Rattle.table.proofs.line.Reads as line-reads
+use Rattle.table.proofs.next_log.Kinds as next-kinds
+use Rattle.table.proofs.next_log.Reads as next-reads
+use Rattle.table.proofs.start.Kinds as start-kinds
+use Rattle.table.proofs.start.Reads as start-reads
+use Rattle.table.proofs.take.Kinds as take-kinds
+use Rattle.table.proofs.take.Reads as take-reads
+use Rattle.table.proofs.take_log.Kinds as log-kinds
+use Rattle.table.proofs.take_log.Reads as log-reads
+
+pub start-one : One start-kinds.ps start-kinds.r start-reads.Pre start-reads.Post
+start-one κs a x y v w pre p q = (p ∙ sym q, refl)
+
+pub take-one : One take-kinds.ps take-kinds.r take-reads.Pre take-reads.Post
+take-one κs a x y v w pre p q =
+    let same = p .stands ∙ sym (q .stands) in
+    (λ i. same i .sheet, λ i. (tt, (same i .held, (same i .rows, (tt, tt)))))
+
+pub take-log-one : One log-kinds.ps log-kinds.r log-reads.Pre log-reads.Post
+take-log-one κs a x y v w pre p q = (p .goes-on ∙ sym (q .goes-on), λ i. (tt, ((p .holds ∙ sym (q .holds)) i, (tt, tt))))
+
+pub next-log-one : One next-kinds.ps next-kinds.r next-reads.Pre next-reads.Post
+next-log-one κs a x y v w pre p q = (
+  p .goes-on ∙ sym (q .goes-on),
+  λ i. (tt, ((p .rows-after ∙ sym (q .rows-after)) i, tt)),
+)
+
+pub end-one : One end-kinds.ps end-kinds.r end-reads.Pre end-reads.Post
+end-one κs a x y v w pre p q = (p ∙ sym q, refl)
+
+pub line-one : One line-kinds.ps line-kinds.r line-reads.Pre line-reads.Post
+line-one κs a x y v w pre p q = (
+  p .said ∙ sym (q .said),
+  λ i. ((p .wrote ∙ sym (q .wrote)) i, (tt, (tt, (tt, tt)))),
+)
