@@ -33,8 +33,9 @@ fn print(line: &[u8], whole: bool) -> bool
     written
 }
 
+// Writes a line of a sheet. The row of all logs together has ten numbers.
 fn print_line(ended: Ended, rows: &[u32], index: usize) -> bool
-    requires { ⌜ length (ended .answer .totals) ≡ 10 ⌝ }
+    requires { ⌜ 10 ≡ length (ended .answer .totals) ⌝ }
 {
     let mut text = [0u8; 512];
     let line = table::line(&mut text, ended, rows, index);

@@ -2,19 +2,23 @@
 -- Assumes nothing.
 use mathlib.Core.Bool.{true}
 use mathlib.Core.List.{List, [], _∷_, _++_}
-use mathlib.Core.Path.{_≡_}
+use mathlib.Core.Path.{_≡_, refl, sym, _∙_, ap}
 use Prim.Native.Nat.{ℕ, _+_, _*_, _-_, _/_, _≤_}
 use native.Mathlib.Omega.{arith}
 use lib.Dec.{eqb, leb}
 use lib.ListN.{length, drop, length-append}
 use Rattle.runs.proofs.Laws.{split}
+use Rattle.figures.specs.declared.Answer.{Answer}
+use Rattle.figures.specs.Adding.{closedOf}
+use Rattle.figures.specs.Figures.{rowOf, tooMany}
 use Rattle.text.specs.declared.Put.{Put}
 use Rattle.text.specs.Text.{decimal, item}
 use Rattle.text.specs.Words.{words}
 use Rattle.text.proofs.Short.{take-to, with-words, one-item, listed-whole}
 use Rattle.table.specs.declared.Ended.{Ended}
+use Rattle.table.specs.declared.Sheet.{Sheet}
 use Rattle.table.specs.Table.{cellsOf, Prints, logLine, allLine, refusedLine}
-use Rattle.table.specs.Taking.{rowAt, lineOf}
+use Rattle.table.specs.Taking.{lastOf, closedEnd, endedOf, rowAt, lineOf}
 
 length-cells : (row : List ℕ) → length (cellsOf row) ≤ 21 * length row
 unfolding cellsOf
@@ -58,3 +62,18 @@ module _ (e : Ended) (rows : List ℕ) (index : ℕ) (ten : 10 ≡ length (e .an
   pub line-whole : {run run₁ : List ℕ} {past : Put} → 512 ≤ length run → Prints run past run₁ (lineOf e rows index)
       → (past .whole ≡ true) × (past .octets ≤ length run)
   line-whole {run} room p = listed-whole (lineOf e rows index) run 231 line-short (omega arith) (p .said)
+
+-- the row of all logs together has ten numbers
+closed-ten : (answer : Answer) (logs : ℕ) → 10 ≡ length (answer .totals) → 10 ≡ length (closedEnd answer logs .answer .totals)
+unfolding closedEnd
+closed-ten answer logs ten = split (eqb (answer .refusal) 0) (λ t. rw t ten) (λ t. rw t ten)
+
+ended-ten : (s : Sheet) → 10 ≡ length (endedOf s .answer .totals)
+unfolding endedOf closedOf rowOf
+ended-ten s =
+    split (eqb (lastOf (s .input)) 0)
+    (λ t. rw t (closed-ten (closedOf (s .totals)) (s .input .logs) (split (tooMany (s .totals)) (λ m. rw m refl) (λ m. rw m refl))))
+    (λ t. rw t refl)
+
+pub ten-numbers : (s : Sheet) {e : Ended} → e ≡ endedOf s → 10 ≡ length (e .answer .totals)
+ten-numbers s is = ended-ten s ∙ sym (ap (λ (e : Ended). length (e .answer .totals)) is)

@@ -1,4 +1,4 @@
--- `sheet::from_input` meets its contract: the name is as long as the source says.
+-- `sheet::from_input` is safe: the name is as long as the source says.
 -- Assumes nothing.
 use mathlib.Core.Path.{_≡_, sym}
 use borrow.Author.Needs.{needs}
@@ -13,7 +13,7 @@ slice-aggregate-read-input : tie.Need-slice-aggregate-read-input
 slice-aggregate-read-input c = sym (length-take-le _ _ (array-share-prefix-name (c .before)))
 
 same-length : tie.Need-same-length
-same-length c = c .before .before .before .read-input .kept .1 .1 .1 .1 .0
+same-length c = search needs
 
 pub from-input-spec : {M : Type 1} → statement M
 from-input-spec =

@@ -18,8 +18,9 @@ loop-holds : tie.Need-loop-holds Inv-loop μ-loop
 loop-holds c = (refl, refl)
 
 same-length : tie.Need-same-length Inv-loop μ-loop
-same-length c = c .before .before .before .before .read .kept .1 .0 ∙ c .before .before .before .before .before .before
-    .before .loop .inv .0
+same-length c =
+    let at-read = c .before .before .before .before in
+    at-read .read .kept .1 .0 ∙ at-read .before .before .before .loop .inv .0
 
 same-length-2 : tie.Need-same-length-2 Inv-loop μ-loop
 same-length-2 c = c .before .before .before .before .before .before .before .loop .inv .1
@@ -30,23 +31,20 @@ loop-less c = c .left-of .ensures (c .before .before .before .before .before .be
 
 loop-again : tie.Need-loop-again Inv-loop μ-loop
 loop-again c =
-    let at-loop = c .before .before .before .before .before .before .before .before .before .before .before .before .before
-    .before .before .before .before in (
-      c .before .before .before .before .before .before .before .before .before .before .before .before .before .before .read
-          .kept .1 .0 ∙ at-loop .loop .inv .0,
-      c .before .before .before .before .before .take-read .kept .1 .1 .0 ∙ at-loop
-          .loop .inv .1,
-    )
+    let at-take = c .before .before .before .before .before in
+    let at-read = at-take .before .before .before .before .before .before .before .before .before in
+    let at-loop = at-read .before .before .before in
+    (at-read .read .kept .1 .0 ∙ at-loop .loop .inv .0, at-take .take-read .kept .1 .1 .0 ∙ at-loop .loop .inv .1)
 
 same-length-3 : tie.Need-same-length-3 Inv-loop μ-loop
-same-length-3 c = c .before .before .before .before .before .loop .inv .0
+same-length-3 c = c .before .before .before .loop .inv .0
 
 same-length-4 : tie.Need-same-length-4 Inv-loop μ-loop
-same-length-4 c = c .before .before .ended .kept .1 .0 ∙ c .before .before .before .before .before .loop .inv .1
+same-length-4 c = c .before .before .before .loop .inv .1
 
 pub read-input-spec : {M : Type 1} → statement M
 read-input-spec =
     tie.close
-    (tie.spec Inv-loop μ-loop (search needs) (search needs) loop-holds (search needs) (search needs) same-length same-length-2
-    (search needs) (search needs) (search needs) (search needs) loop-less loop-again (search needs) same-length-3 same-length-4
+    (tie.spec Inv-loop μ-loop (search needs) loop-holds (search needs) (search needs) same-length same-length-2 (search needs)
+    (search needs) (search needs) (search needs) loop-less loop-again (search needs) same-length-3 same-length-4
     (search needs))
