@@ -11,12 +11,6 @@ ghost use lib.ListN.{length, take};
 ghost use Rattle.io.specs.Counts.{clamped};
 ghost use Rattle.table.specs.Taking.{TakesLog, Takes};
 
-// A sheet to go on with, where the log could be read.
-pub struct Went {
-    pub read: bool,
-    pub sheet: Sheet,
-}
-
 // Says what failed, and the system's reason.
 fn told(what: &[u8]) {
     source::told(b"sheet", what);
@@ -127,48 +121,51 @@ fn take_log_read(sheet: Sheet, held: &mut [u8; 49], buffer: &[u8], got: isize) -
     table::take_log(sheet, held, &buffer[..n])
 }
 
-// Reads a log to its end.
-fn read_log(start: Sheet, fd: i32, name: &[u8], held: &mut [u8; 49], buffer: &mut [u8]) -> Went {
+// Reads a log to its end. Where it can't be read, `read` is false then.
+fn read_log(start: Sheet, fd: i32, name: &[u8], held: &mut [u8; 49], buffer: &mut [u8], read: &mut bool) -> Sheet {
     let mut sheet = start;
     let mut left: u64 = 18446744073709551615;
     while left != 0 {
         let got = libc::read(fd, buffer);
         if got < 0 {
             told(name);
-            return Went { read: false, sheet };
+            *read = false;
+            return sheet;
         }
         let more = io::count(got, buffer);
         sheet = take_log_read(sheet, held, buffer, got);
         left = left_of(left, more as u64, false);
     }
-    Went { read: true, sheet }
+    sheet
 }
 
 // Reads the log in the file that an argument names.
-fn read_file(sheet: Sheet, index: usize, held: &mut [u8; 49], buffer: &mut [u8]) -> Went {
+fn read_file(sheet: Sheet, index: usize, held: &mut [u8; 49], buffer: &mut [u8], read: &mut bool) -> Sheet {
     let mut name = io::buffer();
     let source = source::named(b"sheet", b"[FILE..]", index, &mut name);
     if source.fd < 0 {
-        return Went { read: false, sheet };
+        *read = false;
+        return sheet;
     }
     let length = source.length;
-    let went = read_log(sheet, source.fd, &name[..length], held, buffer);
+    let behind = read_log(sheet, source.fd, &name[..length], held, buffer, read);
     source::done(source);
-    went
+    behind
 }
 
 // Makes the sheet of so many files. Where one can't be read, there is none.
 fn read_files(files: usize, held: &mut [u8; 49], buffer: &mut [u8], rows: &mut [u32]) {
     let mut sheet = table::start(files);
     let input = sheet.input;
+    let mut read = true;
     let mut i = if input.refusal == 0 { 0 } else { files };
     while i < files {
         i += 1;
-        let went = read_file(sheet, i, held, buffer);
-        if !went.read {
+        let behind = read_file(sheet, i, held, buffer, &mut read);
+        if !read {
             return;
         }
-        sheet = table::next_log(went.sheet, rows);
+        sheet = table::next_log(behind, rows);
     }
     print_sheet(sheet, rows);
 }

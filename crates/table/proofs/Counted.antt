@@ -9,6 +9,7 @@ use borrow.Author.Tests.{le-ltb}
 use lib.Dec.{ltb}
 use lib.ListN.{length, take, drop, length-append}
 use lib.Seq.{append-snoc}
+use Rattle.runs.proofs.Laws.{split}
 use Rattle.pieces.specs.Steps.{stoodOf}
 use Rattle.pieces.specs.Taken.{joinedOf}
 use Rattle.pieces.proofs.Walks.{stood-size}
@@ -23,7 +24,7 @@ use Rattle.figures.proofs.Adding.{added-closed, added-rows}
 use Rattle.figures.proofs.Walks.{any-division-counts}
 use Rattle.table.specs.declared.Input.{Input}
 use Rattle.table.specs.declared.Sheet.{Sheet}
-use Rattle.table.specs.Taking.{betweenOf, startOf, Stood, nextOf, rowsNext, pieceTaken, logEnded, withInput, standing}
+use Rattle.table.specs.Taking.{betweenOf, firstOf, behindLog, Stood, nextOf, rowsNext, countedBy, logEnded, standing}
 
 -- with these logs added and this part of the next one counted: what comes of any pieces of it and of any logs behind it
 pub record Counted (rows₀ : List ℕ) (s : Stood) (done : List (List ℕ)) (part : List ℕ) : Type 0 where
@@ -36,23 +37,23 @@ pub record Counted (rows₀ : List ℕ) (s : Stood) (done : List (List ℕ)) (pa
 
 module _ (rows₀ : List ℕ) where
   pub counted-start : (files : ℕ) (held : List ℕ) → length held ≡ 49 → Counted rows₀ (standing files held rows₀) [] []
-  unfolding startOf
+  unfolding firstOf
   counted-start files held size =
-      record { size = size; logs = refl; counts = λ ps long. any-division-counts held ps size long; adds = λ more. refl }
+      record {
+        size = size;
+        logs = split (ltb 4096 files) (λ t. rw t refl) (λ t. rw t refl);
+        counts = λ ps long. any-division-counts held ps size long;
+        adds = λ more. refl;
+      }
 
-  -- with the input elsewhere, and the same logs
-  pub counted-input : {s : Stood} {done : List (List ℕ)} {part : List ℕ} (i : Input) → i .logs ≡ s .sheet .input .logs
-      → Counted rows₀ s done part → Counted rows₀ (withInput s i) done part
-  counted-input i same c = record { size = c .size; logs = same ∙ c .logs; counts = c .counts; adds = c .adds }
-
-  -- behind a piece of the log
-  pub counted-piece : {s : Stood} {done : List (List ℕ)} {part : List ℕ} (piece : List ℕ) → Counted rows₀ s done part
-      → Counted rows₀ (pieceTaken s piece) done (part ++ piece)
+  -- behind a piece of the log, wherever the input stands
+  pub counted-by : {s : Stood} {done : List (List ℕ)} {part : List ℕ} (i : Input) (piece : List ℕ)
+      → i .logs ≡ s .sheet .input .logs → Counted rows₀ s done part → Counted rows₀ (countedBy s i piece) done (part ++ piece)
   unfolding tallyOver joinedOf
-  counted-piece {s} piece c =
+  counted-by {s} i piece same c =
       record {
         size = stood-size (s .sheet .tally .standing) (s .held) piece (c .size);
-        logs = c .logs;
+        logs = same ∙ c .logs;
         counts = λ (ps : List (List ℕ)) (long : _). rw append-assoc (c .counts (piece ∷ ps) (rw append-assoc at long));
         adds = c .adds;
       }
@@ -60,20 +61,19 @@ module _ (rows₀ : List ℕ) where
   -- behind a log
   pub next-input : {s : Stood} {done : List (List ℕ)} {log : List ℕ} → length done < 4096 → Counted rows₀ s done log
       → nextOf (s .sheet) .input ≡ betweenOf (s .sheet .input .refusal) (length done + 1)
-  unfolding nextOf
+  unfolding behindLog
   next-input {s} few c = rw (le-ltb 4095 (s .sheet .input .logs) (omega (arith, c .logs, few)), c .logs)
 
   pub counted-log : {s : Stood} {done : List (List ℕ)} {log : List ℕ} → length done < 4096 → length log ≤ 18446744073709551615
       → Counted rows₀ s done log → Counted rows₀ (logEnded s) (done ++ (log ∷ [])) []
-  unfolding nextOf rowsNext tallyOver joinedOf addedOver
+  unfolding tallyOver joinedOf addedOver
   counted-log {s} {done} {log} few long c =
-      let here : ltb 4095 (s .sheet .input .logs) ≡ false = le-ltb 4095 (s .sheet .input .logs) (omega (arith, c .logs, few)) in
       let count : s .sheet .tally .noted .counts ≡ capped (countsOf (heardIn log)) =
       rw append-nil at (c .counts [] (rw (append-nil log) long)) in
       let more : length (done ++ (log ∷ [])) ≡ length done + 1 = length-append done (log ∷ []) in
       record {
         size = c .size;
-        logs = rw here (rw (more, c .logs) refl);
-        counts = rw here (λ ps (long : _). any-division-counts (s .held) ps (c .size) long);
-        adds = rw here (λ (logs : List (List ℕ)). rw (more, c .logs, count, append-snoc done log logs) (c .adds (log ∷ logs)));
+        logs = ap (λ (i : Input). i .logs) (next-input few c) ∙ sym more;
+        counts = λ ps (long : _). any-division-counts (s .held) ps (c .size) long;
+        adds = λ (logs : List (List ℕ)). rw (more, c .logs, count, append-snoc done log logs) (c .adds (log ∷ logs));
       }

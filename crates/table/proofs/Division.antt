@@ -26,9 +26,9 @@ use Rattle.table.specs.Taking.{
   lastOf,
   startOf,
   Stood,
-  pieceTaken,
+  countedBy,
   logEnded,
-  withInput,
+  stepAt,
   settledOf,
   steppedBy,
   takenFrom,
@@ -39,7 +39,7 @@ use Rattle.table.specs.Taking.{
   standing,
   printedOver,
 }
-use Rattle.table.proofs.Counted.{Counted, counted-start, counted-input, counted-piece, next-input, counted-log}
+use Rattle.table.proofs.Counted.{Counted, counted-by, next-input, counted-log}
 use Rattle.table.proofs.Lengths.{
   digits-more,
   goes-facts,
@@ -55,7 +55,6 @@ use Rattle.table.proofs.Lengths.{
   rest-part,
   ends-in-log,
 }
-use Rattle.table.proofs.Printed.{refused-line, lines-table}
 
 -- logs before those that come
 abbrev pub withLogs : List (List ℕ) → Logs → Logs
@@ -121,7 +120,7 @@ module _ (rows₀ : List ℕ) (all : Logs) where
   module _ (s : Stood) (o : ℕ) (os later : List ℕ) where
     -- the sheet behind a step, and what comes then
     abbrev After : Step → Type 0
-    After step = Stands rows₀ all (steppedBy step s (o ∷ os)) (drop (step .used - 1) os ++ later)
+    After step = Stands rows₀ all (steppedBy step s (take (step .octets) (o ∷ os))) (drop (step .used - 1) os ++ later)
 
     abbrev step : Step
     step = stepOf (inputOf s) o (suc (length os))
@@ -201,7 +200,7 @@ module _ (rows₀ : List ℕ) (all : Logs) where
                 let long : length (ds ++ (o ∷ [])) ≡ length ds + 1 = length-append ds (o ∷ []) in
                 let value : numberOn 0 (ds ++ (o ∷ [])) ≡ 10 * numberOn 0 ds + (o - 48) = number-more 0 ds (o ∷ []) in
                 behind at
-                (between done (ds ++ (o ∷ [])) (counted-piece rows₀ [] (counted-input rows₀ i refl c))
+                (between done (ds ++ (o ∷ [])) (counted-by rows₀ i [] refl c)
                 (record {
                   none = refl;
                   out = refl;
@@ -234,7 +233,7 @@ module _ (rows₀ : List ℕ) (all : Logs) where
             past-newline : After step
             unfolding settledOf
             past-newline =
-                let counted = counted-piece rows₀ [] (counted-input rows₀ logNext refl c) in
+                let counted = counted-by rows₀ logNext [] refl c in
                 split (eqb (inputOf s .number) 0)
                 (λ t.
                 let none : inputOf s .number ≡ 0 = eqb-true (inputOf s .number) 0 t in
@@ -284,8 +283,8 @@ module _ (rows₀ : List ℕ) (all : Logs) where
         unfolding stepOf logStep
         in-log share e = rw (eq-eqb (inputOf s .refusal) 0 (w .none), ne-eqb left 0 (w .some), e)
 
-        counted : (ahead : List ℕ) → Counted rows₀ (pieceTaken (withInput s logGoes) ahead) done (part ++ ahead)
-        counted ahead = counted-piece rows₀ ahead (counted-input rows₀ logGoes refl c)
+        counted : (ahead : List ℕ) → Counted rows₀ (countedBy s logGoes ahead) done (part ++ ahead)
+        counted ahead = counted-by rows₀ logGoes ahead refl c
 
         past-end : left ≤ suc (length os) → leb left (suc (length os)) ≡ true → After step
         unfolding settledOf
@@ -337,7 +336,8 @@ module _ (rows₀ : List ℕ) (all : Logs) where
   past-octets used s [] later at = rw drop-nil at at
   past-octets (suc used) s (o ∷ os) later at = past-octets used s os later at
   past-octets zero s (o ∷ os) later at =
-      past-octets (step s o os later .used - 1) (steppedBy (step s o os later) s (o ∷ os)) os later (past-step s o os later at)
+      past-octets (stepAt s o os .used - 1) (steppedBy (stepAt s o os) s (take (stepAt s o os .octets) (o ∷ os))) os later
+      (past-step s o os later at)
 
   pub past-pieces : (s : Stood) (ps : List (List ℕ)) (rest : List ℕ) → Stands rows₀ all s (joinedOf ps ++ rest)
       → Stands rows₀ all (takenOver s ps) rest

@@ -1,6 +1,7 @@
 pub mod Cases
 pub mod Counted
 pub mod Division
+pub mod Files
 pub mod Laws
 pub mod Lengths
 pub mod One

@@ -10,12 +10,12 @@ use Rattle.table.proofs.line.Kinds as line-kinds
 use Rattle.table.proofs.line.Reads as line-reads
 use Rattle.table.proofs.next_log.Kinds as next-kinds
 use Rattle.table.proofs.next_log.Reads as next-reads
+use Rattle.table.proofs.open_log.Kinds as open-kinds
+use Rattle.table.proofs.open_log.Reads as open-reads
 use Rattle.table.proofs.start.Kinds as start-kinds
 use Rattle.table.proofs.start.Reads as start-reads
 use Rattle.table.proofs.take.Kinds as take-kinds
 use Rattle.table.proofs.take.Reads as take-reads
-use Rattle.table.proofs.take_log.Kinds as log-kinds
-use Rattle.table.proofs.take_log.Reads as log-reads
 
 pub start-one : One start-kinds.ps start-kinds.r start-reads.Pre start-reads.Post
 start-one κs a x y v w pre p q = (p ∙ sym q, refl)
@@ -25,8 +25,8 @@ take-one κs a x y v w pre p q =
     let same = p .stands ∙ sym (q .stands) in
     (λ i. same i .sheet, λ i. (tt, (same i .held, (same i .rows, (tt, tt)))))
 
-pub take-log-one : One log-kinds.ps log-kinds.r log-reads.Pre log-reads.Post
-take-log-one κs a x y v w pre p q = (p .goes-on ∙ sym (q .goes-on), λ i. (tt, ((p .holds ∙ sym (q .holds)) i, (tt, tt))))
+pub open-log-one : One open-kinds.ps open-kinds.r open-reads.Pre open-reads.Post
+open-log-one κs a x y v w pre p q = (p ∙ sym q, refl)
 
 pub next-log-one : One next-kinds.ps next-kinds.r next-reads.Pre next-reads.Post
 next-log-one κs a x y v w pre p q = (

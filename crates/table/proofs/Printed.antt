@@ -20,6 +20,7 @@ use Rattle.figures.specs.Figures.{countsOf, rowOf, tooMany}
 use Rattle.figures.specs.Sheets.{heardIn, totalsOf, rowsOf, refusedBy}
 use Rattle.figures.proofs.Adding.{added-closed, added-rows}
 use Rattle.table.specs.declared.Ended.{Ended}
+use Rattle.table.specs.declared.Input.{Input}
 use Rattle.table.specs.Table.{namesLine, logLine, allLine, refusedLine, logLines, tableOf}
 use Rattle.table.specs.Taking.{Stood, lastOf, refusedEnd, closedEnd, endedOf, rowAt, lineOf, linesFrom, linesOf}
 use Rattle.table.proofs.Counted.{Counted}
@@ -78,10 +79,21 @@ abbrev printed : Ended → List ℕ → List ℕ
 printed e rows = linesFrom e rows 0 (e .lines)
 
 -- one line alone of a sheet that is refused
-pub refused-line : (answer : Answer) (rows : List ℕ) → (answer .refusal ≡ 0 → ⊥)
+refused-line : (answer : Answer) (rows : List ℕ) → (answer .refusal ≡ 0 → ⊥)
     → printed (refusedEnd answer) rows ≡ refusedLine (answer .refusal)
 unfolding linesFrom lineOf
 refused-line answer rows some = rw (ne-eqb (answer .refusal) 0 some) (append-nil (refusedLine (answer .refusal)))
+
+-- the one line of a sheet whose input is refused at its end
+pub one-line : (s : Stood) {refusal : ℕ} → lastOf (s .sheet .input) ≡ refusal → (refusal ≡ 0 → ⊥) → linesOf s ≡ refusedLine refusal
+unfolding endedOf
+one-line s {refusal} is some =
+    let at : endedOf (s .sheet) ≡ refusedEnd (refusedBy refusal) = rw (is, ne-eqb refusal 0 some) in
+    ap (λ (e : Ended). printed e (s .rows)) at ∙ refused-line (refusedBy refusal) (s .rows) some
+
+pub stopped-last : (i : Input) → (i .refusal ≡ 0 → ⊥) → lastOf i ≡ i .refusal
+unfolding lastOf
+stopped-last i some = rw (ne-eqb (i .refusal) 0 some)
 
 -- all lines of one that isn't
 all-lines : (totals rows : List ℕ) (logs : List (List ℕ)) (past : List ℕ) → rows ≡ rowsOf logs ++ past

@@ -1,4 +1,4 @@
--- Laws of the steps along standard input, over plain values: a law for each return.
+-- Laws of where standard input stands, over plain values: a law for each return.
 -- Assumes nothing.
 use mathlib.Core.Bool.{Bool, true, false}
 use mathlib.Core.Path.{_≡_, refl, sym, _∙_, ap}
@@ -8,7 +8,7 @@ use borrow.Author.Tests.{eq-eqb, ne-eqb, lt-ltb, le-ltb, le-leb, lt-leb}
 use lib.Dec.{eqb, leb}
 use Rattle.table.specs.declared.Input.{Input}
 use Rattle.table.specs.declared.logs.Step.{Step}
-use Rattle.table.specs.Taking.{betweenOf, readOf, goesOn, lengthStep, shareOf, logStep, stepOf, lastOf}
+use Rattle.table.specs.Taking.{betweenOf, firstOf, behindLog, readOf, goesOn, lengthStep, shareOf, logStep, stepOf, lastOf}
 
 module _ (digits number octet : ℕ) where
   pub below-digits : octet < 48 → false ≡ goesOn digits number octet
@@ -34,6 +34,24 @@ module _ (digits number octet : ℕ) where
         long-number long =
             let over : 4294967295 < 10 * number + (octet - 48) = omega (arith, long) in
             sym (lt-leb (10 * number + (octet - 48)) 4294967295 over) ∙ by-number
+
+-- before the first log, and behind a log
+module _ {r : Input} where
+  pub first-many : (files : ℕ) → 4096 < files → r ≡ betweenOf 18 0 → r ≡ firstOf files
+  unfolding firstOf
+  first-many files many e = e ∙ sym (rw (lt-ltb 4096 files many))
+
+  pub first-few : (files : ℕ) → files ≤ 4096 → r ≡ betweenOf 0 0 → r ≡ firstOf files
+  unfolding firstOf
+  first-few files few e = e ∙ sym (rw (le-ltb 4096 files few))
+
+  pub next-18 : (i : Input) → 4095 < i .logs → r ≡ betweenOf 18 (i .logs) → r ≡ behindLog i
+  unfolding behindLog
+  next-18 i many e = e ∙ sym (rw (lt-ltb 4095 (i .logs) many))
+
+  pub next-one : (i : Input) → i .logs ≤ 4095 → r ≡ betweenOf (i .refusal) (i .logs + 1) → r ≡ behindLog i
+  unfolding behindLog
+  next-one i few e = e ∙ sym (rw (le-ltb 4095 (i .logs) few))
 
 -- an octet between two logs
 module _ (i : Input) (octet : ℕ) where

@@ -15,14 +15,15 @@ use Rattle.figures.specs.declared.Counts.{Counts}
 use Rattle.figures.specs.declared.Tally.{Tally}
 use Rattle.figures.specs.Adding.{Adds, closedOf}
 use Rattle.figures.specs.Sheets.{refusedBy}
-use Rattle.figures.specs.Taking.{startTally, Takes}
+use Rattle.figures.specs.Taking as figures
+use Rattle.figures.specs.Taking.{startTally, tallyAfter}
 use Rattle.table.specs.declared.Ended.{Ended}
 use Rattle.table.specs.declared.Input.{Input}
 use Rattle.table.specs.declared.Sheet.{Sheet}
 use Rattle.table.specs.declared.logs.Step.{Step}
 use Rattle.table.specs.Taking.{
-  betweenOf,
-  readOf,
+  firstOf,
+  behindLog,
   goesOn,
   lengthStep,
   logStep,
@@ -30,12 +31,10 @@ use Rattle.table.specs.Taking.{
   lastOf,
   startOf,
   Stood,
-  TakesLog,
   nextOf,
   rowsNext,
   EndsLog,
-  Settles,
-  withInput,
+  Steps,
   settledOf,
   steppedBy,
   takenFrom,
@@ -49,58 +48,45 @@ abbrev sheetOf : Input → Tally → Counts → Sheet
 sheetOf input tally totals = record { input = input; tally = tally; totals = totals }
 
 -- before the first octet
-begun : {t : Tally} {i : Input} (refusal : ℕ) → t ≡ startTally → i ≡ betweenOf refusal 0
-    → sheetOf i t (t .noted .counts) ≡ sheetOf (betweenOf refusal 0) startTally (startTally .noted .counts)
-begun refusal tally input j = sheetOf (input j) (tally j) (tally j .noted .counts)
-
-module _ (files : ℕ) {t : Tally} {i : Input} (tally : t ≡ startTally) where
-  pub starts-many : 4096 < files → i ≡ betweenOf 18 0 → sheetOf i t (t .noted .counts) ≡ startOf files
-  unfolding startOf
-  starts-many many input = begun 18 tally input ∙ sym (rw (lt-ltb 4096 files many))
-
-  pub starts-few : files ≤ 4096 → i ≡ betweenOf 0 0 → sheetOf i t (t .noted .counts) ≡ startOf files
-  unfolding startOf
-  starts-few few input = begun 0 tally input ∙ sym (rw (le-ltb 4096 files few))
-
--- a piece of a log
-pub takes-log : (s : Sheet) {held piece held₁ : List ℕ} {t : Tally} → Takes (s .tally) held piece t held₁
-    → TakesLog s held piece (sheetOf (s .input) t (s .totals)) held₁
-takes-log s p =
-    record {
-      goes-on = λ j. sheetOf (s .input) (p .goes-on j) (s .totals);
-      holds = p .holds;
-    }
+pub starts : (files : ℕ) {t : Tally} {i : Input} → t ≡ startTally → i ≡ firstOf files → sheetOf i t (t .noted .counts) ≡ startOf files
+starts files tally input j = sheetOf (input j) (tally j) (tally j .noted .counts)
 
 -- a log's end
-module _ (s : Sheet) (rows : List ℕ) where
-  pub ends-18 : {i : Input} → 4095 < s .input .logs → i ≡ betweenOf 18 (s .input .logs)
-      → EndsLog s rows (sheetOf i (s .tally) (s .totals)) rows
-  unfolding nextOf rowsNext
-  ends-18 many input =
-      record {
-        goes-on = (λ j. sheetOf (input j) (s .tally) (s .totals)) ∙ sym (rw (lt-ltb 4095 (s .input .logs) many));
-        rows-after = sym (rw (lt-ltb 4095 (s .input .logs) many));
-      }
+pub ends-log : (s : Sheet) (rows : List ℕ) {i : Input} {t : Tally} {totals : Counts} {rows₁ : List ℕ}
+    → Adds rows (s .input .logs) (s .totals) (s .tally .noted .counts) totals rows₁ → i ≡ behindLog (s .input) → t ≡ startTally
+    → EndsLog s rows (sheetOf i t totals) rows₁
+ends-log s rows added input tally =
+    record {
+      goes-on = λ j. sheetOf (input j) (tally j) (added .totals-are j);
+      rows-after = added .rows-after;
+    }
 
-  pub ends-added : {i : Input} {t : Tally} {totals : Counts} {rows₁ : List ℕ} → s .input .logs ≤ 4095
-      → Adds rows (s .input .logs) (s .totals) (s .tally .noted .counts) totals rows₁
-      → i ≡ betweenOf (s .input .refusal) (s .input .logs + 1) → t ≡ startTally
-      → EndsLog s rows (sheetOf i t totals) rows₁
-  unfolding nextOf rowsNext
-  ends-added few added input tally =
-      record {
-        goes-on = (λ j. sheetOf (input j) (tally j) (added .totals-are j))
-            ∙ sym (rw (le-ltb 4095 (s .input .logs) few));
-        rows-after = added .rows-after ∙ sym (rw (le-ltb 4095 (s .input .logs) few));
-      }
+-- a step: octets of the log are counted, and where it is whole it ends
+module _ (s : Sheet) (step : Step) (rows : List ℕ) {held octets held₁ : List ℕ} {t : Tally}
+    (takes : figures.Takes (s .tally) held octets t held₁)
+  where
+    pub steps-whole : {r : Sheet} {rows₁ : List ℕ} → step .whole ≡ true → EndsLog (sheetOf (step .input) t (s .totals)) rows r rows₁
+        → Steps s step held rows octets r held₁ rows₁
+    unfolding settledOf
+    steps-whole {r} {rows₁} whole ends =
+        record {
+          stands = rw whole (λ j. record {
+            sheet = (ends .goes-on ∙ ap (λ (x : Tally). nextOf (sheetOf (step .input) x (s .totals))) (takes .goes-on)) j;
+            held = takes .holds j;
+            rows = (ends .rows-after ∙ ap (λ (x : Tally). rowsNext (sheetOf (step .input) x (s .totals)) rows) (takes .goes-on)) j;
+          });
+        }
 
-  -- where it is one
-  pub settles-whole : {whole : Bool} {r : Sheet} {rows₁ : List ℕ} → whole ≡ true → EndsLog s rows r rows₁ → Settles s whole rows r rows₁
-  settles-whole is p =
-      record { goes-on = p .goes-on ∙ sym (rw is); rows-after = p .rows-after ∙ sym (rw is) }
-
-  pub settles-not : {whole : Bool} → whole ≡ false → Settles s whole rows s rows
-  settles-not is = record { goes-on = sym (rw is); rows-after = sym (rw is) }
+    pub steps-on : step .whole ≡ false → Steps s step held rows octets (sheetOf (step .input) t (s .totals)) held₁ rows
+    unfolding settledOf
+    steps-on on =
+        record {
+          stands = rw on (λ j. record {
+            sheet = sheetOf (step .input) (takes .goes-on j) (s .totals);
+            held = takes .holds j;
+            rows = rows;
+          });
+        }
 
 -- the end
 module _ (s : Sheet) where
@@ -153,32 +139,11 @@ step-used i octet room some =
     (λ d. rw (a, b, d) (some, omega arith, omega arith))))
     (λ a. rw a (some, omega arith, omega arith))
 
-taken-skips : (used : ℕ) (s : Stood) (octets : List ℕ) → takenFrom used s octets ≡ takenFrom 0 s (drop used octets)
+pub taken-skips : (used : ℕ) (s : Stood) (octets : List ℕ) → takenFrom used s octets ≡ takenFrom 0 s (drop used octets)
 unfolding takenFrom
 taken-skips zero s octets = refl
 taken-skips (suc used) s [] = refl
 taken-skips (suc used) s (o ∷ os) = taken-skips used s os
-
--- a step: the log's octets are counted, and where it is whole it ends
-steps : (s : Stood) (step : Step) (ahead : List ℕ) {counted r : Sheet} {held₁ rows₁ : List ℕ}
-    → TakesLog (withInput s (step .input) .sheet) (s .held) (take (step .octets) ahead) counted held₁
-    → Settles counted (step .whole) (s .rows) r rows₁
-    → record { sheet = r; held = held₁; rows = rows₁ } ≡ steppedBy step s ahead
-unfolding settledOf
-steps s step ahead {counted} {r} {held₁} {rows₁} takes settles =
-    split (step .whole)
-    (λ t.
-    let sheet : r ≡ nextOf counted = rw t at (settles .goes-on) in
-    let rows : rows₁ ≡ rowsNext counted (s .rows) = rw t at (settles .rows-after) in
-    rw t (λ j. record {
-      sheet = (sheet ∙ ap nextOf (takes .goes-on)) j;
-      held = takes .holds j;
-      rows = (rows ∙ ap (λ (c : Sheet). rowsNext c (s .rows)) (takes .goes-on)) j;
-    }))
-    (λ t.
-    let sheet : r ≡ counted = rw t at (settles .goes-on) in
-    let rows : rows₁ ≡ s .rows = rw t at (settles .rows-after) in
-    rw t (λ j. record { sheet = (sheet ∙ takes .goes-on) j; held = takes .holds j; rows = rows j }))
 
 -- along a piece: where the sheet stands, and what is left of the piece
 pub record Going (s₀ : Stood) (piece : List ℕ) (s : Stood) (place : ℕ) : Type 0 where
@@ -199,29 +164,28 @@ module _ {s₀ s : Stood} {piece : List ℕ} {place : ℕ} (g : Going s₀ piece
           (let facts = step-used (s .sheet .input) (getD piece place 0) (length piece - place) (omega (arith, here)) in
           (facts .0, omega (arith, facts .1, here), omega (arith, facts .2, here)))
 
-      pub going-turn : {counted r : Sheet} {held₁ rows₁ : List ℕ} {count : ℕ} → count ≡ step .octets
-          → TakesLog (withInput s (step .input) .sheet) (s .held) (take count (drop place piece)) counted held₁
-          → Settles counted (step .whole) (s .rows) r rows₁
+      pub going-turn : {r : Sheet} {held₁ rows₁ : List ℕ} {count : ℕ} → count ≡ step .octets
+          → Steps (s .sheet) step (s .held) (s .rows) (take count (drop place piece)) r held₁ rows₁
           → length rows₁ ≡ length (s .rows)
           → Going s₀ piece (record { sheet = r; held = held₁; rows = rows₁ }) (place + step .used)
       unfolding takenFrom
-      going-turn {counted} {r} {held₁} {rows₁} n takes settles kept =
+      going-turn n steps kept =
+          let o : ℕ = getD piece place 0 in
           let os : List ℕ = drop (suc place) piece in
-          let ahead : drop place piece ≡ getD piece place 0 ∷ os = drop-cons piece place 0 here in
+          let ahead : drop place piece ≡ o ∷ os = drop-cons piece place 0 here in
           let room : length piece - place ≡ suc (length os) = omega (arith, length-drop (suc place) piece, here) in
-          let stepped = steps s step (getD piece place 0 ∷ os) (rw (n, ahead) at takes) settles in
+          let past : Stood = steppedBy step s (take (step .octets) (o ∷ os)) in
           let further : drop (step .used - 1) os ≡ drop (place + step .used) piece =
           drop-drop (step .used - 1) (suc place) piece
           ∙ ap (λ (k : ℕ). drop k piece)
           (let e : suc place + (step .used - 1) ≡ place + step .used = omega (arith, going-on .0) in e) in
-          let past : Stood = steppedBy step s (getD piece place 0 ∷ os) in
           record {
             within = going-on .1;
-            stands = ap (λ (t : Stood). takenOf t (drop (place + step .used) piece)) stepped
+            stands = ap (λ (t : Stood). takenOf t (drop (place + step .used) piece)) (rw (n, ahead) at (steps .stands))
                 ∙ ap (λ (l : List ℕ). takenOf past l) (sym further)
                 ∙ sym (taken-skips (step .used - 1) past os)
-                ∙ ap (λ (t : Step). takenFrom (t .used - 1) (steppedBy t s (getD piece place 0 ∷ os)) os)
-                (is ∙ ap (stepOf (s .sheet .input) (getD piece place 0)) room)
+                ∙ ap (λ (t : Step). takenFrom (t .used - 1) (steppedBy t s (take (t .octets) (o ∷ os))) os)
+                (is ∙ ap (stepOf (s .sheet .input) o) room)
                 ∙ ap (λ (l : List ℕ). takenOf s l) (sym ahead)
                 ∙ g .stands;
             same = kept ∙ g .same;

@@ -29,10 +29,10 @@ use Rattle.table.specs.Taking.{
   logStep,
   stepOf,
   lastOf,
+  firstOf,
+  behindLog,
   startOf,
   Stood,
-  nextOf,
-  rowsNext,
   settledOf,
   takenFrom,
   closedEnd,
@@ -46,16 +46,16 @@ use Rattle.table.proofs.line.Kinds as line-kinds
 use Rattle.table.proofs.line.Reads as line-reads
 use Rattle.table.proofs.next_log.Kinds as next-kinds
 use Rattle.table.proofs.next_log.Reads as next-reads
+use Rattle.table.proofs.open_log.Kinds as open-kinds
+use Rattle.table.proofs.open_log.Reads as open-reads
 use Rattle.table.proofs.start.Kinds as start-kinds
 use Rattle.table.proofs.start.Reads as start-reads
 use Rattle.table.proofs.take.Kinds as take-kinds
 use Rattle.table.proofs.take.Reads as take-reads
-use Rattle.table.proofs.take_log.Kinds as log-kinds
-use Rattle.table.proofs.take_log.Reads as log-reads
 
 -- every definition on the way down to the numbers
 unfolded : Unit {0}
-unfolding goesOn lengthStep logStep stepOf lastOf startOf nextOf rowsNext settledOf takenFrom closedEnd endedOf rowAt lineOf
+unfolding goesOn lengthStep logStep stepOf lastOf firstOf behindLog settledOf takenFrom closedEnd endedOf rowAt lineOf
 unfolded = tt
 
 counted : Unit {0}
@@ -90,6 +90,17 @@ module _ (κs : Lfts 0) where
   pub most-files-not-refused : Started 4096 (λ x. x .input .refusal ≡ 18)
   unfolding unfolded
   most-files-not-refused x v wrong s = let right : x .input .refusal ≡ 0 = ap (λ (t : Sheet). t .input .refusal) s in omega arith
+
+  abbrev Opened : (Sheet → Type 0) → Type 0
+  Opened Wrong = Never open-kinds.ps open-kinds.r open-reads.Post κs (at (betweenOf 0 2), tt) (λ x v. Wrong x)
+
+  -- a file's log taken for one of no octets, and counted before it is read
+  pub file-not-empty : Opened (λ x. x .input .left ≡ 0)
+  file-not-empty x v wrong s =
+      let right : x .input .left ≡ 18446744073709551615 = ap (λ (t : Sheet). t .input .left) s in omega arith
+
+  pub file-not-counted-yet : Opened (λ x. x .input .logs ≡ 3)
+  file-not-counted-yet x v wrong s = let right : x .input .logs ≡ 2 = ap (λ (t : Sheet). t .input .logs) s in omega arith
 
   abbrev Closed : Sheet → (Ended → Type 0) → Type 0
   Closed sheet Wrong = Never end-kinds.ps end-kinds.r end-reads.Post κs (sheet, tt) (λ x v. Wrong x)
@@ -144,6 +155,12 @@ module _ (κs : Lfts 3) (p q r : Place) where
   next-length-not-shared x v wrong s =
       let right : x .input .left ≡ 12 = ap (λ (t : Stood). t .sheet .input .left) (s .stands) in omega arith
 
+  -- the octets of a record that isn't whole yet forgotten
+  pub octets-not-forgotten : Taken (at seven) (0x56 ∷ 2 ∷ 0 ∷ 0 ∷ 7 ∷ []) (λ x rows. x .tally .standing .count ≡ 0)
+  unfolding counted
+  octets-not-forgotten x v wrong s =
+      let right : x .tally .standing .count ≡ 2 = ap (λ (t : Stood). t .sheet .tally .standing .count) (s .stands) in omega arith
+
   -- a log of no octets passed over: neither counted nor with a row
   pub empty-log-not-passed-over : Taken (startOf 0) (words "0\n") (λ x rows. x .input .logs ≡ 0)
   unfolding counted
@@ -154,22 +171,6 @@ module _ (κs : Lfts 3) (p q r : Place) where
   unfolding counted
   row-not-left-out x v wrong s =
       let right : getD (v .1 .1 .0) 0 0 ≡ 0 = ap (λ (t : Stood). getD (t .rows) 0 0) (s .stands) in omega arith
-
-module _ (κs : Lfts 2) (p q : Place) where
-  abbrev Log : List ℕ → (Sheet → List ℕ → Type 0) → Type 0
-  Log piece Wrong =
-      Never log-kinds.ps log-kinds.r log-reads.Post κs (at seven, (lent p (replicate 49 0), (lent q piece, tt)))
-      (λ x v. Wrong x (v .1 .0))
-
-  -- the octets of a record that isn't whole yet forgotten, and those of standard input moved
-  pub octets-not-forgotten : Log (0x56 ∷ 2 ∷ 0 ∷ 0 ∷ 7 ∷ []) (λ x held. x .tally .standing .count ≡ 0)
-  unfolding counted
-  octets-not-forgotten x v wrong s =
-      let right : x .tally .standing .count ≡ 2 = ap (λ (t : Sheet). t .tally .standing .count) (s .goes-on) in omega arith
-
-  pub input-not-moved : Log (0x56 ∷ 2 ∷ []) (λ x held. x .input .left ≡ 5)
-  unfolding counted
-  input-not-moved x v wrong s = let right : x .input .left ≡ 7 = ap (λ (t : Sheet). t .input .left) (s .goes-on) in omega arith
 
 module _ (κs : Lfts 1) (p : Place) where
   abbrev Next : Input → (Sheet → List ℕ → Type 0) → Type 0

@@ -26,6 +26,14 @@ use Rattle.table.specs.Table.{namesLine, logLine, allLine, refusedLine}
 abbrev pub betweenOf : ℕ → ℕ → Input
 betweenOf refusal logs = record { refusal = refusal; logs = logs; left = 0; digits = 0; number = 0 }
 
+-- before the first log of so many files
+unfoldable pub firstOf : ℕ → Input
+firstOf files = cond (ltb 4096 files) (betweenOf 18 0) (betweenOf 0 0)
+
+-- behind a log that ends here
+unfoldable pub behindLog : Input → Input
+behindLog i = cond (ltb 4095 (i .logs)) (betweenOf 18 (i .logs)) (betweenOf (i .refusal) (i .logs + 1))
+
 -- an octet of a length, behind which no log is whole
 abbrev pub readOf : Input → Step
 readOf i = record { input = i; octets = 0; used = 1; whole = false }
@@ -83,9 +91,8 @@ lastOf i =
     cond (eqb (i .refusal) 0) (cond (eqb (i .left) 0) (cond (eqb (i .digits) 0) 0 5) 5) (i .refusal)
 
 -- a sheet before the first octet of so many files
-unfoldable pub startOf : ℕ → Sheet
-startOf files =
-    record { input = betweenOf (cond (ltb 4096 files) 18 0) 0; tally = startTally; totals = noCounts }
+abbrev pub startOf : ℕ → Sheet
+startOf files = record { input = firstOf files; tally = startTally; totals = noCounts }
 
 -- where a sheet stands: itself, and what the lent array and the lent rows hold
 pub record Stood : Type 0 where
@@ -93,75 +100,75 @@ pub record Stood : Type 0 where
   pub held : List ℕ
   pub rows : List ℕ
 
--- behind a piece of the log that is counted
-abbrev pub logAfter : Sheet → List ℕ → List ℕ → Sheet
-logAfter s held piece = record { input = s .input; tally = tallyAfter (s .tally) held piece; totals = s .totals }
+-- with the log of a file that begins
+abbrev pub openedOf : Sheet → Sheet
+openedOf s =
+    record {
+      input = record {
+        refusal = s .input .refusal;
+        logs = s .input .logs;
+        left = 18446744073709551615;
+        digits = 0;
+        number = 0;
+      };
+      tally = s .tally;
+      totals = s .totals;
+    }
 
--- the whole promise of a piece of a log: the answer, and what the lent array holds afterwards
-pub record TakesLog (s : Sheet) (held piece : List ℕ) (answer : Sheet) (held₁ : List ℕ) : Type 0 where
-  pub goes-on : answer ≡ logAfter s held piece
-  pub holds : held₁ ≡ stoodOf (s .tally .standing) held piece .held
-
--- behind a log that ends here
-unfoldable pub nextOf : Sheet → Sheet
+-- behind a log that ends here, and its row
+abbrev pub nextOf : Sheet → Sheet
 nextOf s =
-    cond (ltb 4095 (s .input .logs))
-    (record { input = betweenOf 18 (s .input .logs); tally = s .tally; totals = s .totals })
-    (record {
-      input = betweenOf (s .input .refusal) (s .input .logs + 1);
+    record {
+      input = behindLog (s .input);
       tally = startTally;
       totals = capped (plusOf (s .totals) (s .tally .noted .counts));
-    })
+    }
 
-unfoldable pub rowsNext : Sheet → List ℕ → List ℕ
-rowsNext s rows = cond (ltb 4095 (s .input .logs)) rows (rowsWith rows (s .input .logs) (s .tally .noted .counts))
+abbrev pub rowsNext : Sheet → List ℕ → List ℕ
+rowsNext s rows = rowsWith rows (s .input .logs) (s .tally .noted .counts)
 
 -- the whole promise of a log's end: the answer, and what the lent rows hold afterwards
 pub record EndsLog (s : Sheet) (rows : List ℕ) (answer : Sheet) (rows₁ : List ℕ) : Type 0 where
   pub goes-on : answer ≡ nextOf s
   pub rows-after : rows₁ ≡ rowsNext s rows
 
--- a log's end, where it is whole
-pub record Settles (s : Sheet) (whole : Bool) (rows : List ℕ) (answer : Sheet) (rows₁ : List ℕ) : Type 0 where
-  pub goes-on : answer ≡ cond whole (nextOf s) s
-  pub rows-after : rows₁ ≡ cond whole (rowsNext s rows) rows
-
--- the same of where a sheet stands: behind a piece of the log, and behind its end
-abbrev pub pieceTaken : Stood → List ℕ → Stood
-pieceTaken s piece =
+-- where a sheet stands behind octets of a log, with the input there
+abbrev pub countedBy : Stood → Input → List ℕ → Stood
+countedBy s i octets =
     record {
-      sheet = logAfter (s .sheet) (s .held) piece;
-      held = stoodOf (s .sheet .tally .standing) (s .held) piece .held;
+      sheet = record { input = i; tally = tallyAfter (s .sheet .tally) (s .held) octets; totals = s .sheet .totals };
+      held = stoodOf (s .sheet .tally .standing) (s .held) octets .held;
       rows = s .rows;
     }
 
+-- and behind a log's end
 abbrev pub logEnded : Stood → Stood
 logEnded s = record { sheet = nextOf (s .sheet); held = s .held; rows = rowsNext (s .sheet) (s .rows) }
 
--- behind a step along the octets ahead: the log ends where it is whole
-abbrev pub withInput : Stood → Input → Stood
-withInput s i =
-    record {
-      sheet = record { input = i; tally = s .sheet .tally; totals = s .sheet .totals };
-      held = s .held;
-      rows = s .rows;
-    }
-
+-- a step: the log ends where it is whole
 unfoldable pub settledOf : Bool → Stood → Stood
 settledOf whole s = cond whole (logEnded s) s
 
 abbrev pub steppedBy : Step → Stood → List ℕ → Stood
-steppedBy step s ahead = settledOf (step .whole) (pieceTaken (withInput s (step .input)) (take (step .octets) ahead))
+steppedBy step s octets = settledOf (step .whole) (countedBy s (step .input) octets)
+
+pub record Steps (s : Sheet) (step : Step) (held rows octets : List ℕ) (answer : Sheet) (held₁ rows₁ : List ℕ) : Type 0 where
+  pub stands : record { sheet = answer; held = held₁; rows = rows₁ }
+      ≡ steppedBy step (record { sheet = s; held = held; rows = rows }) octets
+
+-- what the octets ahead are
+abbrev pub stepAt : Stood → ℕ → List ℕ → Step
+stepAt s octet octets = stepOf (s .sheet .input) octet (suc (length octets))
 
 -- behind octets, the first so many of which are used already
 unfoldable pub takenFrom : ℕ → Stood → List ℕ → Stood
 takenFrom used s [] = s
 takenFrom (suc used) s (octet ∷ octets) = takenFrom used s octets
 takenFrom zero s (octet ∷ octets) =
-    takenFrom (stepOf (s .sheet .input) octet (suc (length octets)) .used - 1)
-    (steppedBy (stepOf (s .sheet .input) octet (suc (length octets))) s (octet ∷ octets)) octets
+    takenFrom (stepAt s octet octets .used - 1)
+    (steppedBy (stepAt s octet octets) s (take (stepAt s octet octets .octets) (octet ∷ octets))) octets
 
--- behind a piece of standard input
+-- behind a piece
 abbrev pub takenOf : Stood → List ℕ → Stood
 takenOf s piece = takenFrom 0 s piece
 
@@ -203,7 +210,7 @@ linesFrom e rows index (suc more) = lineOf e rows index ++ linesFrom e rows (ind
 abbrev pub linesOf : Stood → List ℕ
 linesOf s = linesFrom (endedOf (s .sheet)) (s .rows) 0 (endedOf (s .sheet) .lines)
 
--- standard input in pieces, each taken where the one before it left off: where the sheet stands, and all that is printed then
+-- pieces, each taken where the one before it left off
 unfoldable pub takenOver : Stood → List (List ℕ) → Stood
 takenOver s [] = s
 takenOver s (piece ∷ pieces) = takenOver (takenOf s piece) pieces
@@ -211,17 +218,18 @@ takenOver s (piece ∷ pieces) = takenOver (takenOf s piece) pieces
 abbrev pub standing : ℕ → List ℕ → List ℕ → Stood
 standing files held rows = record { sheet = startOf files; held = held; rows = rows }
 
+-- all that is printed of standard input in pieces
 abbrev pub printedOver : List ℕ → List ℕ → List (List ℕ) → List ℕ
 printedOver held rows pieces = linesOf (takenOver (standing 0 held rows) pieces)
 
--- a file in pieces, to the end of its log; and files one after the other
-unfoldable pub fileOver : Stood → List (List ℕ) → Stood
-fileOver s [] = logEnded s
-fileOver s (piece ∷ pieces) = fileOver (pieceTaken s piece) pieces
+-- files one after the other, each in pieces
+abbrev pub logOpened : Stood → Stood
+logOpened s = record { sheet = openedOf (s .sheet); held = s .held; rows = s .rows }
 
 unfoldable pub filesOver : Stood → List (List (List ℕ)) → Stood
 filesOver s [] = s
-filesOver s (file ∷ files) = filesOver (fileOver s file) files
+filesOver s (file ∷ files) = filesOver (logEnded (takenOver (logOpened s) file)) files
 
+-- and all that is printed of them
 abbrev pub printedOverFiles : List ℕ → List ℕ → List (List (List ℕ)) → List ℕ
 printedOverFiles held rows files = linesOf (filesOver (standing (length files) held rows) files)

@@ -3,10 +3,11 @@
 use figures::Answer;
 use figures::Counts;
 use figures::Tally;
+use logs::Step;
 use text::Put;
 ghost use mathlib.Core.Path.{_≡_};
 ghost use Rattle.table.specs.Table.{Prints};
-ghost use Rattle.table.specs.Taking.{startOf, endedOf, lineOf, TakesLog, EndsLog, Settles, Takes};
+ghost use Rattle.table.specs.Taking.{startOf, openedOf, endedOf, lineOf, EndsLog, Steps, Takes};
 
 mod lines; // lines.rt: the lines of a table
 mod logs; // logs.rt: logs after their lengths
@@ -39,18 +40,10 @@ pub struct Ended {
 pub fn start(files: usize) -> Sheet
     ensures { λ r. ⌜ r ≡ startOf files ⌝ }
 {
+    let input = logs::first(files);
     let tally = figures::start();
     let noted = tally.noted;
     let totals = noted.counts;
-    if 4096 < files {
-        let many = logs::between(18, 0);
-        return Sheet {
-            input: many,
-            tally,
-            totals,
-        };
-    }
-    let input = logs::between(0, 0);
     Sheet {
         input,
         tally,
@@ -58,15 +51,23 @@ pub fn start(files: usize) -> Sheet
     }
 }
 
-// Takes a piece of the log that is counted. The octets of a record that isn't whole yet are held in `held`.
-pub fn take_log(sheet: Sheet, held: &mut [u8; 49], piece: &[u8]) -> Sheet
-    ensures { λ r. ⌜ TakesLog sheet (now (held .entry)) (now (piece .entry)) r (now (held .exit)) ⌝ }
+// The log of a file begins: nobody knows its length, and no file has so many octets as there may be.
+pub fn open_log(sheet: Sheet) -> Sheet
+    ensures { λ r. ⌜ r ≡ openedOf sheet ⌝ }
 {
     let input = sheet.input;
+    let refusal = input.refusal;
+    let logs = input.logs;
+    let tally = sheet.tally;
     let totals = sheet.totals;
-    let tally = figures::take(sheet.tally, held, piece);
     Sheet {
-        input,
+        input: Input {
+            refusal,
+            logs,
+            left: 18446744073709551615,
+            digits: 0,
+            number: 0,
+        },
         tally,
         totals,
     }
@@ -77,61 +78,49 @@ pub fn next_log(sheet: Sheet, rows: &mut [u32]) -> Sheet
     ensures { λ r. ⌜ EndsLog sheet (now (rows .entry)) r (now (rows .exit)) ⌝ }
 {
     let input = sheet.input;
-    let tally = sheet.tally;
-    let logs = input.logs;
-    let before = sheet.totals;
-    if 4095 < logs {
-        let many = logs::between(18, logs);
-        return Sheet {
-            input: many,
-            tally,
-            totals: before,
-        };
-    }
-    let noted = tally.noted;
-    let totals = figures::add(rows, logs, before, noted.counts);
-    let behind = logs::between(input.refusal, logs + 1);
-    let fresh = figures::start();
+    let counted = sheet.tally;
+    let noted = counted.noted;
+    let totals = figures::add(rows, input.logs, sheet.totals, noted.counts);
+    let behind = logs::next(input);
+    let tally = figures::start();
     Sheet {
         input: behind,
-        tally: fresh,
+        tally,
         totals,
     }
 }
 
-// Adds the log where it is whole.
-fn settled(sheet: Sheet, whole: bool, rows: &mut [u32]) -> Sheet
-    ensures { λ r. ⌜ Settles sheet whole (now (rows .entry)) r (now (rows .exit)) ⌝ }
+// Counts octets of a log, with the input behind them. Where the log is whole it is added.
+fn stepped(sheet: Sheet, step: Step, held: &mut [u8; 49], rows: &mut [u32], octets: &[u8]) -> Sheet
+    ensures { λ r. ⌜ Steps sheet step (now (held .entry)) (now (rows .entry)) (now (octets .entry)) r (now (held .exit))
+        (now (rows .exit)) ⌝ }
 {
-    if whole {
-        return next_log(sheet, rows);
+    let input = step.input;
+    let totals = sheet.totals;
+    let tally = figures::take(sheet.tally, held, octets);
+    let counted = Sheet {
+        input,
+        tally,
+        totals,
+    };
+    if step.whole {
+        return next_log(counted, rows);
     }
-    sheet
+    counted
 }
 
-// Takes a piece of standard input: digits of a length, or octets of a log. The octets of a record that isn't whole yet are held in
-// `held`; each log that is whole has its row written into `rows`. Behind a refusal nothing is read.
+// Takes a piece of standard input, digits of a length or octets of a log, or a piece of a file. The octets of a record that isn't
+// whole yet are held in `held`; each log that is whole has its row written into `rows`. Behind a refusal nothing is read.
 pub fn take(sheet: Sheet, held: &mut [u8; 49], rows: &mut [u32], piece: &[u8]) -> Sheet
-    ensures { λ r. ⌜ Takes sheet (now (held .entry)) (now (rows .entry)) (now (piece .entry)) r (now (held .exit)) (now (rows .exit)) ⌝ }
+    ensures { λ r. ⌜ Takes sheet (now (held .entry)) (now (rows .entry)) (now (piece .entry)) r (now (held .exit))
+        (now (rows .exit)) ⌝ }
 {
     let mut going = sheet;
     let mut place = 0;
     while place < piece.len() {
         let step = logs::ahead(going.input, piece[place], piece.len() - place);
-        let input = step.input;
         let end = place + step.octets;
-        let tally = going.tally;
-        let totals = going.totals;
-        let counted = take_log(
-            Sheet {
-                input,
-                tally,
-                totals,
-            },
-            held,
-            &piece[place..end],
-        );
-        going = settled(counted, step.whole, rows);
+        going = stepped(going, step, held, rows, &piece[place..end]);
         place += step.used;
     }
     going

@@ -1,7 +1,7 @@
 // Logs on standard input, each after its length: what the next octets belong to.
 use crate::Input;
 ghost use mathlib.Core.Path.{_≡_};
-ghost use Rattle.table.specs.Taking.{betweenOf, readOf, goesOn, lengthStep, logStep, stepOf, lastOf};
+ghost use Rattle.table.specs.Taking.{betweenOf, firstOf, behindLog, readOf, goesOn, lengthStep, logStep, stepOf, lastOf};
 
 // What the octets ahead are: how many belong to the log that is read, how many are used, whether the log is whole behind them, and
 // the input there.
@@ -13,7 +13,7 @@ pub(crate) struct Step {
 }
 
 // Between two logs, so many of them whole, with this refusal.
-pub(crate) fn between(refusal: u8, logs: usize) -> Input
+fn between(refusal: u8, logs: usize) -> Input
     ensures { λ r. ⌜ r ≡ betweenOf refusal logs ⌝ }
 {
     Input {
@@ -23,6 +23,27 @@ pub(crate) fn between(refusal: u8, logs: usize) -> Input
         digits: 0,
         number: 0,
     }
+}
+
+// Before the first log of so many files: 18 for more than 4,096.
+pub(crate) fn first(files: usize) -> Input
+    ensures { λ r. ⌜ r ≡ firstOf files ⌝ }
+{
+    if 4096 < files {
+        return between(18, 0);
+    }
+    between(0, 0)
+}
+
+// Behind a log that ends here: 18 where it isn't one of the first 4,096.
+pub(crate) fn next(input: Input) -> Input
+    ensures { λ r. ⌜ r ≡ behindLog input ⌝ }
+{
+    let logs = input.logs;
+    if 4095 < logs {
+        return between(18, logs);
+    }
+    between(input.refusal, logs + 1)
 }
 
 // An octet behind which the input is refused.

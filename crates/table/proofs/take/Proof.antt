@@ -1,6 +1,6 @@
 -- `table::take` meets its contract. The loop goes along the piece; the measure is what is left of it.
 -- Assumes nothing.
-use mathlib.Core.Path.{_≡_, _∙_}
+use mathlib.Core.Path.{_≡_}
 use Prim.Native.Nat.{_+_, _-_, _≤_, _<_}
 use native.Mathlib.Nat.{add-sub-cancel-left}
 use native.Mathlib.Omega.{arith}
@@ -30,29 +30,27 @@ on : (c : tie.After-ahead Inv-loop μ-loop)
 on c = going-on (c .before .before .before .loop .inv) (c .before .before .loop-test .taken) (c .ahead .ensures)
 
 add-end : tie.Need-add-end Inv-loop μ-loop
-add-end c = omega (arith, on (c .before .before) .2, c .before .before .before .before .before .before .before .before .good)
+add-end c = omega (arith, on (c .before) .2, c .before .before .before .before .before .before .before .good)
 
-part-take-log-end : tie.Need-part-take-log-end Inv-loop μ-loop
-part-take-log-end c = on (c .before .before .before .before .before) .2
+part-stepped-end : tie.Need-part-stepped-end Inv-loop μ-loop
+part-stepped-end c = on (c .before .before .before) .2
 
 add-place : tie.Need-add-place Inv-loop μ-loop
 add-place c =
-    let at-ahead = c .before .before .before .before .before .before .before .before .before .before .before .before in
+    let at-ahead = c .before .before .before .before .before .before .before .before in
     omega (arith, on at-ahead .1, at-ahead .before .before .before .before .before .before .good)
 
 loop-less : tie.Need-loop-less Inv-loop μ-loop
-loop-less c =
-    let at-ahead = c .before .before .before .before .before .before .before .before .before .before .before .before in
-    omega (arith, on at-ahead)
+loop-less c = omega (arith, on (c .before .before .before .before .before .before .before .before))
 
 loop-again : tie.Need-loop-again Inv-loop μ-loop
 loop-again c =
-    let at-take = c .before .before .before .before .before in
-    let at-ahead = at-take .before .before .before .before .before .before .before in
+    let at-step = c .before .before .before in
+    let at-ahead = at-step .before .before .before .before .before in
     let at-loop = at-ahead .before .before .before in
     going-turn (at-loop .loop .inv) (at-ahead .before .before .loop-test .taken) (at-ahead .ahead .ensures)
     (add-sub-cancel-left (at-loop .loop .place) (at-ahead .ahead .result .octets))
-    (at-take .take-log .ensures) (c .before .before .before .settled .ensures) (c .before .before .before .settled .kept .1 .1 .0)
+    (at-step .stepped .ensures) (at-step .stepped .kept .1 .1 .1 .0)
 
 same-length : tie.Need-same-length Inv-loop μ-loop
 same-length c = c .before .loop .inv .same
@@ -64,4 +62,4 @@ pub take-spec : {M : Type 1} → statement M
 take-spec =
     tie.close
     (tie.spec Inv-loop μ-loop loop-holds (search needs) (search needs) (search needs) add-end (search needs) (search needs)
-    part-take-log-end (search needs) (search needs) add-place loop-less loop-again same-length returns)
+    part-stepped-end (search needs) add-place loop-less loop-again same-length returns)
