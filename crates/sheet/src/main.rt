@@ -2,6 +2,7 @@
 // log stands after its length. Everything that matters is in `table`; here the logs are read piece by piece, and the lines are
 // written when all are read.
 use libc::STDOUT_FILENO;
+use source::Source;
 use table::Ended;
 use table::Sheet;
 ghost use mathlib.Core.Bool.{true};
@@ -9,7 +10,7 @@ ghost use mathlib.Core.Path.{_≡_};
 ghost use Prim.Native.Nat.{_≤_, _<_};
 ghost use lib.ListN.{length, take};
 ghost use Rattle.io.specs.Counts.{clamped};
-ghost use Rattle.table.specs.Taking.{TakesLog, Takes};
+ghost use Rattle.table.specs.Taking.{Takes};
 
 // Says what failed, and the system's reason.
 fn told(what: &[u8]) {
@@ -66,7 +67,7 @@ fn left_of(left: u64, more: u64, stops: bool) -> u64
     left - more
 }
 
-// Takes just what a read of standard input delivered: the first octets of the buffer, as many as the read said.
+// Takes just what a read delivered: the first octets of the buffer, as many as the read said.
 fn take_read(
     sheet: Sheet,
     held: &mut [u8; 49],
@@ -81,48 +82,16 @@ fn take_read(
     table::take(sheet, held, rows, &buffer[..n])
 }
 
-// Reads logs with their lengths to the end of the input. `name` is what a failed read is told of.
-fn read_input(fd: i32, name: &[u8], held: &mut [u8; 49], buffer: &mut [u8], rows: &mut [u32]) {
-    let mut sheet = table::start(0);
-    let mut left: u64 = 18446744073709551615;
-    while left != 0 {
-        let got = libc::read(fd, buffer);
-        if got < 0 {
-            told(name);
-            return;
-        }
-        let more = io::count(got, buffer);
-        sheet = take_read(sheet, held, rows, buffer, got);
-        let input = sheet.input;
-        left = left_of(left, more as u64, input.refusal != 0);
-    }
-    print_sheet(sheet, rows);
-}
-
-// Makes the sheet of the logs on standard input.
-fn from_input(rows: &mut [u32]) {
-    let mut name = io::buffer();
-    let source = source::input(b"sheet", b"[FILE..]", &mut name);
-    if source.fd < 0 {
-        return;
-    }
-    let length = source.length;
-    let mut held = [0u8; 49];
-    let mut buffer = io::large_buffer();
-    read_input(source.fd, &name[..length], &mut held, &mut buffer, rows);
-}
-
-// Takes just what a read of a log delivered.
-fn take_log_read(sheet: Sheet, held: &mut [u8; 49], buffer: &[u8], got: isize) -> Sheet
-    ensures { λ r. ⌜ TakesLog sheet (now (held .entry)) (take (clamped got (length (now (buffer .entry)))) (now (buffer .entry)))
-        r (now (held .exit)) ⌝ }
-{
-    let n = io::count(got, buffer);
-    table::take_log(sheet, held, &buffer[..n])
-}
-
-// Reads a log to its end. Where it can't be read, `read` is false then.
-fn read_log(start: Sheet, fd: i32, name: &[u8], held: &mut [u8; 49], buffer: &mut [u8], read: &mut bool) -> Sheet {
+// Reads to the end, or to a refusal. `name` is what a failed read is told of; `read` is false then.
+fn read_all(
+    start: Sheet,
+    fd: i32,
+    name: &[u8],
+    held: &mut [u8; 49],
+    buffer: &mut [u8],
+    rows: &mut [u32],
+    read: &mut bool,
+) -> Sheet {
     let mut sheet = start;
     let mut left: u64 = 18446744073709551615;
     while left != 0 {
@@ -133,69 +102,113 @@ fn read_log(start: Sheet, fd: i32, name: &[u8], held: &mut [u8; 49], buffer: &mu
             return sheet;
         }
         let more = io::count(got, buffer);
-        sheet = take_log_read(sheet, held, buffer, got);
-        left = left_of(left, more as u64, false);
+        sheet = take_read(sheet, held, rows, buffer, got);
+        let input = sheet.input;
+        left = left_of(left, more as u64, input.refusal != 0);
     }
     sheet
 }
 
-// Reads the log in the file that an argument names.
-fn read_file(sheet: Sheet, index: usize, held: &mut [u8; 49], buffer: &mut [u8], read: &mut bool) -> Sheet {
+// The file that an argument names; argument 0 is standard input.
+fn opened(index: usize, name: &mut [u8]) -> Source
+    ensures { λ r. ⌜ r .length ≤ length (now (name .exit)) ⌝ }
+{
+    if index == 0 {
+        return source::input(b"sheet", b"[FILE..]", name);
+    }
+    source::named(b"sheet", b"[FILE..]", index, name)
+}
+
+// Reads what an argument names. Where that fails, `read` is false then.
+fn read_source(
+    sheet: Sheet,
+    index: usize,
+    held: &mut [u8; 49],
+    buffer: &mut [u8],
+    rows: &mut [u32],
+    read: &mut bool,
+) -> Sheet {
     let mut name = io::buffer();
-    let source = source::named(b"sheet", b"[FILE..]", index, &mut name);
+    let source = opened(index, &mut name);
     if source.fd < 0 {
         *read = false;
         return sheet;
     }
     let length = source.length;
-    let behind = read_log(sheet, source.fd, &name[..length], held, buffer, read);
+    let behind = read_all(sheet, source.fd, &name[..length], held, buffer, rows, read);
     source::done(source);
     behind
 }
 
+// Makes the sheet of the logs on standard input.
+fn from_input(held: &mut [u8; 49], buffer: &mut [u8], rows: &mut [u32]) {
+    let mut read = true;
+    let sheet = read_source(table::start(0), 0, held, buffer, rows, &mut read);
+    if read {
+        print_sheet(sheet, rows);
+    }
+}
+
+// Reads the log in the file that an argument names.
+fn read_file(
+    sheet: Sheet,
+    index: usize,
+    held: &mut [u8; 49],
+    buffer: &mut [u8],
+    rows: &mut [u32],
+    read: &mut bool,
+) -> Sheet {
+    let opened = table::open_log(sheet);
+    let behind = read_source(opened, index, held, buffer, rows, read);
+    table::next_log(behind, rows)
+}
+
 // Makes the sheet of so many files. Where one can't be read, there is none.
-fn read_files(files: usize, held: &mut [u8; 49], buffer: &mut [u8], rows: &mut [u32]) {
+fn from_files(files: usize, held: &mut [u8; 49], buffer: &mut [u8], rows: &mut [u32]) {
+    let mut read = true;
     let mut sheet = table::start(files);
     let input = sheet.input;
-    let mut read = true;
     let mut i = if input.refusal == 0 { 0 } else { files };
     while i < files {
         i += 1;
-        let behind = read_file(sheet, i, held, buffer, &mut read);
+        sheet = read_file(sheet, i, held, buffer, rows, &mut read);
         if !read {
             return;
         }
-        sheet = table::next_log(behind, rows);
     }
     print_sheet(sheet, rows);
 }
 
-fn from_files(files: usize, rows: &mut [u32]) {
-    let mut held = [0u8; 49];
-    let mut buffer = io::large_buffer();
-    read_files(files, &mut held, &mut buffer, rows);
-}
-
-// Whether the first argument is `-`.
-fn is_dash() -> bool {
-    let mut name = io::buffer();
-    let length = os::arg(1, &mut name);
-    source::kind(&name[..length]) == 2
-}
-
-// Makes the sheet of the files that the arguments name, or of the logs on standard input; `-` alone is standard input.
-fn main() {
-    let mut rows = [0u32; 40960];
+// How many files the arguments name. 0: standard input is to be read, since there is no argument, or `-` alone.
+fn files_named() -> usize {
     let count = os::arg_count();
     if count < 2 {
-        from_input(&mut rows);
-        return;
+        return 0;
     }
-    if count == 2 {
-        if is_dash() {
-            from_input(&mut rows);
-            return;
-        }
+    if 2 < count {
+        return count - 1;
     }
-    from_files(count - 1, &mut rows);
+    let mut name = io::buffer();
+    let length = os::arg(1, &mut name);
+    if source::kind(&name[..length]) == 2 {
+        return 0;
+    }
+    1
+}
+
+// Makes the sheet of the logs on standard input or of the files that the arguments name.
+fn make_sheet(held: &mut [u8; 49], buffer: &mut [u8], rows: &mut [u32]) {
+    let files = files_named();
+    if files == 0 {
+        from_input(held, buffer, rows);
+    } else {
+        from_files(files, held, buffer, rows);
+    }
+}
+
+fn main() {
+    let mut held = [0u8; 49];
+    let mut buffer = io::large_buffer();
+    let mut rows = [0u32; 40960];
+    make_sheet(&mut held, &mut buffer, &mut rows);
 }
