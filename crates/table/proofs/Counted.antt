@@ -1,30 +1,24 @@
 -- Laws of a sheet that is made log by log, each log in pieces: what is counted so far, and the lines of it.
 -- Assumes nothing.
-use mathlib.Core.Bool.{true, false, cond}
 use mathlib.Core.List.{List, [], _∷_, _++_, append-assoc, append-nil}
 use mathlib.Core.Path.{_≡_, refl, sym, _∙_, ap}
-use Prim.Native.Nat.{ℕ, zero, suc, _+_, _*_, _-_, _≤_, _<_}
+use Prim.Native.Nat.{ℕ, _+_, _-_, _≤_, _<_}
 use native.Mathlib.Omega.{arith}
 use borrow.Author.Tests.{le-ltb}
 use lib.Dec.{ltb}
-use lib.ListN.{length, take, drop, length-append}
+use lib.ListN.{length, length-append}
 use lib.Seq.{append-snoc}
 use Rattle.runs.proofs.Laws.{split}
-use Rattle.pieces.specs.Steps.{stoodOf}
 use Rattle.pieces.specs.Taken.{joinedOf}
 use Rattle.pieces.proofs.Walks.{stood-size}
-use Rattle.figures.specs.declared.Counts.{Counts}
-use Rattle.figures.specs.declared.Tally.{Tally}
-use Rattle.figures.specs.Adding.{rowsWith, closedOf, Added, addedOver}
+use Rattle.figures.specs.Adding.{addedOver}
 use Rattle.figures.specs.Code.{noCounts, capped}
-use Rattle.figures.specs.Figures.{countsOf, rowOf, tooMany, plusOf}
-use Rattle.figures.specs.Sheets.{heardIn, totalsOf, rowsOf}
-use Rattle.figures.specs.Taking.{startTally, tallyAfter, tallyOver}
-use Rattle.figures.proofs.Adding.{added-closed, added-rows}
+use Rattle.figures.specs.Figures.{countsOf}
+use Rattle.figures.specs.Sheets.{heardIn}
+use Rattle.figures.specs.Taking.{tallyOver}
 use Rattle.figures.proofs.Walks.{any-division-counts}
 use Rattle.table.specs.declared.Input.{Input}
-use Rattle.table.specs.declared.Sheet.{Sheet}
-use Rattle.table.specs.Taking.{betweenOf, firstOf, behindLog, Stood, nextOf, rowsNext, countedBy, logEnded, standing}
+use Rattle.table.specs.Taking.{betweenOf, firstOf, behindLog, Stood, nextOf, countedBy, logEnded, standing}
 
 -- with these logs added and this part of the next one counted: what comes of any pieces of it and of any logs behind it
 pub record Counted (rows₀ : List ℕ) (s : Stood) (done : List (List ℕ)) (part : List ℕ) : Type 0 where

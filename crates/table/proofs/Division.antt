@@ -1,11 +1,11 @@
 -- Where a sheet stands among the logs of standard input: each step of the code goes on as the page's definition says.
 -- Assumes nothing.
-use mathlib.Core.Bool.{true, false, cond}
-use mathlib.Core.List.{List, [], _∷_, _++_, append-assoc, append-nil}
+use mathlib.Core.Bool.{true, false}
+use mathlib.Core.List.{List, [], _∷_, _++_, append-assoc}
 use mathlib.Core.Path.{_≡_, refl, sym, _∙_, ap, subst}
 use Prim.Native.Nat.{ℕ, zero, suc, _+_, _*_, _-_, _≤_, _<_}
 use native.Mathlib.Omega.{arith}
-use borrow.Author.Tests.{eq-eqb, ne-eqb, eqb-true, eqb-false, lt-ltb, le-ltb, ltb-true, ltb-false, le-leb, lt-leb, leb-true, leb-false}
+use borrow.Author.Tests.{eq-eqb, ne-eqb, eqb-true, eqb-false, lt-ltb, le-ltb, ltb-true, ltb-false, leb-true, leb-false}
 use lib.Dec.{eqb, leb, ltb}
 use lib.ListN.{length, take, drop, length-append, drop-of-length-le}
 use lib.Seq.{append-snoc, drop-nil, take-length, length-take-le}
@@ -13,8 +13,7 @@ use Rattle.runs.proofs.Laws.{split}
 use Rattle.pieces.specs.Taken.{joinedOf}
 use Rattle.table.specs.declared.Input.{Input}
 use Rattle.table.specs.declared.logs.Step.{Step}
-use Rattle.table.specs.Logs.{areDigits, numberOn, Logs, noLogs, withLog, logsTo, logsIn}
-use Rattle.table.specs.Table.{refusedLine, tableOf, printedOf}
+use Rattle.table.specs.Logs.{areDigits, numberOn, Logs, noLogs, withLog, logsTo}
 use Rattle.table.specs.Taking.{
   betweenOf,
   readOf,
@@ -23,8 +22,6 @@ use Rattle.table.specs.Taking.{
   shareOf,
   logStep,
   stepOf,
-  lastOf,
-  startOf,
   Stood,
   countedBy,
   logEnded,
@@ -33,11 +30,7 @@ use Rattle.table.specs.Taking.{
   steppedBy,
   takenFrom,
   takenOf,
-  endedOf,
-  linesOf,
   takenOver,
-  standing,
-  printedOver,
 }
 use Rattle.table.proofs.Counted.{Counted, counted-by, next-input, counted-log}
 use Rattle.table.proofs.Lengths.{
@@ -45,15 +38,12 @@ use Rattle.table.proofs.Lengths.{
   goes-facts,
   number-more,
   restOf,
-  none-left,
   behind-the-last,
-  ends-in-length,
   newline-alone,
   no-digit,
   newline,
   rest-whole,
   rest-part,
-  ends-in-log,
 }
 
 -- logs before those that come
@@ -247,7 +237,12 @@ module _ (rows₀ : List ℕ) (all : Logs) where
                 behind at-newline
                 (rw t
                 (within done [] counted
-                (record { none = refl; some = eqb-false (inputOf s .number) 0 t; few = few; fits = omega (arith, b .number, b .fits) })
+                (record {
+                  none = refl;
+                  some = eqb-false (inputOf s .number) 0 t;
+                  few = few;
+                  fits = omega (arith, b .number, b .fits);
+                })
                 log-comes)))
 
           past-octet : After step

@@ -1,13 +1,13 @@
 -- What is printed of files, each of them a whole log, whatever its division among the reads: their table.
 -- Assumes nothing.
-use mathlib.Core.Bool.{true, false}
+use mathlib.Core.Bool.{false}
 use mathlib.Core.List.{List, [], _∷_, _++_, map, append-assoc, append-nil}
 use mathlib.Core.Path.{_≡_, refl, sym, _∙_, ap, subst}
 use Prim.Native.Nat.{ℕ, zero, suc, _+_, _-_, _≤_, _<_}
 use native.Mathlib.Omega.{arith}
 use borrow.Author.Tests.{lt-ltb, le-ltb, ltb-true, ltb-false}
 use lib.Dec.{ltb}
-use lib.ListN.{length, take, drop, length-append, length-map, drop-of-length-le}
+use lib.ListN.{length, take, length-append, length-map, drop-of-length-le}
 use lib.Seq.{append-snoc, take-length}
 use Rattle.runs.proofs.Laws.{split}
 use Rattle.pieces.specs.Taken.{joinedOf}
@@ -177,7 +177,8 @@ module _ (held rows : List ℕ) (files : List (List (List ℕ))) where
       let past : Stood = filesOver (standing (length files) held rows) files in
       let begun : Filed rows (standing (length files) held rows) [] =
       record { counted = counted-start rows (length files) held size; here = rw (le-ltb 4096 (length files) few) } in
-      let filed : Filed rows past (map joinedOf files) = past-files rows (standing (length files) held rows) [] files short (omega (arith, few)) begun in
+      let filed : Filed rows past (map joinedOf files) =
+      past-files rows (standing (length files) held rows) [] files short (omega (arith, few)) begun in
       lines-table rows room (filed .counted) (omega (arith, few, length-map files joinedOf)) (ap lastOf (filed .here))
 
   pub any-division-files : length held ≡ 49 → 40960 ≤ length rows → Short files

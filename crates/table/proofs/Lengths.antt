@@ -5,7 +5,7 @@ use mathlib.Core.List.{List, [], _∷_, _++_, append-assoc, append-nil}
 use mathlib.Core.Path.{_≡_, refl, sym, _∙_, ap}
 use Prim.Native.Nat.{ℕ, zero, suc, _+_, _*_, _-_, _≤_, _<_}
 use native.Mathlib.Omega.{arith}
-use borrow.Author.Tests.{eq-eqb, ne-eqb, eqb-true, lt-ltb, le-ltb, le-leb, lt-leb, leb-true, leb-false}
+use borrow.Author.Tests.{ne-eqb, lt-ltb, le-ltb, le-leb, lt-leb, leb-true, leb-false}
 use lib.Dec.{eqb, leb, ltb}
 use lib.ListN.{length, take, drop, length-append}
 use lib.Seq.{take-append-le, drop-append-le, take-append-add, drop-append-add}
@@ -171,12 +171,15 @@ module _ (most : ℕ) (part : List ℕ) (left : ℕ) (ahead later : List ℕ) wh
   unfolding restOf
   rest-part beyond =
       let all : left ≡ length ahead + (left - length ahead) = omega arith in
+      let both = length-append ahead later in
       let test : leb left (length (ahead ++ later)) ≡ leb (left - length ahead) (length later) =
       split (leb (left - length ahead) (length later))
-      (λ t. le-leb left (length (ahead ++ later)) (omega (arith, leb-true (left - length ahead) (length later) t, length-append ahead later))
-      ∙ sym t)
-      (λ t. lt-leb left (length (ahead ++ later)) (omega (arith, leb-false (left - length ahead) (length later) t, length-append ahead later))
-      ∙ sym t) in
+      (λ t.
+      let fits : left - length ahead ≤ length later = leb-true (left - length ahead) (length later) t in
+      le-leb left (length (ahead ++ later)) (omega (arith, fits, both)) ∙ sym t)
+      (λ t.
+      let cut : length later < left - length ahead = leb-false (left - length ahead) (length later) t in
+      lt-leb left (length (ahead ++ later)) (omega (arith, cut, both)) ∙ sym t) in
       let taken : part ++ take left (ahead ++ later) ≡ (part ++ ahead) ++ take (left - length ahead) later =
       ap (λ (n : ℕ). part ++ take n (ahead ++ later)) all
       ∙ ap (λ (l : List ℕ). part ++ l) (take-append-add ahead later (left - length ahead))

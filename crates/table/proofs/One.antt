@@ -1,9 +1,8 @@
 -- No second answer: whatever answer, lent array and lent runs at exit meet the contract of a public function are equal. Stated over
 -- the contracts themselves.
 -- Assumes nothing.
-use mathlib.Core.Path.{_≡_, refl, sym, _∙_, ap}
+use mathlib.Core.Path.{refl, sym, _∙_}
 use Rattle.runs.proofs.One.{One}
-use Rattle.table.specs.Taking.{Stood}
 use Rattle.table.proofs.end.Kinds as end-kinds
 use Rattle.table.proofs.end.Reads as end-reads
 use Rattle.table.proofs.line.Kinds as line-kinds

@@ -1,14 +1,12 @@
 -- The lines of a sheet whose logs are all added: joined, they are the table of these logs.
 -- Assumes nothing.
-use mathlib.Core.Bool.{true, false, cond}
 use mathlib.Core.List.{List, [], _∷_, _++_, append-assoc, append-nil}
 use mathlib.Core.Path.{_≡_, refl, sym, _∙_, ap, ap₂}
-use Prim.Native.Nat.{ℕ, zero, suc, _+_, _*_, _-_, _/_, _%_, _^_, _≤_, _<_}
+use Prim.Native.Nat.{ℕ, suc, _+_, _*_, _-_, _/_, _%_, _^_, _≤_, _<_}
 use native.Mathlib.Nat.{mod-eq-of-lt}
 use native.Mathlib.Omega.{arith}
-use borrow.Author.Tests.{eq-eqb, ne-eqb, le-leb, lt-leb}
-use lib.Dec.{eqb, leb}
-use lib.ListN.{length, take, drop, length-append}
+use borrow.Author.Tests.{ne-eqb, le-leb, lt-leb}
+use lib.ListN.{length, drop, length-append}
 use lib.Seq.{take-at, drop-at}
 use Rattle.runs.specs.Runs.{over}
 use Rattle.runs.proofs.Laws.{split}
@@ -96,17 +94,15 @@ unfolding lastOf
 stopped-last i some = rw (ne-eqb (i .refusal) 0 some)
 
 -- all lines of one that isn't
+abbrev whole : List ℕ → ℕ → Ended
+whole totals logs = record { answer = record { refusal = 0; totals = totals }; logs = logs; lines = suc (suc logs) }
+
 all-lines : (totals rows : List ℕ) (logs : List (List ℕ)) (past : List ℕ) → rows ≡ rowsOf logs ++ past
-    → printed (record {
-      answer = record { refusal = 0; totals = totals };
-      logs = length logs;
-      lines = suc (suc (length logs));
-    }) rows
-    ≡ namesLine ++ (logLines 0 logs ++ allLine totals)
+    → printed (whole totals (length logs)) rows ≡ namesLine ++ (logLines 0 logs ++ allLine totals)
 unfolding linesFrom lineOf
 all-lines totals rows logs past is =
-    let e : Ended = record { answer = record { refusal = 0; totals = totals }; logs = length logs; lines = suc (suc (length logs)) } in
-    ap (λ (l : List ℕ). namesLine ++ l) (lines-from e refl rows [] logs past 0 is refl (omega arith))
+    ap (λ (l : List ℕ). namesLine ++ l)
+    (lines-from (whole totals (length logs)) refl rows [] logs past 0 is refl (omega arith))
 
 -- the sheet with these logs added prints their table
 module _ (rows₀ : List ℕ) (room : 40960 ≤ length rows₀) {s : Stood} {done : List (List ℕ)} {part : List ℕ}
@@ -141,8 +137,7 @@ module _ (rows₀ : List ℕ) (room : 40960 ≤ length rows₀) {s : Stood} {don
         let wrote : s .rows ≡ rowsOf done ++ past =
         ap (λ (a : Added). a .rows) added ∙ added-rows rows₀ done (omega (arith, room, few)) t in
         let n : (length done + 2) % 2 ^ 64 ≡ suc (suc (length done)) = mod-eq-of-lt (omega (arith, few)) ∙ omega arith in
-        let is : closedEnd answer (length done) ≡ record { answer = answer; logs = length done; lines = suc (suc (length done)) } =
-        rw n in
+        let is : closedEnd answer (length done) ≡ whole (rowOf all) (length done) = rw n in
         ap (λ (e : Ended). printed e (s .rows)) (ended answer (rw t) ∙ is)
         ∙ all-lines (rowOf all) (s .rows) done past wrote
         ∙ sym (rw t))

@@ -17,7 +17,7 @@ use Rattle.text.specs.Words.{words}
 use Rattle.text.proofs.Short.{take-to, with-words, one-item, listed-whole}
 use Rattle.table.specs.declared.Ended.{Ended}
 use Rattle.table.specs.declared.Sheet.{Sheet}
-use Rattle.table.specs.Table.{cellsOf, Prints, logLine, allLine, refusedLine}
+use Rattle.table.specs.Table.{cellsOf, Prints, refusedLine}
 use Rattle.table.specs.Taking.{lastOf, closedEnd, endedOf, rowAt, lineOf}
 
 length-cells : (row : List ℕ) → length (cellsOf row) ≤ 21 * length row

@@ -1,14 +1,14 @@
 -- Laws of where standard input stands, over plain values: a law for each return.
 -- Assumes nothing.
-use mathlib.Core.Bool.{Bool, true, false}
-use mathlib.Core.Path.{_≡_, refl, sym, _∙_, ap}
+use mathlib.Core.Bool.{true, false}
+use mathlib.Core.Path.{_≡_, sym, _∙_}
 use Prim.Native.Nat.{ℕ, _+_, _*_, _-_, _≤_, _<_}
 use native.Mathlib.Omega.{arith}
 use borrow.Author.Tests.{eq-eqb, ne-eqb, lt-ltb, le-ltb, le-leb, lt-leb}
 use lib.Dec.{eqb, leb}
 use Rattle.table.specs.declared.Input.{Input}
 use Rattle.table.specs.declared.logs.Step.{Step}
-use Rattle.table.specs.Taking.{betweenOf, firstOf, behindLog, readOf, goesOn, lengthStep, shareOf, logStep, stepOf, lastOf}
+use Rattle.table.specs.Taking.{betweenOf, firstOf, behindLog, readOf, goesOn, lengthStep, logStep, stepOf, lastOf}
 
 module _ (digits number octet : ℕ) where
   pub below-digits : octet < 48 → false ≡ goesOn digits number octet

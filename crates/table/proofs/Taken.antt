@@ -1,14 +1,14 @@
 -- Laws of a sheet under way and of its end, over plain values: a law for each return, and the walk along a piece.
 -- Assumes nothing.
-use mathlib.Core.Bool.{Bool, true, false, cond}
-use mathlib.Core.List.{List, [], _∷_, _++_}
+use mathlib.Core.Bool.{true, false}
+use mathlib.Core.List.{List, [], _∷_}
 use mathlib.Core.Path.{_≡_, refl, sym, _∙_, ap}
-use Prim.Native.Nat.{ℕ, zero, suc, _+_, _*_, _-_, _%_, _^_, _≤_, _<_}
+use Prim.Native.Nat.{ℕ, zero, suc, _+_, _-_, _%_, _^_, _≤_, _<_}
 use native.Mathlib.Omega.{arith}
-use borrow.Author.Tests.{eq-eqb, ne-eqb, lt-ltb, le-ltb, le-leb, lt-leb, leb-true, leb-false, eqb-true, eqb-false}
+use borrow.Author.Tests.{eq-eqb, ne-eqb, leb-true, eqb-false}
 use lib.Dec.{eqb, leb, ltb}
 use lib.ListN.{length, getD, take, drop, length-drop, drop-of-length-le}
-use lib.Seq.{drop-cons, drop-drop, drop-nil}
+use lib.Seq.{drop-cons, drop-drop}
 use Rattle.runs.proofs.Laws.{split}
 use Rattle.figures.specs.declared.Answer.{Answer}
 use Rattle.figures.specs.declared.Counts.{Counts}
@@ -16,8 +16,7 @@ use Rattle.figures.specs.declared.Tally.{Tally}
 use Rattle.figures.specs.Adding.{Adds, closedOf}
 use Rattle.figures.specs.Sheets.{refusedBy}
 use Rattle.figures.specs.Taking as figures
-use Rattle.figures.specs.Taking.{startTally, tallyAfter}
-use Rattle.table.specs.declared.Ended.{Ended}
+use Rattle.figures.specs.Taking.{startTally}
 use Rattle.table.specs.declared.Input.{Input}
 use Rattle.table.specs.declared.Sheet.{Sheet}
 use Rattle.table.specs.declared.logs.Step.{Step}
@@ -48,7 +47,8 @@ abbrev sheetOf : Input → Tally → Counts → Sheet
 sheetOf input tally totals = record { input = input; tally = tally; totals = totals }
 
 -- before the first octet
-pub starts : (files : ℕ) {t : Tally} {i : Input} → t ≡ startTally → i ≡ firstOf files → sheetOf i t (t .noted .counts) ≡ startOf files
+pub starts : (files : ℕ) {t : Tally} {i : Input} → t ≡ startTally → i ≡ firstOf files
+    → sheetOf i t (t .noted .counts) ≡ startOf files
 starts files tally input j = sheetOf (input j) (tally j) (tally j .noted .counts)
 
 -- a log's end
@@ -94,21 +94,22 @@ module _ (s : Sheet) where
   unfolding endedOf
   ends-refused {refusal} is some = sym (rw (← is, ne-eqb refusal 0 some))
 
-  module _ {refusal : ℕ} (is : refusal ≡ lastOf (s .input)) (none : refusal ≡ 0) {a : Answer} (closed : a ≡ closedOf (s .totals)) where
-    answered : closedEnd a (s .input .logs) ≡ endedOf s
-    unfolding endedOf
-    answered =
-        ap (λ (x : Answer). closedEnd x (s .input .logs)) closed ∙ sym (rw (eq-eqb (lastOf (s .input)) 0 (sym is ∙ none)))
+  module _ {refusal : ℕ} (is : refusal ≡ lastOf (s .input)) (none : refusal ≡ 0) {a : Answer} (closed : a ≡ closedOf (s .totals))
+    where
+      answered : closedEnd a (s .input .logs) ≡ endedOf s
+      unfolding endedOf
+      answered =
+          ap (λ (x : Answer). closedEnd x (s .input .logs)) closed ∙ sym (rw (eq-eqb (lastOf (s .input)) 0 (sym is ∙ none)))
 
-    pub ends-19 : (a .refusal ≡ 0 → ⊥) → refusedEnd a ≡ endedOf s
-    unfolding closedEnd
-    ends-19 some = sym (rw (ne-eqb (a .refusal) 0 some)) ∙ answered
+      pub ends-19 : (a .refusal ≡ 0 → ⊥) → refusedEnd a ≡ endedOf s
+      unfolding closedEnd
+      ends-19 some = sym (rw (ne-eqb (a .refusal) 0 some)) ∙ answered
 
-    pub ends-whole : {lines : ℕ} → a .refusal ≡ 0 → lines ≡ (s .input .logs + 2) % 2 ^ 64
-        → record { answer = a; logs = s .input .logs; lines = lines } ≡ endedOf s
-    unfolding closedEnd
-    ends-whole given n =
-        (λ j. record { answer = a; logs = s .input .logs; lines = n j }) ∙ sym (rw (eq-eqb (a .refusal) 0 given)) ∙ answered
+      pub ends-whole : {lines : ℕ} → a .refusal ≡ 0 → lines ≡ (s .input .logs + 2) % 2 ^ 64
+          → record { answer = a; logs = s .input .logs; lines = lines } ≡ endedOf s
+      unfolding closedEnd
+      ends-whole given n =
+          (λ j. record { answer = a; logs = s .input .logs; lines = n j }) ∙ sym (rw (eq-eqb (a .refusal) 0 given)) ∙ answered
 
 -- how many octets a step takes: one at least, and no more than there are
 length-used : (i : Input) (octet : ℕ) → (lengthStep i octet .used ≡ 1) × (lengthStep i octet .octets ≡ 0)

@@ -1,29 +1,18 @@
 -- What is printed of standard input, whatever its division among the reads: the table of the logs that it holds, or its refusal.
 -- Assumes nothing.
-use mathlib.Core.Bool.{true, false, cond}
-use mathlib.Core.List.{List, [], _∷_, _++_, map, append-assoc, append-nil}
+use mathlib.Core.List.{List, [], _∷_, _++_, append-nil}
 use mathlib.Core.Path.{_≡_, refl, sym, _∙_, ap}
-use Prim.Native.Nat.{ℕ, zero, suc, _+_, _*_, _-_, _≤_, _<_}
+use Prim.Native.Nat.{ℕ, suc, _+_, _-_, _≤_}
 use native.Mathlib.Omega.{arith}
-use borrow.Author.Tests.{eq-eqb, ne-eqb, eqb-true, eqb-false, lt-ltb, le-ltb, ltb-true, ltb-false}
-use lib.Dec.{eqb, ltb}
+use borrow.Author.Tests.{ne-eqb}
 use lib.ListN.{length}
-use Rattle.runs.proofs.Laws.{split}
 use Rattle.pieces.specs.Taken.{joinedOf}
 use Rattle.table.specs.Logs.{areDigits, numberOn, Logs, noLogs, logsTo, logsIn}
 use Rattle.table.specs.Table.{refusedLine, textOf, printedOf}
-use Rattle.table.specs.Taking.{
-  lastOf,
-  firstOf,
-  Stood,
-  linesOf,
-  takenOver,
-  standing,
-  printedOver,
-}
+use Rattle.table.specs.Taking.{lastOf, firstOf, Stood, linesOf, takenOver, standing, printedOver}
 use Rattle.table.proofs.Counted.{counted-start}
-use Rattle.table.proofs.Division.{withLogs, inputOf, Between, Within, Stands, refused, between, within, past-pieces}
-use Rattle.table.proofs.Lengths.{restOf, none-left, ends-in-length, ends-in-log}
+use Rattle.table.proofs.Division.{withLogs, inputOf, Stands, refused, between, within, past-pieces}
+use Rattle.table.proofs.Lengths.{none-left, ends-in-length, ends-in-log}
 use Rattle.table.proofs.Printed.{one-line, stopped-last, lines-table}
 
 module _ (all : Logs) where
@@ -48,7 +37,9 @@ module _ {rows₀ : List ℕ} {all : Logs} where
   ended {s} room (between done [] c b is) =
       let last : lastOf (inputOf s) ≡ 0 = rw (b .none, b .out, b .digits) in
       let none : all ≡ record { refusal = 0; logs = done } =
-      is ∙ ap (withLogs done) (none-left (4096 - length done)) ∙ ap (λ (l : List (List ℕ)). record { refusal = 0; logs = l }) (append-nil done) in
+      is
+      ∙ ap (withLogs done) (none-left (4096 - length done))
+      ∙ ap (λ (l : List (List ℕ)). record { refusal = 0; logs = l }) (append-nil done) in
       lines-table rows₀ room c (b .few) last ∙ sym (ap textOf none)
   ended {s} room (between done (d ∷ ds) c b is) =
       let last : lastOf (inputOf s) ≡ 5 = rw (b .none, b .out, b .digits, ne-eqb (suc (length ds)) 0 (λ e. omega (arith, e))) in

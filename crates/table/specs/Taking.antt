@@ -1,7 +1,7 @@
--- Words of the code that makes a table: where standard input stands behind each octet, the sheet behind each piece, and the lines that
--- are written at the end. What the table is stands in Table.antt.
+-- Words of the code that makes a table: where standard input stands behind each octet, the sheet behind each piece, and the
+-- lines that are written at the end. What the table is stands in Table.antt.
 -- Assumes nothing.
-use mathlib.Core.Bool.{Bool, false, cond, not, _&&_}
+use mathlib.Core.Bool.{Bool, false, cond, _&&_}
 use mathlib.Core.List.{List, [], _∷_, _++_}
 use mathlib.Core.Path.{_≡_}
 use Prim.Native.Nat.{ℕ, zero, suc, _+_, _*_, _-_, _/_, _%_, _^_}
@@ -9,8 +9,6 @@ use lib.Dec.{eqb, leb, ltb}
 use lib.ListN.{length, take, drop}
 use Rattle.pieces.specs.Steps.{stoodOf}
 use Rattle.figures.specs.declared.Answer.{Answer}
-use Rattle.figures.specs.declared.Counts.{Counts}
-use Rattle.figures.specs.declared.Tally.{Tally}
 use Rattle.figures.specs.Adding.{rowsWith, closedOf}
 use Rattle.figures.specs.Code.{noCounts, capped}
 use Rattle.figures.specs.Figures.{plusOf}
@@ -187,7 +185,9 @@ closedEnd answer logs =
 
 unfoldable pub endedOf : Sheet → Ended
 endedOf s =
-    cond (eqb (lastOf (s .input)) 0) (closedEnd (closedOf (s .totals)) (s .input .logs)) (refusedEnd (refusedBy (lastOf (s .input))))
+    cond (eqb (lastOf (s .input)) 0)
+    (closedEnd (closedOf (s .totals)) (s .input .logs))
+    (refusedEnd (refusedBy (lastOf (s .input))))
 
 -- the row at a log's place, where the rows go so far
 unfoldable pub rowAt : List ℕ → ℕ → List ℕ

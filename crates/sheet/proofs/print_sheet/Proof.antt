@@ -1,7 +1,6 @@
 -- `sheet::print_sheet` is safe and ends. The measure is how many lines are left.
 -- Assumes nothing.
 use Prim.Native.Nat.{_-_, _≤_}
-use native.Mathlib.Omega.{arith}
 use borrow.Author.Needs.{needs}
 use Rattle.table.proofs.Short.{ten-numbers}
 use Rattle.sheet.proofs.print_sheet.Statement.{statement}

@@ -1,6 +1,6 @@
 -- `sheet::read_source` is safe: the name is as long as the source says.
 -- Assumes nothing.
-use mathlib.Core.Path.{_≡_, sym}
+use mathlib.Core.Path.{sym}
 use borrow.Author.Needs.{needs}
 use lib.Seq.{length-take-le}
 use Rattle.sheet.proofs.read_source.Statement.{statement}

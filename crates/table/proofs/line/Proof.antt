@@ -6,7 +6,9 @@ use Rattle.table.proofs.line.Statement.{statement}
 use Rattle.table.proofs.line.Tie as tie
 
 returns : tie.Need-returns
-returns c = prints-same (line-refused _ _ _ (c .before .before .before .before .if1 .taken)) (c .before .before .refused-line .ensures)
+returns c =
+    prints-same (line-refused _ _ _ (c .before .before .before .before .if1 .taken))
+    (c .before .before .refused-line .ensures)
 
 returns-2 : tie.Need-returns-2
 returns-2 c =

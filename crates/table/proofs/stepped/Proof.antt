@@ -12,8 +12,8 @@ returns : tie.Need-returns
 returns c =
     let at-test = c .before .before .before .before in
     let start = at-test .before .before .before .before .before .before .before in
-    steps-whole (start .args .sheet) (start .args .step) (start .args .rows .now) (at-test .before .take .ensures) (at-test .if1 .taken)
-    (c .before .before .next-log .ensures)
+    steps-whole (start .args .sheet) (start .args .step) (start .args .rows .now) (at-test .before .take .ensures)
+    (at-test .if1 .taken) (c .before .before .next-log .ensures)
 
 returns-2 : tie.Need-returns-2
 returns-2 c =

@@ -1,6 +1,5 @@
 -- `table::take` meets its contract. The loop goes along the piece; the measure is what is left of it.
 -- Assumes nothing.
-use mathlib.Core.Path.{_≡_}
 use Prim.Native.Nat.{_+_, _-_, _≤_, _<_}
 use native.Mathlib.Nat.{add-sub-cancel-left}
 use native.Mathlib.Omega.{arith}

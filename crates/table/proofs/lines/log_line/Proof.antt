@@ -19,7 +19,8 @@ returns-2 c =
     let at-test = c .before .before .before .before .before in
     let at-number = at-test .before .before .before in
     row-there _ _ (at-number .before .before .from-start .ensures) (at-number .put-number .ensures) (at-test .if1 .left)
-    (add-sub-cancel-left (10 * at-number .before .before .before .before .before .args .log) 10) (c .before .before .put-row2 .ensures)
+    (add-sub-cancel-left (10 * at-number .before .before .before .before .before .args .log) 10)
+    (c .before .before .put-row2 .ensures)
 
 pub log-line-spec : {M : Type 1} → statement M
 log-line-spec =
