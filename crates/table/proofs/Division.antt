@@ -20,6 +20,7 @@ use Rattle.table.specs.Taking.{
   goesOn,
   lengthStep,
   shareOf,
+  leftOf,
   logStep,
   stepOf,
   Stood,
@@ -264,14 +265,7 @@ module _ (rows₀ : List ℕ) (all : Logs) where
         left = inputOf s .left
 
         abbrev logGoes : Input
-        logGoes =
-            record {
-              refusal = inputOf s .refusal;
-              logs = inputOf s .logs;
-              left = left - suc (length os);
-              digits = inputOf s .digits;
-              number = inputOf s .number;
-            }
+        logGoes = leftOf (inputOf s) (left - suc (length os))
 
         in-log : (share : ℕ) → shareOf left (suc (length os)) ≡ share
             → step ≡ record { input = logGoes; octets = share; used = share; whole = leb left (suc (length os)) }

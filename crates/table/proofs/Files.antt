@@ -16,6 +16,7 @@ use Rattle.table.specs.declared.logs.Step.{Step}
 use Rattle.table.specs.Table.{refusedLine, tableOf, printedOfFiles}
 use Rattle.table.specs.Taking.{
   betweenOf,
+  leftOf,
   lastOf,
   firstOf,
   behindLog,
@@ -27,6 +28,7 @@ use Rattle.table.specs.Taking.{
   stepAt,
   takenFrom,
   takenOf,
+  linesOf,
   takenOver,
   standing,
   logOpened,
@@ -34,6 +36,7 @@ use Rattle.table.specs.Taking.{
   printedOverFiles,
 }
 use Rattle.table.proofs.Counted.{Counted, counted-start, counted-by, next-input, counted-log}
+use Rattle.table.proofs.Division.{inputOf}
 use Rattle.table.proofs.Printed.{one-line, stopped-last, lines-table}
 use Rattle.table.proofs.Steps.{log-goes, ahead-none, ahead-log}
 use Rattle.table.proofs.Taken.{taken-skips}
@@ -43,51 +46,47 @@ abbrev pub Short : List (List (List ℕ)) → Type 0
 Short [] = Unit {0}
 Short (file ∷ files) = (length (joinedOf file) < 18446744073709551615) × Short files
 
-abbrev inputOf : Stood → Input
-inputOf s = s .sheet .input
-
 -- a piece of a log that goes on behind it: all its octets are counted
-abbrev goesOn : Input → ℕ → Input
-goesOn i room =
-    record { refusal = i .refusal; logs = i .logs; left = i .left - room; digits = i .digits; number = i .number }
+abbrev goes : Input → ℕ → Input
+goes i room = leftOf i (i .left - room)
 
 piece-counted : (s : Stood) (o : ℕ) (os : List ℕ) → inputOf s .refusal ≡ 0 → suc (length os) < inputOf s .left
-    → takenOf s (o ∷ os) ≡ countedBy s (goesOn (inputOf s) (suc (length os))) (o ∷ os)
+    → takenOf s (o ∷ os) ≡ countedBy s (goes (inputOf s) (suc (length os))) (o ∷ os)
 unfolding takenFrom settledOf
 piece-counted s o os none beyond =
     let room : ℕ = suc (length os) in
-    let step : Step = record { input = goesOn (inputOf s) room; octets = room; used = room; whole = false } in
+    let step : Step = record { input = goes (inputOf s) room; octets = room; used = room; whole = false } in
     let is : step ≡ stepAt s o os =
     ahead-log (inputOf s) o room none (λ e. omega (arith, e, beyond)) (log-goes (inputOf s) room beyond) in
-    let past : Stood = countedBy s (goesOn (inputOf s) room) (o ∷ take (length os) os) in
+    let past : Stood = countedBy s (goes (inputOf s) room) (o ∷ take (length os) os) in
     ap (λ (t : Step). takenFrom (t .used - 1) (steppedBy t s (take (t .octets) (o ∷ os))) os) (sym is)
     ∙ taken-skips (room - 1) past os
     ∙ ap (λ (l : List ℕ). takenOf past l) (drop-of-length-le os {i = room - 1} (omega arith))
-    ∙ ap (λ (l : List ℕ). countedBy s (goesOn (inputOf s) room) (o ∷ l)) (take-length os)
+    ∙ ap (λ (l : List ℕ). countedBy s (goes (inputOf s) room) (o ∷ l)) (take-length os)
 
 module _ (rows₀ : List ℕ) where
   -- within a file, of which so many octets are read
-  record Within (s : Stood) (done : List (List ℕ)) (part : List ℕ) : Type 0 where
+  record InFile (s : Stood) (done : List (List ℕ)) (part : List ℕ) : Type 0 where
     counted : Counted rows₀ s done part
     none : inputOf s .refusal ≡ 0
     left : inputOf s .left + length part ≡ 18446744073709551615
 
   past-piece : {s : Stood} {done : List (List ℕ)} {part : List ℕ} (p : List ℕ) → length (part ++ p) < 18446744073709551615
-      → Within s done part → Within (takenOf s p) done (part ++ p)
+      → InFile s done part → InFile (takenOf s p) done (part ++ p)
   unfolding takenFrom
   past-piece {part = part} [] long w = rw (append-nil part) w
   past-piece {s} {done} {part} (o ∷ os) long w =
       let all : length (part ++ (o ∷ os)) ≡ length part + suc (length os) = length-append part (o ∷ os) in
       rw (piece-counted s o os (w .none) (omega (arith, w .left, all, long)))
       (record {
-        counted = counted-by rows₀ (goesOn (inputOf s) (suc (length os))) (o ∷ os) refl (w .counted);
+        counted = counted-by rows₀ (goes (inputOf s) (suc (length os))) (o ∷ os) refl (w .counted);
         none = w .none;
         left = omega (arith, w .left, all, long);
       })
 
   past-pieces : {s : Stood} {done : List (List ℕ)} {part : List ℕ} (ps : List (List ℕ))
-      → length (part ++ joinedOf ps) < 18446744073709551615 → Within s done part
-      → Within (takenOver s ps) done (part ++ joinedOf ps)
+      → length (part ++ joinedOf ps) < 18446744073709551615 → InFile s done part
+      → InFile (takenOver s ps) done (part ++ joinedOf ps)
   unfolding takenOver joinedOf
   past-pieces {part = part} [] long w = rw (append-nil part) w
   past-pieces {part = part} (p ∷ ps) long w =
@@ -105,7 +104,7 @@ module _ (rows₀ : List ℕ) where
       → length (joinedOf ps) < 18446744073709551615 → Filed s done
       → Filed (logEnded (takenOver (logOpened s) ps)) (done ++ (joinedOf ps ∷ []))
   past-file {s} {done} ps few long f =
-      let opened : Within (logOpened s) done [] =
+      let opened : InFile (logOpened s) done [] =
       record {
         counted = record {
           size = f .counted .size;
@@ -161,19 +160,22 @@ all-refused s (file ∷ files) is =
     (ends-refused (takenOver (logOpened s) file) (pieces-refused (logOpened s) file is))
 
 -- "`sheet FILE..` takes many, each a whole log": however each is divided among the reads, their table is printed
-module _ (held rows : List ℕ) (files : List (List (List ℕ))) where
-  many-files : 4096 < length files → printedOverFiles held rows files ≡ refusedLine 18
-  unfolding firstOf
-  many-files many =
-      let past : Stood = filesOver (standing (length files) held rows) files in
-      let is : inputOf past .refusal ≡ 18 =
-      all-refused (standing (length files) held rows) files (rw (lt-ltb 4096 (length files) many)) in
-      one-line past (stopped-last (inputOf past) (λ e. omega (arith, e, is)) ∙ is) (λ e. omega (arith, e))
+module _ (held rows : List ℕ) where
+  many-files : (s : Stood) → inputOf s .refusal ≡ 18 → linesOf s ≡ refusedLine 18
+  many-files s is = one-line s (stopped-last (inputOf s) (λ e. omega (arith, e, is)) ∙ is) (λ e. omega (arith, e))
 
-  few-files : length files ≤ 4096 → length held ≡ 49 → 40960 ≤ length rows → Short files
+  too-many : (files : ℕ) → 4096 < files → inputOf (standing files held rows) .refusal ≡ 18
+  unfolding firstOf
+  too-many files many = rw (lt-ltb 4096 files many)
+
+  -- more than 4,096 are refused before one is read
+  pub refused-unread : (files : ℕ) → 4096 < files → linesOf (standing files held rows) ≡ refusedLine 18
+  refused-unread files many = many-files (standing files held rows) (too-many files many)
+
+  few-files : (files : List (List (List ℕ))) → length files ≤ 4096 → length held ≡ 49 → 40960 ≤ length rows → Short files
       → printedOverFiles held rows files ≡ tableOf (map joinedOf files)
   unfolding firstOf lastOf
-  few-files few size room short =
+  few-files files few size room short =
       let past : Stood = filesOver (standing (length files) held rows) files in
       let begun : Filed rows (standing (length files) held rows) [] =
       record { counted = counted-start rows (length files) held size; here = rw (le-ltb 4096 (length files) few) } in
@@ -181,11 +183,14 @@ module _ (held rows : List ℕ) (files : List (List (List ℕ))) where
       past-files rows (standing (length files) held rows) [] files short (omega (arith, few)) begun in
       lines-table rows room (filed .counted) (omega (arith, few, length-map files joinedOf)) (ap lastOf (filed .here))
 
-  pub any-division-files : length held ≡ 49 → 40960 ≤ length rows → Short files
+  pub any-division-files : (files : List (List (List ℕ))) → length held ≡ 49 → 40960 ≤ length rows → Short files
       → printedOverFiles held rows files ≡ printedOfFiles (map joinedOf files)
   unfolding printedOfFiles
-  any-division-files size room short =
+  any-division-files files size room short =
+      let start : Stood = standing (length files) held rows in
       let same : length (map joinedOf files) ≡ length files = length-map files joinedOf in
       split (ltb 4096 (length files))
-      (λ t. rw (same, t) (many-files (ltb-true 4096 (length files) t)))
-      (λ t. rw (same, t) (few-files (ltb-false 4096 (length files) t) size room short))
+      (λ t.
+      rw (same, t)
+      (many-files (filesOver start files) (all-refused start files (too-many (length files) (ltb-true 4096 (length files) t)))))
+      (λ t. rw (same, t) (few-files files (ltb-false 4096 (length files) t) size room short))

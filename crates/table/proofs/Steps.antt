@@ -8,7 +8,7 @@ use borrow.Author.Tests.{eq-eqb, ne-eqb, lt-ltb, le-ltb, le-leb, lt-leb}
 use lib.Dec.{eqb, leb}
 use Rattle.table.specs.declared.Input.{Input}
 use Rattle.table.specs.declared.logs.Step.{Step}
-use Rattle.table.specs.Taking.{betweenOf, firstOf, behindLog, readOf, goesOn, lengthStep, logStep, stepOf, lastOf}
+use Rattle.table.specs.Taking.{betweenOf, firstOf, behindLog, readOf, goesOn, lengthStep, leftOf, logStep, stepOf, lastOf}
 
 module _ (digits number octet : ℕ) where
   pub below-digits : octet < 48 → false ≡ goesOn digits number octet
@@ -90,18 +90,14 @@ module _ (i : Input) (octet : ℕ) where
 
 -- octets of a log
 module _ (i : Input) (room : ℕ) where
-  abbrev withLeft : ℕ → Input
-  withLeft left =
-      record { refusal = i .refusal; logs = i .logs; left = left; digits = i .digits; number = i .number }
-
-  pub log-ends : i .left ≤ room → record { input = withLeft 0; octets = i .left; used = i .left; whole = true } ≡ logStep i room
+  pub log-ends : i .left ≤ room → record { input = leftOf i 0; octets = i .left; used = i .left; whole = true } ≡ logStep i room
   unfolding logStep
   log-ends there =
       let none : i .left - room ≡ 0 = omega (arith, there) in
       sym (rw (none, le-leb (i .left) room there))
 
   pub log-goes : room < i .left
-      → record { input = withLeft (i .left - room); octets = room; used = room; whole = false } ≡ logStep i room
+      → record { input = leftOf i (i .left - room); octets = room; used = room; whole = false } ≡ logStep i room
   unfolding logStep
   log-goes beyond = sym (rw (lt-leb (i .left) room beyond))
 

@@ -61,16 +61,13 @@ lengthStep i octet =
 abbrev pub shareOf : ℕ → ℕ → ℕ
 shareOf left room = cond (leb left room) left room
 
+abbrev pub leftOf : Input → ℕ → Input
+leftOf i left = record { refusal = i .refusal; logs = i .logs; left = left; digits = i .digits; number = i .number }
+
 unfoldable pub logStep : Input → ℕ → Step
 logStep i room =
     record {
-      input = record {
-        refusal = i .refusal;
-        logs = i .logs;
-        left = i .left - room;
-        digits = i .digits;
-        number = i .number;
-      };
+      input = leftOf i (i .left - room);
       octets = shareOf (i .left) room;
       used = shareOf (i .left) room;
       whole = leb (i .left) room;
@@ -100,18 +97,7 @@ pub record Stood : Type 0 where
 
 -- with the log of a file that begins
 abbrev pub openedOf : Sheet → Sheet
-openedOf s =
-    record {
-      input = record {
-        refusal = s .input .refusal;
-        logs = s .input .logs;
-        left = 18446744073709551615;
-        digits = 0;
-        number = 0;
-      };
-      tally = s .tally;
-      totals = s .totals;
-    }
+openedOf s = record { input = leftOf (s .input) 18446744073709551615; tally = s .tally; totals = s .totals }
 
 -- behind a log that ends here, and its row
 abbrev pub nextOf : Sheet → Sheet

@@ -51,22 +51,20 @@ pub fn start(files: usize) -> Sheet
     }
 }
 
-// The log of a file begins: nobody knows its length, and no file has so many octets as there may be.
+// The log of a file begins. Its length isn't known: it may have more octets than any file has.
 pub fn open_log(sheet: Sheet) -> Sheet
     ensures { λ r. ⌜ r ≡ openedOf sheet ⌝ }
 {
     let input = sheet.input;
-    let refusal = input.refusal;
-    let logs = input.logs;
     let tally = sheet.tally;
     let totals = sheet.totals;
     Sheet {
         input: Input {
-            refusal,
-            logs,
+            refusal: input.refusal,
+            logs: input.logs,
             left: 18446744073709551615,
-            digits: 0,
-            number: 0,
+            digits: input.digits,
+            number: input.number,
         },
         tally,
         totals,
