@@ -1,15 +1,24 @@
 -- Inputs of a few octets, from their logs to their refusals, computed.
 -- Assumes nothing.
 use mathlib.Core.Bool.{true, false}
-use mathlib.Core.List.{List, [], _∷_}
+use mathlib.Core.List.{List, [], _∷_, _++_}
 use mathlib.Core.Path.{_≡_, refl}
 use Prim.Native.Nat.{ℕ}
+use Rattle.reading.specs.Totals.{totalOf}
+use Rattle.figures.specs.Figures.{countsOf, perMillion, rowOf, tooMany}
+use Rattle.figures.specs.Sheets.{heardOver}
+use Rattle.text.specs.Text.{digitsOf}
 use Rattle.text.specs.Words.{words}
 use Rattle.table.specs.Logs.{areDigits, numberOn, lineIn, beginsWithLength, beginsWithLog, Logs, noLogs, logsTo, logsIn}
+use Rattle.table.specs.Table.{cellsOf, namesLine, logLines, tableOf, textOf, printedOf}
 
 unfolded : Unit {0}
 unfolding areDigits numberOn lineIn beginsWithLength beginsWithLog logsTo
 unfolded = tt
+
+printed : Unit {0}
+unfolding unfolded totalOf countsOf perMillion rowOf tooMany heardOver digitsOf cellsOf logLines tableOf textOf
+printed = tt
 
 abbrev some : List (List ℕ) → Logs
 some logs = record { refusal = 0; logs = logs }
@@ -67,3 +76,13 @@ more-behind-the-last = refl
 pub none-behind-the-last : logsTo 2 (words "0\n1\na") ≡ some ([] ∷ words "a" ∷ [])
 unfolding unfolded
 none-behind-the-last = refl
+
+-- "No input at all is a sheet of no logs: the names, and `all` with ten zeros"
+pub no-input-printed : printedOf [] ≡ namesLine ++ words "all,0,0,0,0,0,0,0,0,0,0\n"
+unfolding printed
+no-input-printed = refl
+
+-- "A sheet that is refused prints one line alone"
+pub refused-printed : printedOf (words "3\nab") ≡ words "sheet refused 5\n"
+unfolding printed
+refused-printed = refl

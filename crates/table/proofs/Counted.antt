@@ -18,7 +18,7 @@ use Rattle.figures.specs.Sheets.{heardIn}
 use Rattle.figures.specs.Taking.{tallyOver}
 use Rattle.figures.proofs.Walks.{any-division-counts}
 use Rattle.table.specs.declared.Input.{Input}
-use Rattle.table.specs.Taking.{betweenOf, firstOf, behindLog, Stood, nextOf, countedBy, logEnded, standing}
+use Rattle.table.specs.Taking.{betweenOf, firstOf, nextInput, Stood, nextOf, countedBy, logEnded, standing}
 
 -- with these logs added and this part of the next one counted: what comes of any pieces of it and of any logs behind it
 pub record Counted (rows₀ : List ℕ) (s : Stood) (done : List (List ℕ)) (part : List ℕ) : Type 0 where
@@ -55,7 +55,7 @@ module _ (rows₀ : List ℕ) where
   -- behind a log
   pub next-input : {s : Stood} {done : List (List ℕ)} {log : List ℕ} → length done < 4096 → Counted rows₀ s done log
       → nextOf (s .sheet) .input ≡ betweenOf (s .sheet .input .refusal) (length done + 1)
-  unfolding behindLog
+  unfolding nextInput
   next-input {s} few c = rw (le-ltb 4095 (s .sheet .input .logs) (omega (arith, c .logs, few)), c .logs)
 
   pub counted-log : {s : Stood} {done : List (List ℕ)} {log : List ℕ} → length done < 4096 → length log ≤ 18446744073709551615

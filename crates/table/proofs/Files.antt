@@ -19,7 +19,7 @@ use Rattle.table.specs.Taking.{
   leftOf,
   lastOf,
   firstOf,
-  behindLog,
+  nextInput,
   Stood,
   countedBy,
   logEnded,
@@ -149,7 +149,7 @@ pieces-refused s [] is = is
 pieces-refused s (p ∷ ps) is = pieces-refused (takenOf s p) ps (octets-refused 0 s p is)
 
 ends-refused : (s : Stood) → inputOf s .refusal ≡ 18 → inputOf (logEnded s) .refusal ≡ 18
-unfolding behindLog
+unfolding nextInput
 ends-refused s is = split (ltb 4095 (inputOf s .logs)) (λ t. rw t refl) (λ t. rw t is)
 
 all-refused : (s : Stood) (files : List (List (List ℕ))) → inputOf s .refusal ≡ 18 → inputOf (filesOver s files) .refusal ≡ 18

@@ -8,7 +8,7 @@ use borrow.Author.Tests.{eq-eqb, ne-eqb, lt-ltb, le-ltb, le-leb, lt-leb}
 use lib.Dec.{eqb, leb}
 use Rattle.table.specs.declared.Input.{Input}
 use Rattle.table.specs.declared.logs.Step.{Step}
-use Rattle.table.specs.Taking.{betweenOf, firstOf, behindLog, readOf, goesOn, lengthStep, leftOf, logStep, stepOf, lastOf}
+use Rattle.table.specs.Taking.{betweenOf, firstOf, nextInput, readOf, goesOn, lengthStep, leftOf, logStep, stepOf, lastOf}
 
 module _ (digits number octet : ℕ) where
   pub below-digits : octet < 48 → false ≡ goesOn digits number octet
@@ -45,12 +45,12 @@ module _ {r : Input} where
   unfolding firstOf
   first-few files few e = e ∙ sym (rw (le-ltb 4096 files few))
 
-  pub next-18 : (i : Input) → 4095 < i .logs → r ≡ betweenOf 18 (i .logs) → r ≡ behindLog i
-  unfolding behindLog
+  pub next-18 : (i : Input) → 4095 < i .logs → r ≡ betweenOf 18 (i .logs) → r ≡ nextInput i
+  unfolding nextInput
   next-18 i many e = e ∙ sym (rw (lt-ltb 4095 (i .logs) many))
 
-  pub next-one : (i : Input) → i .logs ≤ 4095 → r ≡ betweenOf (i .refusal) (i .logs + 1) → r ≡ behindLog i
-  unfolding behindLog
+  pub next-one : (i : Input) → i .logs ≤ 4095 → r ≡ betweenOf (i .refusal) (i .logs + 1) → r ≡ nextInput i
+  unfolding nextInput
   next-one i few e = e ∙ sym (rw (le-ltb 4095 (i .logs) few))
 
 -- an octet between two logs

@@ -22,7 +22,7 @@ use Rattle.table.specs.declared.Sheet.{Sheet}
 use Rattle.table.specs.declared.logs.Step.{Step}
 use Rattle.table.specs.Taking.{
   firstOf,
-  behindLog,
+  nextInput,
   goesOn,
   lengthStep,
   logStep,
@@ -53,7 +53,7 @@ starts files tally input j = sheetOf (input j) (tally j) (tally j .noted .counts
 
 -- a log's end
 pub ends-log : (s : Sheet) (rows : List ℕ) {i : Input} {t : Tally} {totals : Counts} {rows₁ : List ℕ}
-    → Adds rows (s .input .logs) (s .totals) (s .tally .noted .counts) totals rows₁ → i ≡ behindLog (s .input) → t ≡ startTally
+    → Adds rows (s .input .logs) (s .totals) (s .tally .noted .counts) totals rows₁ → i ≡ nextInput (s .input) → t ≡ startTally
     → EndsLog s rows (sheetOf i t totals) rows₁
 ends-log s rows added input tally =
     record {

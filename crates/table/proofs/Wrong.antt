@@ -30,7 +30,7 @@ use Rattle.table.specs.Taking.{
   stepOf,
   lastOf,
   firstOf,
-  behindLog,
+  nextInput,
   startOf,
   Stood,
   settledOf,
@@ -55,7 +55,7 @@ use Rattle.table.proofs.take.Reads as take-reads
 
 -- every definition on the way down to the numbers
 unfolded : Unit {0}
-unfolding goesOn lengthStep logStep stepOf lastOf firstOf behindLog settledOf takenFrom closedEnd endedOf rowAt lineOf
+unfolding goesOn lengthStep logStep stepOf lastOf firstOf nextInput settledOf takenFrom closedEnd endedOf rowAt lineOf
 unfolded = tt
 
 counted : Unit {0}

@@ -29,8 +29,8 @@ unfoldable pub firstOf : ℕ → Input
 firstOf files = cond (ltb 4096 files) (betweenOf 18 0) (betweenOf 0 0)
 
 -- behind a log that ends here
-unfoldable pub behindLog : Input → Input
-behindLog i = cond (ltb 4095 (i .logs)) (betweenOf 18 (i .logs)) (betweenOf (i .refusal) (i .logs + 1))
+unfoldable pub nextInput : Input → Input
+nextInput i = cond (ltb 4095 (i .logs)) (betweenOf 18 (i .logs)) (betweenOf (i .refusal) (i .logs + 1))
 
 -- an octet of a length, behind which no log is whole
 abbrev pub readOf : Input → Step
@@ -103,7 +103,7 @@ openedOf s = record { input = leftOf (s .input) 18446744073709551615; tally = s 
 abbrev pub nextOf : Sheet → Sheet
 nextOf s =
     record {
-      input = behindLog (s .input);
+      input = nextInput (s .input);
       tally = startTally;
       totals = capped (plusOf (s .totals) (s .tally .noted .counts));
     }

@@ -1,7 +1,7 @@
 // Logs on standard input, each after its length: what the next octets belong to.
 use crate::Input;
 ghost use mathlib.Core.Path.{_≡_};
-ghost use Rattle.table.specs.Taking.{betweenOf, firstOf, behindLog, readOf, goesOn, lengthStep, logStep, stepOf, lastOf};
+ghost use Rattle.table.specs.Taking.{betweenOf, firstOf, nextInput, readOf, goesOn, lengthStep, logStep, stepOf, lastOf};
 
 // What the octets ahead are: how many belong to the log that is read, how many are used, whether the log is whole behind them, and
 // the input there.
@@ -37,7 +37,7 @@ pub(crate) fn first(files: usize) -> Input
 
 // Behind a log that ends here: 18 where it isn't one of the first 4,096.
 pub(crate) fn next(input: Input) -> Input
-    ensures { λ r. ⌜ r ≡ behindLog input ⌝ }
+    ensures { λ r. ⌜ r ≡ nextInput input ⌝ }
 {
     let logs = input.logs;
     if 4095 < logs {
