@@ -14,7 +14,7 @@ unfoldable pub areDigits : List ℕ → Bool
 areDigits [] = true
 areDigits (octet ∷ octets) = isDigit octet && areDigits octets
 
--- the number of digits that stand behind those of another
+-- the number that decimal digits make behind those already read
 unfoldable pub numberOn : ℕ → List ℕ → ℕ
 numberOn n [] = n
 numberOn n (digit ∷ digits) = numberOn (10 * n + (digit - 48)) digits
@@ -31,7 +31,7 @@ behindLine input = drop (length (lineIn input) + 1) input
 abbrev pub lengthIn : List ℕ → ℕ
 lengthIn input = numberOn 0 (lineIn input)
 
--- "one to ten decimal digits, a newline", and the number isn't "above 4,294,967,295"
+-- "one to ten decimal digits, a newline", and not "above 4,294,967,295". The first test says that a newline ends the line
 unfoldable pub beginsWithLength : List ℕ → Bool
 beginsWithLength input =
     ltb (length (lineIn input)) (length input)
@@ -42,6 +42,7 @@ beginsWithLength input =
 unfoldable pub beginsWithLog : List ℕ → Bool
 beginsWithLog input = beginsWithLength input && leb (lengthIn input) (length (behindLine input))
 
+-- these octets are a log; and what stands behind it
 abbrev pub firstLog : List ℕ → List ℕ
 firstLog input = take (lengthIn input) (behindLine input)
 
@@ -59,8 +60,8 @@ noLogs refusal = record { refusal = refusal; logs = [] }
 abbrev pub withLog : List ℕ → Logs → Logs
 withLog log behind = record { refusal = behind .refusal; logs = log ∷ behind .logs }
 
--- so many logs at most: "18 where more comes after the 4,096th log; 5 at a length that isn't one to ten decimal digits and a
--- newline, or is above 4,294,967,295 .., or where the input ends before that many octets"
+-- the logs of an input that may hold so many: "18 where more comes after the 4,096th log; 5 at a length that isn't one to ten
+-- decimal digits and a newline, or is above 4,294,967,295 .., or where the input ends before that many octets"
 unfoldable pub logsTo : ℕ → List ℕ → Logs
 logsTo zero input = cond (eqb (length input) 0) (noLogs 0) (noLogs 18)
 logsTo (suc most) input =

@@ -46,15 +46,15 @@ unfoldable pub tableOf : List (List ℕ) → List ℕ
 tableOf logs =
     cond (tooMany (totalsOf logs)) (refusedLine 19) (namesLine ++ (logLines 0 logs ++ allLine (rowOf (totalsOf logs))))
 
--- what is printed of logs, or of their refusal
+-- what is printed of the logs of an input, or of its refusal
 unfoldable pub textOf : Logs → List ℕ
 textOf l = cond (eqb (l .refusal) 0) (tableOf (l .logs)) (refusedLine (l .refusal))
 
--- of those on standard input
+-- of standard input
 abbrev pub printedOf : List ℕ → List ℕ
 printedOf input = textOf (logsIn input)
 
--- and of files, each of them a whole log
+-- of files, each of them a whole log: "18 for more than 4,096 logs"
 unfoldable pub printedOfFiles : List (List ℕ) → List ℕ
 printedOfFiles logs = cond (ltb 4096 (length logs)) (refusedLine 18) (tableOf logs)
 

@@ -71,7 +71,7 @@ pub fn open_log(sheet: Sheet) -> Sheet
     }
 }
 
-// Adds the log that is counted, which ends here, and writes its row. The next one may begin. 18 behind the 4,096th log.
+// Adds the log that is counted, which ends here, and writes its row. The next one may begin. 18 for a log behind the 4,096th.
 pub fn next_log(sheet: Sheet, rows: &mut [u32]) -> Sheet
     ensures { λ r. ⌜ EndsLog sheet (now (rows .entry)) r (now (rows .exit)) ⌝ }
 {
