@@ -17,6 +17,7 @@ use Rattle.table.specs.Logs.{areDigits, numberOn, Logs, noLogs, withLog,
 use Rattle.table.specs.Taking.{
   betweenOf,
   readOf,
+  beginsOf,
   goesOn,
   lengthStep,
   shareOf,
@@ -54,7 +55,7 @@ withLogs done behind = record { refusal = behind .refusal; logs = done ++ behind
 abbrev pub inputOf : Stood → Input
 inputOf s = s .sheet .input
 
--- between two logs, with these digits of a length read
+-- between two logs, with these digits of a length read; none behind the 4,096th log
 pub record Between (i : Input) (done : List (List ℕ)) (ds : List ℕ) : Type 0 where
   pub none : i .refusal ≡ 0
   pub out : i .left ≡ 0
@@ -207,10 +208,7 @@ module _ (rows₀ : List ℕ) (all : Logs) where
 
           -- a newline behind digits
           module _ (end : o ≡ 10) (some : inputOf s .digits ≡ 0 → ⊥) where
-            abbrev logNext : Input
-            logNext = record { refusal = 0; logs = inputOf s .logs; left = inputOf s .number; digits = 0; number = 0 }
-
-            at-newline : step ≡ record { input = logNext; octets = 0; used = 1; whole = eqb (inputOf s .number) 0 }
+            at-newline : step ≡ beginsOf (inputOf s .logs) (inputOf s .number)
             unfolding lengthStep
             at-newline = in-length ∙ rw (here, eq-eqb o 10 end, ne-eqb (inputOf s .digits) 0 some)
 
@@ -224,7 +222,7 @@ module _ (rows₀ : List ℕ) (all : Logs) where
             past-newline : After step
             unfolding settledOf
             past-newline =
-                let counted = counted-by rows₀ logNext [] refl c in
+                let counted = counted-by rows₀ (beginsOf (inputOf s .logs) (inputOf s .number) .input) [] refl c in
                 split (eqb (inputOf s .number) 0)
                 (λ t.
                 let none : inputOf s .number ≡ 0 = eqb-true (inputOf s .number) 0 t in

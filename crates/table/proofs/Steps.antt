@@ -5,10 +5,22 @@ use mathlib.Core.Path.{_≡_, sym, _∙_}
 use Prim.Native.Nat.{ℕ, _+_, _*_, _-_, _≤_, _<_}
 use native.Mathlib.Omega.{arith}
 use borrow.Author.Tests.{eq-eqb, ne-eqb, lt-ltb, le-ltb, le-leb, lt-leb}
-use lib.Dec.{eqb, leb}
+use lib.Dec.{leb}
 use Rattle.table.specs.declared.Input.{Input}
 use Rattle.table.specs.declared.logs.Step.{Step}
-use Rattle.table.specs.Taking.{betweenOf, firstOf, nextInput, readOf, goesOn, lengthStep, leftOf, logStep, stepOf, lastOf}
+use Rattle.table.specs.Taking.{
+  betweenOf,
+  firstOf,
+  nextInput,
+  readOf,
+  beginsOf,
+  goesOn,
+  lengthStep,
+  leftOf,
+  logStep,
+  stepOf,
+  lastOf,
+}
 
 module _ (digits number octet : ℕ) where
   pub below-digits : octet < 48 → false ≡ goesOn digits number octet
@@ -64,16 +76,9 @@ module _ (i : Input) (octet : ℕ) where
     unfolding lengthStep
     no-length end none e = e ∙ sym (rw (le-ltb 4095 (i .logs) few, eq-eqb octet 10 end, eq-eqb (i .digits) 0 none))
 
-    pub whole-length : octet ≡ 10 → (i .digits ≡ 0 → ⊥)
-        → record {
-          input = record { refusal = 0; logs = i .logs; left = i .number; digits = 0; number = 0 };
-          octets = 0;
-          used = 1;
-          whole = eqb (i .number) 0;
-        }
-        ≡ lengthStep i octet
+    pub whole-length : {r : Step} → octet ≡ 10 → (i .digits ≡ 0 → ⊥) → r ≡ beginsOf (i .logs) (i .number) → r ≡ lengthStep i octet
     unfolding lengthStep
-    whole-length end some = sym (rw (le-ltb 4095 (i .logs) few, eq-eqb octet 10 end, ne-eqb (i .digits) 0 some))
+    whole-length end some e = e ∙ sym (rw (le-ltb 4095 (i .logs) few, eq-eqb octet 10 end, ne-eqb (i .digits) 0 some))
 
     module _ (more : octet ≡ 10 → ⊥) where
       pub no-digit : {r : Step} → goesOn (i .digits) (i .number) octet ≡ false → r ≡ readOf (betweenOf 5 (i .logs))

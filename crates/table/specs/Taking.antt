@@ -36,6 +36,16 @@ nextInput i = cond (ltb 4095 (i .logs)) (betweenOf 18 (i .logs)) (betweenOf (i .
 abbrev pub readOf : Input → Step
 readOf i = record { input = i; octets = 0; used = 1; whole = false }
 
+-- behind a length: a log of so many octets begins
+abbrev pub beginsOf : ℕ → ℕ → Step
+beginsOf logs octets =
+    record {
+      input = record { refusal = 0; logs = logs; left = octets; digits = 0; number = 0 };
+      octets = 0;
+      used = 1;
+      whole = eqb octets 0;
+    }
+
 -- the next digit of a length
 unfoldable pub goesOn : ℕ → ℕ → ℕ → Bool
 goesOn digits number octet = leb 48 octet && (leb octet 57 && (leb digits 9 && leb (10 * number + (octet - 48)) 4294967295))
@@ -45,13 +55,7 @@ unfoldable pub lengthStep : Input → ℕ → Step
 lengthStep i octet =
     cond (ltb 4095 (i .logs)) (readOf (betweenOf 18 (i .logs)))
     (cond (eqb octet 10)
-    (cond (eqb (i .digits) 0) (readOf (betweenOf 5 (i .logs)))
-    (record {
-      input = record { refusal = 0; logs = i .logs; left = i .number; digits = 0; number = 0 };
-      octets = 0;
-      used = 1;
-      whole = eqb (i .number) 0;
-    }))
+    (cond (eqb (i .digits) 0) (readOf (betweenOf 5 (i .logs))) (beginsOf (i .logs) (i .number)))
     (cond (goesOn (i .digits) (i .number) octet)
     (readOf
     (record { refusal = 0; logs = i .logs; left = 0; digits = i .digits + 1; number = 10 * i .number + (octet - 48) }))

@@ -1,7 +1,18 @@
 // Logs on standard input, each after its length: what the next octets belong to.
 use crate::Input;
 ghost use mathlib.Core.Path.{_≡_};
-ghost use Rattle.table.specs.Taking.{betweenOf, firstOf, nextInput, readOf, goesOn, lengthStep, logStep, stepOf, lastOf};
+ghost use Rattle.table.specs.Taking.{
+  betweenOf,
+  firstOf,
+  nextInput,
+  readOf,
+  beginsOf,
+  goesOn,
+  lengthStep,
+  logStep,
+  stepOf,
+  lastOf,
+};
 
 // What the octets ahead are: how many belong to the log that is read, how many are used, whether the log is whole behind them, and
 // the input there.
@@ -83,8 +94,26 @@ fn goes_on(digits: u8, number: u64, octet: u8) -> bool
     10 * number + (octet - 48) as u64 <= 4294967295
 }
 
-// An octet between two logs belongs to a length: 18 behind the 4,096th log, 5 where it is no length. A log of no octets is whole at
-// once.
+// Behind a length: a log of so many octets begins. One of none is whole at once.
+fn begins(logs: usize, octets: u64) -> Step
+    ensures { λ r. ⌜ r ≡ beginsOf logs octets ⌝ }
+{
+    let whole = octets == 0;
+    Step {
+        input: Input {
+            refusal: 0,
+            logs,
+            left: octets,
+            digits: 0,
+            number: 0,
+        },
+        octets: 0,
+        used: 1,
+        whole,
+    }
+}
+
+// An octet between two logs belongs to a length: 18 behind the 4,096th log, 5 where it is no length.
 fn length_step(input: Input, octet: u8) -> Step
     ensures { λ r. ⌜ r ≡ lengthStep input octet ⌝ }
 {
@@ -96,20 +125,7 @@ fn length_step(input: Input, octet: u8) -> Step
         if input.digits == 0 {
             return stopped(5, logs);
         }
-        let left = input.number;
-        let whole = left == 0;
-        return Step {
-            input: Input {
-                refusal: 0,
-                logs,
-                left,
-                digits: 0,
-                number: 0,
-            },
-            octets: 0,
-            used: 1,
-            whole,
-        };
+        return begins(logs, input.number);
     }
     if !goes_on(input.digits, input.number, octet) {
         return stopped(5, logs);

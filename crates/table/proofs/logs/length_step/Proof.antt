@@ -19,7 +19,8 @@ returns-2 c = no-length _ _ (c .before .before .before .before .if1 .left) (c .b
     (c .before .if3 .taken) (c .stopped2 .ensures)
 
 returns-3 : tie.Need-returns-3
-returns-3 c = whole-length _ _ (c .before .before .before .if1 .left) (c .before .before .if2 .taken) (c .if3 .left)
+returns-3 c = whole-length _ _ (c .before .before .before .before .if1 .left) (c .before .before .before .if2 .taken)
+    (c .before .if3 .left) (c .begins .ensures)
 
 returns-4 : tie.Need-returns-4
 returns-4 c =
@@ -49,5 +50,5 @@ returns-5 c = next-digit _ _ (c .before .before .before .before .before .if1 .le
 pub length-step-spec : {M : Type 1} → statement M
 length-step-spec =
     tie.close
-    (tie.spec (search needs) returns (search needs) returns-2 returns-3 (search needs) (search needs) returns-4 add-digits
-    mul-number sub-number (search needs) add-number returns-5)
+    (tie.spec (search needs) returns (search needs) returns-2 (search needs) returns-3 (search needs) (search needs) returns-4
+    add-digits mul-number sub-number (search needs) add-number returns-5)
