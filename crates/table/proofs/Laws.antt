@@ -1,80 +1,22 @@
--- Laws of a length that is read digit by digit, and of the lines of a table.
+-- Laws of the lines of a table.
 -- Assumes nothing.
-use mathlib.Core.Bool.{true, false}
+use mathlib.Core.Bool.{true}
 use mathlib.Core.List.{List, [], _∷_, _++_, append-assoc, append-nil}
-use mathlib.Core.Path.{_≡_, refl, sym, _∙_, ap}
-use Prim.Native.Nat.{ℕ, _+_, _*_, _-_, _≤_, _<_}
+use mathlib.Core.Path.{_≡_, sym, _∙_, ap}
+use Prim.Native.Nat.{ℕ, _+_, _*_, _-_, _/_, _≤_, _<_}
 use native.Mathlib.Numerals.{add-one}
-use native.Mathlib.Omega.{arith}
-use borrow.Author.Tests.{eq-eqb, ne-eqb, lt-ltb, le-ltb}
-use lib.Dec.{eqb, ltb}
-use lib.ListN.{length, getD, take}
+use borrow.Author.Tests.{eq-eqb, ne-eqb, le-leb, lt-leb}
+use lib.ListN.{length, getD, take, drop}
 use lib.Seq.{take-suc, take-all}
+use Rattle.runs.specs.Runs.{over}
 use Rattle.text.specs.declared.Put.{Put}
-use Rattle.text.specs.Put.{Puts}
-use Rattle.text.specs.Text.{item}
+use Rattle.text.specs.Put.{Puts, listed}
+use Rattle.text.specs.Text.{decimal, item}
 use Rattle.text.specs.Words.{words}
 use Rattle.text.proofs.Laws.{puts-then, puts-same, said-from-start, wrote-from-start}
-use Rattle.table.specs.declared.Length.{Length}
-use Rattle.table.specs.Lengths.{isNone, isOdd, lengthOn}
-use Rattle.table.specs.Table.{cellsOf, Prints}
-
-module _ (l : Length) (octet : ℕ) where
-  pub length-ended : (l .stage ≡ 0 → ⊥) → l ≡ lengthOn l octet
-  unfolding lengthOn
-  length-ended some = sym (rw (ne-eqb (l .stage) 0 some) refl)
-
-  module _ (going : l .stage ≡ 0) where
-    pub length-empty : {r : Length} → octet ≡ 10 → l .digits ≡ 0 → r ≡ isNone → r ≡ lengthOn l octet
-    unfolding lengthOn
-    length-empty end none e = e ∙ sym (rw (eq-eqb (l .stage) 0 going, eq-eqb octet 10 end, eq-eqb (l .digits) 0 none) refl)
-
-    pub length-whole : octet ≡ 10 → (l .digits ≡ 0 → ⊥)
-        → record { stage = 1; digits = l .digits; octets = l .octets } ≡ lengthOn l octet
-    unfolding lengthOn
-    length-whole end some = sym (rw (eq-eqb (l .stage) 0 going, eq-eqb octet 10 end, ne-eqb (l .digits) 0 some) refl)
-
-    module _ (more : octet ≡ 10 → ⊥) where
-      odd : {r : Length} → isOdd l octet ≡ true → r ≡ isNone → r ≡ lengthOn l octet
-      unfolding lengthOn
-      odd is e = e ∙ sym (rw (eq-eqb (l .stage) 0 going, ne-eqb octet 10 more, is) refl)
-
-      pub no-digit : {r : Length} → octet < 48 → r ≡ isNone → r ≡ lengthOn l octet
-      unfolding isOdd
-      no-digit low e = odd (rw (lt-ltb octet 48 low) refl) e
-
-      module _ (from : 48 ≤ octet) where
-        pub past-digits : {r : Length} → 57 < octet → r ≡ isNone → r ≡ lengthOn l octet
-        unfolding isOdd
-        past-digits high e = odd (rw (le-ltb octet 48 from, lt-ltb 57 octet high) refl) e
-
-        module _ (to : octet ≤ 57) where
-          pub too-many-digits : {r : Length} → 9 < l .digits → r ≡ isNone → r ≡ lengthOn l octet
-          unfolding isOdd
-          too-many-digits many e = odd (rw (le-ltb octet 48 from, le-ltb 57 octet to, lt-ltb 9 (l .digits) many) refl) e
-
-          module _ (few : l .digits ≤ 9) where
-            pub too-long : {r : Length} → 4294967295 < 10 * l .octets + (octet - 48) → r ≡ isNone → r ≡ lengthOn l octet
-            unfolding isOdd
-            too-long long e =
-                odd
-                (rw (le-ltb octet 48 from, le-ltb 57 octet to, le-ltb 9 (l .digits) few, lt-ltb 4294967295 _ long) refl)
-                e
-
-            pub length-more : 10 * l .octets + (octet - 48) ≤ 4294967295
-                → record { stage = 0; digits = l .digits + 1; octets = 10 * l .octets + (octet - 48) } ≡ lengthOn l octet
-            unfolding lengthOn isOdd
-            length-more fits =
-                sym
-                (rw (
-                  eq-eqb (l .stage) 0 going,
-                  ne-eqb octet 10 more,
-                  le-ltb octet 48 from,
-                  le-ltb 57 octet to,
-                  le-ltb 9 (l .digits) few,
-                  le-ltb 4294967295 _ fits,
-                )
-                refl)
+use Rattle.table.specs.declared.Ended.{Ended}
+use Rattle.table.specs.Table.{cellsOf, namesLine, logLine, allLine, refusedLine, Prints}
+use Rattle.table.specs.Taking.{rowAt, lineOf}
 
 -- a number more of a row
 cells-more : (xs : List ℕ) (x : ℕ) → cellsOf (xs ++ (x ∷ [])) ≡ cellsOf xs ++ item (words ",") x
@@ -103,3 +45,49 @@ pub prints : {run run₁ line : List ℕ} {start past : Put} → start ≡ recor
 prints {run} {run₁} {line} {past = past} begins p =
     let q : Puts run (record { octets = 0; whole = true }) run₁ past line = rw begins at p in
     record { said = said-from-start q; wrote = wrote-from-start q }
+
+pub prints-same : {run run₁ line same : List ℕ} {past : Put} → line ≡ same → Prints run past run₁ line → Prints run past run₁ same
+prints-same {run} e p =
+    record {
+      said = p .said ∙ ap (λ (l : List ℕ). listed (length run) l) e;
+      wrote = p .wrote ∙ ap (λ (l : List ℕ). over (take (length run) l) run) e;
+    }
+
+-- the line of a log, with the row at its place
+module _ (rows : List ℕ) (log : ℕ) {a b d : List ℕ} {s t u : Put} (start : s ≡ record { octets = 0; whole = true })
+    (number : Puts a s b t (decimal log))
+  where
+    with-row : {row : List ℕ} → row ≡ rowAt rows log → Puts b t d u (cellsOf row ++ words "\n")
+        → Prints a u d (logLine log (rowAt rows log))
+    with-row is p = prints start (puts-then number (puts-same (ap (λ (r : List ℕ). cellsOf r ++ words "\n") is) p))
+
+    pub without-row : length rows / 10 ≤ log → Puts b t d u (cellsOf [] ++ words "\n") → Prints a u d (logLine log (rowAt rows log))
+    unfolding rowAt
+    without-row past p = with-row (sym (rw (le-leb (length rows / 10) log past))) p
+
+    pub row-there : {n : ℕ} → log < length rows / 10 → n ≡ 10 → Puts b t d u (cellsOf (take n (drop (10 * log) rows)) ++ words "\n")
+        → Prints a u d (logLine log (rowAt rows log))
+    unfolding rowAt
+    row-there within ten p =
+        with-row (ap (λ (k : ℕ). take k (drop (10 * log) rows)) ten ∙ sym (rw (lt-leb (length rows / 10) log within))) p
+
+-- a line by its place
+module _ (e : Ended) (rows : List ℕ) (index : ℕ) where
+  pub line-refused : (e .answer .refusal ≡ 0 → ⊥) → refusedLine (e .answer .refusal) ≡ lineOf e rows index
+  unfolding lineOf
+  line-refused some = sym (rw (ne-eqb (e .answer .refusal) 0 some))
+
+  module _ (none : e .answer .refusal ≡ 0) where
+    pub line-names : index ≡ 0 → namesLine ≡ lineOf e rows index
+    unfolding lineOf
+    line-names first = sym (rw (eq-eqb (e .answer .refusal) 0 none, eq-eqb index 0 first))
+
+    module _ (later : index ≡ 0 → ⊥) where
+      pub line-log : index ≤ e .logs → logLine (index - 1) (rowAt rows (index - 1)) ≡ lineOf e rows index
+      unfolding lineOf
+      line-log within =
+          sym (rw (eq-eqb (e .answer .refusal) 0 none, ne-eqb index 0 later, le-leb index (e .logs) within))
+
+      pub line-all : e .logs < index → allLine (e .answer .totals) ≡ lineOf e rows index
+      unfolding lineOf
+      line-all past = sym (rw (eq-eqb (e .answer .refusal) 0 none, ne-eqb index 0 later, lt-leb index (e .logs) past))

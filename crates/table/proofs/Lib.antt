@@ -1,6 +1,13 @@
 pub mod Cases
-pub mod Inputs
+pub mod Counted
+pub mod Division
+pub mod Files
 pub mod Laws
+pub mod Lengths
 pub mod One
+pub mod Printed
 pub mod Short
+pub mod Steps
+pub mod Taken
+pub mod Whole
 pub mod Wrong

@@ -1,3 +1,3 @@
-pub mod Input
-pub mod Lengths
+pub mod Logs
 pub mod Table
+pub mod Taking

@@ -3,13 +3,17 @@
 use mathlib.Core.Bool.{cond}
 use mathlib.Core.List.{List, [], _∷_, _++_}
 use mathlib.Core.Path.{_≡_}
-use Prim.Native.Nat.{ℕ}
+use Prim.Native.Nat.{ℕ, _+_}
+use lib.Dec.{eqb, ltb}
 use lib.ListN.{length, take}
 use Rattle.runs.specs.Runs.{over}
+use Rattle.figures.specs.Figures.{countsOf, rowOf, tooMany}
+use Rattle.figures.specs.Sheets.{heardIn, totalsOf}
 use Rattle.text.specs.declared.Put.{Put}
 use Rattle.text.specs.Put.{listed}
 use Rattle.text.specs.Text.{decimal, item}
 use Rattle.text.specs.Words.{words}
+use Rattle.table.specs.Logs.{Logs, logsIn}
 
 -- numbers, each behind a comma
 unfoldable pub cellsOf : List ℕ → List ℕ
@@ -31,6 +35,28 @@ allLine row = words "all" ++ (cellsOf row ++ words "\n")
 -- "A sheet that is refused prints one line alone"
 abbrev pub refusedLine : ℕ → List ℕ
 refusedLine refusal = item (words "sheet refused ") refusal ++ words "\n"
+
+-- "one line for each log (counted from 0) with its ten numbers"
+unfoldable pub logLines : ℕ → List (List ℕ) → List ℕ
+logLines index [] = []
+logLines index (log ∷ logs) = logLine index (rowOf (countsOf (heardIn log))) ++ logLines (index + 1) logs
+
+-- "the line of names, one line for each log .. and last the line `all`"; "19 at the end"
+unfoldable pub tableOf : List (List ℕ) → List ℕ
+tableOf logs =
+    cond (tooMany (totalsOf logs)) (refusedLine 19) (namesLine ++ (logLines 0 logs ++ allLine (rowOf (totalsOf logs))))
+
+-- what is printed of the logs of an input, or of its refusal
+unfoldable pub textOf : Logs → List ℕ
+textOf l = cond (eqb (l .refusal) 0) (tableOf (l .logs)) (refusedLine (l .refusal))
+
+-- of standard input
+abbrev pub printedOf : List ℕ → List ℕ
+printedOf input = textOf (logsIn input)
+
+-- of files, each of them a whole log: "18 for more than 4,096 logs"
+unfoldable pub printedOfFiles : List (List ℕ) → List ℕ
+printedOfFiles logs = cond (ltb 4096 (length logs)) (refusedLine 18) (tableOf logs)
 
 -- the whole promise of a line: what was said, and what the lent run holds afterwards
 pub record Prints (run : List ℕ) (put : Put) (run₁ : List ℕ) (line : List ℕ) : Type 0 where

@@ -1,279 +1,176 @@
-// The text that `sheet` reads and prints: the length before a log on standard input, and the lines of the table.
+// What `sheet` prints, request 3: one table over many logs, which come in pieces, from files or on standard input, where each log
+// stands after its length. When all are taken, the table's lines are written one by one into a lent run.
+use figures::Answer;
+use figures::Counts;
+use figures::Tally;
+use logs::Step;
 use text::Put;
-ghost use mathlib.Core.Bool.{true};
-ghost use mathlib.Core.List.{_++_};
 ghost use mathlib.Core.Path.{_≡_};
-ghost use lib.ListN.{length, take};
-ghost use Rattle.runs.specs.Runs.{over};
-ghost use Rattle.text.specs.Put.{Puts};
-ghost use Rattle.text.specs.Words.{words};
-ghost use Rattle.table.specs.Table.{cellsOf, Prints, namesLine, logLine, allLine, refusedLine};
-ghost use Rattle.table.specs.Input.{refusedInput, moreOf, sharedOf, nextOf, lastOf};
-ghost use Rattle.table.specs.Lengths.{noLength, lengthOn};
+ghost use Rattle.table.specs.Table.{Prints};
+ghost use Rattle.table.specs.Taking.{startOf, openedOf, endedOf, lineOf, EndsLog, Steps, Takes};
 
-// A length that is read digit by digit. Its stage: 0 more may come, 1 it is whole, 2 it is none; how many digits, and their
-// number.
-pub struct Length {
-    pub stage: u8,
-    pub digits: u8,
-    pub octets: u64,
-}
+mod lines; // lines.rt: the lines of a table
+mod logs; // logs.rt: logs after their lengths
 
-// Before the first digit.
-pub fn no_length() -> Length
-    ensures { λ r. ⌜ r ≡ noLength ⌝ }
-{
-    Length {
-        stage: 0,
-        digits: 0,
-        octets: 0,
-    }
-}
-
-fn none() -> Length
-    ensures { λ r. ⌜ r ≡ record { stage = 2; digits = 0; octets = 0 } ⌝ }
-{
-    Length {
-        stage: 2,
-        digits: 0,
-        octets: 0,
-    }
-}
-
-// An octet more of the length: one to ten decimal digits and then a newline, at most 4,294,967,295. Nothing is read behind its
-// end.
-pub fn length_on(length: Length, octet: u8) -> Length
-    ensures { λ r. ⌜ r ≡ lengthOn length octet ⌝ }
-{
-    if length.stage != 0 {
-        return length;
-    }
-    if octet == 10 {
-        if length.digits == 0 {
-            return none();
-        }
-        return Length {
-            stage: 1,
-            digits: length.digits,
-            octets: length.octets,
-        };
-    }
-    if octet < 48 {
-        return none();
-    }
-    if 57 < octet {
-        return none();
-    }
-    if 9 < length.digits {
-        return none();
-    }
-    if 429496729 < length.octets {
-        return none();
-    }
-    let octets = 10 * length.octets + (octet - 48) as u64;
-    if 4294967295 < octets {
-        return none();
-    }
-    let digits = length.digits + 1;
-    Length {
-        stage: 0,
-        digits,
-        octets,
-    }
-}
-
-// Logs on standard input, one after the other, each after its length: the refusal so far (0: none), how many logs are whole,
-// whether octets of a log come next and how many are left of it, and the length that is read.
+// Logs on standard input, one after the other, each after its length: the refusal so far (0: none), how many logs are whole, how
+// many octets are left of the one that is read (0: between two logs), how many digits are read of a length, and their number.
 pub struct Input {
     pub refusal: u8,
     pub logs: usize,
-    pub inside: bool,
     pub left: u64,
-    pub length: Length,
+    pub digits: u8,
+    pub number: u64,
 }
 
-// How many octets belong to a log, and the input past them.
-pub struct Shared {
-    pub count: usize,
+// A sheet under way: where its input stands, the log that is counted, and the totals of the logs before it.
+pub struct Sheet {
     pub input: Input,
+    pub tally: Tally,
+    pub totals: Counts,
 }
 
-fn refused(refusal: u8, logs: usize) -> Input
-    ensures { λ r. ⌜ r ≡ refusedInput refusal logs ⌝ }
+// A sheet at its end: its refusal and the row of all logs together, how many logs, and how many lines.
+pub struct Ended {
+    pub answer: Answer,
+    pub logs: usize,
+    pub lines: usize,
+}
+
+// A sheet before the first octet of so many files: 18 for more than 4,096. On standard input nobody knows how many logs come: 0.
+pub fn start(files: usize) -> Sheet
+    ensures { λ r. ⌜ r ≡ startOf files ⌝ }
 {
-    Input {
-        refusal,
-        logs,
-        inside: false,
-        left: 0,
-        length: Length {
-            stage: 0,
-            digits: 0,
-            octets: 0,
+    let input = logs::first(files);
+    let tally = figures::start();
+    let noted = tally.noted;
+    let totals = noted.counts;
+    Sheet {
+        input,
+        tally,
+        totals,
+    }
+}
+
+// The log of a file begins. Its length isn't known: it may have more octets than any file has.
+pub fn open_log(sheet: Sheet) -> Sheet
+    ensures { λ r. ⌜ r ≡ openedOf sheet ⌝ }
+{
+    let input = sheet.input;
+    let tally = sheet.tally;
+    let totals = sheet.totals;
+    Sheet {
+        input: Input {
+            refusal: input.refusal,
+            logs: input.logs,
+            left: 18446744073709551615,
+            digits: input.digits,
+            number: input.number,
         },
+        tally,
+        totals,
     }
 }
 
-// Before the first octet.
-pub fn no_input() -> Input
-    ensures { λ r. ⌜ r ≡ refusedInput 0 0 ⌝ }
+// Adds the log that is counted, which ends here, and writes its row. The next one may begin. 18 for a log behind the 4,096th.
+pub fn next_log(sheet: Sheet, rows: &mut [u32]) -> Sheet
+    ensures { λ r. ⌜ EndsLog sheet (now (rows .entry)) r (now (rows .exit)) ⌝ }
 {
-    refused(0, 0)
-}
-
-// Past an octet that stands between logs: it belongs to a length. 18 behind the 4,096th log, 5 where it is no length.
-pub fn more(input: Input, octet: u8) -> Input
-    ensures { λ r. ⌜ r ≡ moreOf input octet ⌝ }
-{
-    let logs = input.logs;
-    if 4095 < logs {
-        return refused(18, logs);
-    }
-    let length = length_on(input.length, octet);
-    if length.stage == 2 {
-        return refused(5, logs);
-    }
-    let inside = length.stage == 1;
-    let left = length.octets;
-    Input {
-        refusal: 0,
-        logs,
-        inside,
-        left,
-        length,
+    let input = sheet.input;
+    let counted = sheet.tally;
+    let noted = counted.noted;
+    let totals = figures::add(rows, input.logs, sheet.totals, noted.counts);
+    let behind = logs::next(input);
+    let tally = figures::start();
+    Sheet {
+        input: behind,
+        tally,
+        totals,
     }
 }
 
-// How many of so many octets belong to the log that is read, and the input past them.
-pub fn share(input: Input, room: usize) -> Shared
-    ensures { λ r. ⌜ r ≡ sharedOf input room ⌝ }
+// Counts octets of a log, with the input behind them. Where the log is whole it is added.
+fn stepped(sheet: Sheet, step: Step, held: &mut [u8; 49], rows: &mut [u32], octets: &[u8]) -> Sheet
+    ensures { λ r. ⌜ Steps sheet step (now (held .entry)) (now (rows .entry)) (now (octets .entry)) r (now (held .exit))
+        (now (rows .exit)) ⌝ }
 {
-    let left = input.left;
-    let refusal = input.refusal;
-    let logs = input.logs;
-    let inside = input.inside;
-    let length = input.length;
-    let wide = room as u64;
-    if left < wide {
-        let count = left as usize;
-        return Shared {
-            count,
-            input: Input {
+    let input = step.input;
+    let totals = sheet.totals;
+    let tally = figures::take(sheet.tally, held, octets);
+    let counted = Sheet {
+        input,
+        tally,
+        totals,
+    };
+    if step.whole {
+        return next_log(counted, rows);
+    }
+    counted
+}
+
+// Takes a piece of standard input, digits of a length or octets of a log, or a piece of a file. The octets of a record that isn't
+// whole yet are held in `held`; each log that is whole has its row written into `rows`. Behind a refusal nothing is read.
+pub fn take(sheet: Sheet, held: &mut [u8; 49], rows: &mut [u32], piece: &[u8]) -> Sheet
+    ensures { λ r. ⌜ Takes sheet (now (held .entry)) (now (rows .entry)) (now (piece .entry)) r (now (held .exit))
+        (now (rows .exit)) ⌝ }
+{
+    let mut going = sheet;
+    let mut place = 0;
+    while place < piece.len() {
+        let step = logs::ahead(going.input, piece[place], piece.len() - place);
+        let end = place + step.octets;
+        going = stepped(going, step, held, rows, &piece[place..end]);
+        place += step.used;
+    }
+    going
+}
+
+// A sheet whose logs end here. 5 where standard input ends within a length or a log; then 19.
+pub fn end(sheet: Sheet) -> Ended
+    ensures { λ r. ⌜ r ≡ endedOf sheet ⌝ }
+{
+    let input = sheet.input;
+    let refusal = logs::last(input);
+    if refusal != 0 {
+        return Ended {
+            answer: Answer {
                 refusal,
-                logs,
-                inside,
-                left: 0,
-                length,
+                totals: [0u32; 10],
             },
+            logs: 0,
+            lines: 1,
         };
     }
-    let rest = left - wide;
-    Shared {
-        count: room,
-        input: Input {
-            refusal,
-            logs,
-            inside,
-            left: rest,
-            length,
-        },
+    let answer = figures::closed(sheet.totals);
+    if answer.refusal != 0 {
+        return Ended {
+            answer,
+            logs: 0,
+            lines: 1,
+        };
     }
-}
-
-// Past a log that is whole. There are no more than 4,096.
-pub fn next(input: Input) -> Input
-    ensures { λ r. ⌜ r ≡ nextOf input ⌝ }
-{
     let logs = input.logs;
-    if 4095 < logs {
-        return refused(input.refusal, 4096);
-    }
-    refused(input.refusal, logs + 1)
-}
-
-// The refusal of an input that ends here: 5 within a log or within a length.
-pub fn last(input: Input) -> u8
-    ensures { λ r. ⌜ r ≡ lastOf input ⌝ }
-{
-    let length = input.length;
-    if input.refusal != 0 {
-        return input.refusal;
-    }
-    if input.inside {
-        if input.left == 0 {
-            return 0;
-        }
-        return 5;
-    }
-    if length.digits == 0 {
-        return 0;
-    }
-    5
-}
-
-fn wide(n: u32) -> usize
-    ensures { λ r. ⌜ r ≡ n ⌝ }
-{
-    n as usize
-}
-
-// The numbers of a row, each behind a comma, and the line's end.
-fn put_row(run: &mut [u8], at: Put, row: &[u32]) -> Put
-    ensures { λ r. ⌜ Puts (now (run .entry)) at (now (run .exit)) r (cellsOf (now (row .entry)) ++ words "\n") ⌝ }
-{
-    let mut past = at;
-    let mut i = 0;
-    while i < row.len() {
-        past = text::put_item(run, past, b",", wide(row[i]));
-        i += 1;
-    }
-    text::put_all(run, past, b"\n")
-}
-
-fn from_start() -> Put
-    ensures { λ r. ⌜ r ≡ record { octets = 0; whole = true } ⌝ }
-{
-    Put {
-        octets: 0,
-        whole: true,
+    let lines = std::num::wrapping_add_usize(logs, 2);
+    Ended {
+        answer,
+        logs,
+        lines,
     }
 }
 
-// The line of names.
-pub fn names_line(run: &mut [u8]) -> Put
-    ensures { λ r. ⌜ Prints (now (run .entry)) r (now (run .exit)) namesLine ⌝ }
+// Writes a line of the table, counted from 0: the names, the logs, all together; or the one line of a sheet that is refused.
+pub fn line(run: &mut [u8], ended: Ended, rows: &[u32], index: usize) -> Put
+    ensures { λ r. ⌜ Prints (now (run .entry)) r (now (run .exit)) (lineOf ended (now (rows .entry)) index) ⌝ }
 {
-    let start = from_start();
-    text::put_all(
-        run,
-        start,
-        b"log,sound,missing,refused 8,refused 9,refused 15,refused 20,marked 0,marked 1,marked 2,missing per million\n",
-    )
-}
-
-// The line of a log, counted from 0.
-pub fn log_line(run: &mut [u8], index: usize, row: &[u32]) -> Put
-    ensures { λ r. ⌜ Prints (now (run .entry)) r (now (run .exit)) (logLine index (now (row .entry))) ⌝ }
-{
-    let start = from_start();
-    let past = text::put_number(run, start, index);
-    put_row(run, past, row)
-}
-
-// The line of all logs together.
-pub fn all_line(run: &mut [u8], row: &[u32]) -> Put
-    ensures { λ r. ⌜ Prints (now (run .entry)) r (now (run .exit)) (allLine (now (row .entry))) ⌝ }
-{
-    let start = from_start();
-    let past = text::put_all(run, start, b"all");
-    put_row(run, past, row)
-}
-
-// The one line of a sheet that is refused.
-pub fn refused_line(run: &mut [u8], refusal: u8) -> Put
-    ensures { λ r. ⌜ Prints (now (run .entry)) r (now (run .exit)) (refusedLine refusal) ⌝ }
-{
-    let start = from_start();
-    let past = text::put_item(run, start, b"sheet refused ", refusal as usize);
-    text::put_all(run, past, b"\n")
+    let answer = ended.answer;
+    if answer.refusal != 0 {
+        return lines::refused_line(run, answer.refusal);
+    }
+    if index == 0 {
+        return lines::names_line(run);
+    }
+    if index <= ended.logs {
+        return lines::log_line(run, rows, index - 1);
+    }
+    let totals = answer.totals;
+    lines::all_line(run, &totals)
 }

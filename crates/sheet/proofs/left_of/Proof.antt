@@ -1,6 +1,5 @@
 -- `sheet::left_of` meets its contract.
 -- Assumes nothing.
-use Prim.Native.Nat.{_<_}
 use native.Mathlib.Omega.{arith}
 use Rattle.sheet.proofs.left_of.Statement.{statement}
 use Rattle.sheet.proofs.left_of.Tie as tie

@@ -1,0 +1,15 @@
+-- `table::next_log` meets its contract.
+-- Assumes nothing.
+use borrow.Author.Needs.{needs}
+use Rattle.table.proofs.Taken.{ends-log}
+use Rattle.table.proofs.next_log.Statement.{statement}
+use Rattle.table.proofs.next_log.Tie as tie
+
+same-length : tie.Need-same-length
+same-length c = search needs
+
+returns : tie.Need-returns
+returns c = ends-log _ _ (c .before .before .before .before .add .ensures) (c .before .next .ensures) (c .start .ensures)
+
+pub next-log-spec : {M : Type 1} → statement M
+next-log-spec = tie.close (tie.spec (search needs) (search needs) (search needs) same-length returns)
