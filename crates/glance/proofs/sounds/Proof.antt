@@ -23,20 +23,27 @@ settings-requires c κs = search needs
 returns-3 : tie.Need-returns-3
 returns-3 c = refused-silent _ _ (c .before .before .settings .ensures) (c .if3 .taken)
 
+-- where the settings are settled, and where the cell has 48 octets
+abbrev settled : tie.Else3 → tie.After-settings
+settled c = c .before .before
+
+abbrev sized : tie.After-settings → tie.Else1
+sized c = c .before .before .before .before .before .before
+
 mul-used : tie.Need-mul-used
 mul-used c =
-    let limits = limits-of _ _ _ (c .before .before .before .settings .ensures) (c .before .if3 .left) in
+    let limits = limits-of _ _ _ (settled (c .before) .settings .ensures) (c .before .if3 .left) in
     omega (arith, limits .used-to)
 
 among-requires : tie.Need-among-requires
 among-requires c κs =
-    let limits = limits-of _ _ _ (c .before .before .before .settings .ensures) (c .before .if3 .left) in
-    (limits .sound, c .before .before .before .before .before .before .before .before .before .if1 .left, limits .used-in)
+    let limits = limits-of _ _ _ (settled (c .before) .settings .ensures) (c .before .if3 .left) in
+    (limits .sound, sized (settled (c .before)) .if1 .left, limits .used-in)
 
 returns-4 : tie.Need-returns-4
 returns-4 c =
-    sounds-said _ _ (c .before .before .before .before .settings .ensures) (c .before .before .if3 .left)
-    (c .before .before .before .before .before .before .before .before .before .before .if1 .left) (c .among .ensures)
+    let there = settled (c .before .before) in
+    sounds-said _ _ (there .settings .ensures) (c .before .before .if3 .left) (sized there .if1 .left) (c .among .ensures)
 
 pub sounds-spec : {M : Type 1} → statement M
 sounds-spec =
