@@ -2,7 +2,7 @@
 -- Assumes nothing.
 use mathlib.Core.Bool.{Bool, true, false, true≢false, _&&_, _||_}
 use mathlib.Core.List.{List, [], _∷_}
-use mathlib.Core.Path.{_≡_, refl, sym, _∙_, ap}
+use mathlib.Core.Path.{_≡_, refl, sym}
 use Prim.Native.Nat.{ℕ}
 use lib.Dec.{T, eqb, eqb→eq}
 use types.Run.{OneOf}
@@ -19,7 +19,6 @@ use Rattle.formats.specs.Formats.{
   widthOf,
   slotsOf,
   formatOf,
-  noFormat,
 }
 use Rattle.formats.proofs.Laws.{among-miss, listed-octet}
 use Rattle.glance.specs.declared.Masks.{Masks}
