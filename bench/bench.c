@@ -1,6 +1,6 @@
 /*
  * The proved sender and receiver, the AES3 cable's calls (frames.c) and the data units' calls (units.c), beside the baseline of
- * plain.c, and a sheet (sheets.c) beside plainsheet.c, in one process.
+ * plain.c, and calls that go through a log (walks.c) beside plainsheet.c and plainwalks.c, in one process.
  *
  *   bench rows                the rows' names, one a line
  *   bench times [ROWS]        ns per cell of each row: the least of many batches, the two taking turns
@@ -20,8 +20,8 @@
 #include "frames.h"
 #include "plain.h"
 #include "rimesatchel.h"
-#include "sheets.h"
 #include "units.h"
+#include "walks.h"
 
 enum { CELLS = 16, BATCH = 10 * CELLS, REPEATS = 1000, MOST_ENTRIES = 15 * RIME_MOST_SLOTS };
 
@@ -243,6 +243,6 @@ int main(int argc, char **argv) {
     }
     frames_rows(argv[1], &pattern);
     units_rows(argv[1], &pattern);
-    sheets_rows(argv[1], &pattern);
+    walks_rows(argv[1], &pattern);
     return 0;
 }

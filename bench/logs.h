@@ -15,6 +15,9 @@ enum { HEADER_OCTETS = 3, RECORD_OCTETS = 49 };
  */
 void make_log(const struct format *format, uint8_t channels, uint8_t order, size_t records, uint8_t *log);
 
+/* The same without any loss, all samples and ancillary bits zero. */
+void make_silence(const struct format *format, uint8_t channels, uint8_t order, size_t records, uint8_t *log);
+
 /* How many octets that is. */
 static inline size_t log_octets(size_t records) { return HEADER_OCTETS + records * RECORD_OCTETS; }
 

@@ -19,7 +19,8 @@ import sys
 import tempfile
 
 CELLS = 16  # calls in a batch, as in bench.c
-RECORDS = 1024  # records of a log, as in sheets.c
+RECORDS = 1024  # records of a log, as in walks.c
+WALKS = ('sheet', 'anything', 'list', 'salvage')  # calls that go through a log: told for one record
 
 # What is asked, in instructions: a number for the usual call, and for every other row a part of plain C's. Before request 8 it was
 # 395 and 348, 0.60 and 0.65; the division in place of the number table may take 32 and 20 more than the 379 and 338 before it, and
@@ -29,7 +30,8 @@ PART_OF_PLAIN = {'0': 0.64, '1': 0.69}
 PART_OF_PLAIN_WITHOUT_V = {'0': 0.60, '1': 0.65}  # 13, 15 and 17 hex: overhead and no ancillary field, request 4
 PART_OF_PLAIN_FRAMES = 1.2  # rows of an AES3 cable: a frame in and a frame out
 PART_OF_PLAIN_UNITS = 0.55  # rows of data units: export and read
-PART_OF_PLAIN_SHEETS = 0.65  # rows of a sheet; of plain C's time 0.40 is asked (sheet.c)
+# Rows of calls that go through a log. Of plain C's time 0.40 is asked of a sheet (sheet.c). Of a salvage nothing is asked.
+PART_OF_PLAIN_WALKS = {'sheet': 0.70, 'anything': 1.0, 'list': 1.0, 'salvage': float('inf')}
 
 # How far a guarded row may be from its number.
 MARGIN = 0.03
@@ -44,15 +46,15 @@ class Row:
         self.name, self.proved, self.plain, self.times = name, proved, plain, None
         parts = re.fullmatch(r'(\w+)-(\w\w)-C(\d+)-order(\d)(-gap14)?', name).groups()
         self.way, self.octet, self.channels, self.order, self.gap = parts
-        if self.way == 'sheet':
+        if self.way in WALKS:
             self.proved, self.plain = proved / RECORDS, plain / RECORDS
         self.asked = PART_OF_PLAIN[self.order] * self.plain
         if self.way in ('aes3_import', 'aes3_export'):
             self.asked = PART_OF_PLAIN_FRAMES * plain
         elif self.way in ('export', 'read'):
             self.asked = PART_OF_PLAIN_UNITS * plain
-        elif self.way == 'sheet':
-            self.asked = PART_OF_PLAIN_SHEETS * self.plain
+        elif self.way in WALKS:
+            self.asked = PART_OF_PLAIN_WALKS[self.way] * self.plain
         elif self.octet in ('13', '15', '17'):
             self.asked = PART_OF_PLAIN_WITHOUT_V[self.order] * plain
         elif self.octet == '56' and self.channels in ('1', '2') and self.order == '0' and not self.gap:
@@ -96,7 +98,7 @@ def add_times(rows, bench, pattern):
 
 def print_table(rows):
     timed = rows[0].times is not None
-    print('Per cell; of an AES3 cable per frame, of data units per call of 240 frames, of a sheet per record. Instructions are the')
+    print('Per cell; of an AES3 cable per frame, of data units per call of 240 frames, of a log per record. Instructions are the')
     print('same at every run, nanoseconds are not. ratio: proved / plain C.')
     print(f'{"":26} {"instructions":>24}' + (f' {"nanoseconds":>26}' if timed else ''))
     print(f'{"row":26} {"proved":>8} {"plain C":>8} {"ratio":>6}'
@@ -110,7 +112,7 @@ def print_table(rows):
 
 
 def tables(rows):
-    """Tables for packing, unpacking, gaps and frames: a line for each format and order, a column for each C."""
+    """Tables for packing, unpacking, gaps, frames and logs: a line for each format and order, a column for each C."""
     written = []
     for heading, wanted in (('packed', lambda row: row.way == 'pack'),
                             ('unpacked', lambda row: row.way == 'unpack' and not row.gap),
@@ -119,13 +121,16 @@ def tables(rows):
                             ('a frame of an AES3 cable exported', lambda row: row.way == 'aes3_export'),
                             ('240 frames exported', lambda row: row.way == 'export'),
                             ('240 frames read back', lambda row: row.way == 'read'),
-                            ('a record counted for a sheet', lambda row: row.way == 'sheet')):
+                            ('a record counted for a sheet', lambda row: row.way == 'sheet'),
+                            ('a record of silence looked at', lambda row: row.way == 'anything'),
+                            ('a record listed', lambda row: row.way == 'list'),
+                            ('a record salvaged', lambda row: row.way == 'salvage')):
         lines = {}
         for row in filter(wanted, rows):
             text = f'{row.proved:.0f} ({row.ratio:.2f})'
             lines.setdefault((row.octet, row.order), []).append(f'**{text}**' if row.proved > row.asked else text)
-        columns = ('C = 2',) if 'missing' in heading or 'frame' in heading else ('C = 1', 'C = 2', 'C = 5', 'C = S')
-        columns = ('C = 2', 'C = 5') if 'sheet' in heading else columns
+        columns = ('C = 1', 'C = 2', 'C = 5', 'C = S') if 'packed' in heading else ('C = 2',)
+        columns = ('C = 2',) if 'missing' in heading else ('C = 2', 'C = 5') if 'sheet' in heading else columns
         written += ['', '| ' + ' | '.join((heading, 'order') + columns) + ' |', '|---|---|' + '---|' * len(columns)]
         for (octet, order), texts in lines.items():
             written.append(f'| {octet} hex | {order} | ' + ' | '.join(texts) + ' |')

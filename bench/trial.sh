@@ -10,6 +10,6 @@ cd "$(dirname "$0")/.."
 python3 tools/quick_face.py
 mkdir -p target/trial
 gcc -O3 -std=gnu11 -Wall -Wextra -falign-functions=64 -falign-loops=32 -Iinclude -Ibench \
-    bench/{bench,formats,frames,logs,plain,plainsheet,sheets,units}.c target/quick/lib/librimesatchel.a -o target/trial/bench
+    bench/{bench,formats,frames,logs,plain,plainsheet,plainwalks,units,walks}.c target/quick/lib/librimesatchel.a -o target/trial/bench
 echo 'a trial: not proved'
 python3 bench/run.py --count target/trial/bench "${1:-.}"

@@ -27,6 +27,7 @@ static int of_log(const char *name, bool several) {
     struct lent lent;
     int status = lent_open(&lent, name);
     if (status != STATUS_WELL) return status;
+    if (lent_lost(&lent)) return lent_gone(&lent);
     uint64_t answer[RIME_ANSWER]; /* yes or no, and a record or how many */
     progress_watch(lent.name, lent.mapped, lent.size);
     unsigned refusal = rime_anything(lent.octets, lent.count, answer);

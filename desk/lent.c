@@ -6,6 +6,7 @@
 
 #include <errno.h>
 #include <fcntl.h>
+#include <signal.h>
 #include <stdio.h>
 #include <string.h>
 #include <sys/mman.h>
@@ -70,7 +71,30 @@ int lent_open(struct lent *lent, const char *name) {
     return status;
 }
 
+static struct lent *watched;
+
+/* A proved call holds nothing that would have to be given back: it can be left at any place. */
+static void leave(int signal) {
+    (void)signal;
+    siglongjmp(watched->back, 1);
+}
+
+void lent_watch(struct lent *lent) {
+    struct sigaction action = {.sa_handler = leave};
+    watched = lent;
+    sigaction(SIGBUS, &action, NULL);
+}
+
+int lent_gone(struct lent *lent) {
+    progress_watched();
+    progress_clear();
+    int status = say_unfit(lent->name, "became shorter while it was read, or can't be read to its end");
+    lent_close(lent);
+    return status;
+}
+
 void lent_close(struct lent *lent) {
+    signal(SIGBUS, SIG_DFL);
     if (lent->mapped != NULL) munmap(lent->mapped, lent->size);
     if (lent->fd > STDIN_FILENO) close(lent->fd);
     *lent = (struct lent){.fd = -1};

@@ -34,6 +34,7 @@ static int take_log(struct sheet *sheet, const char *name, bool quiet) {
     struct lent lent;
     int status = lent_open(&lent, name);
     if (status != STATUS_WELL) return status;
+    if (lent_lost(&lent)) return lent_gone(&lent);
     uint64_t length = lent.count;
     uint32_t figures[FIGURES], totals[FIGURES];
     progress_watch(lent.name, lent.mapped, lent.size);

@@ -33,7 +33,7 @@ BENCH_FLAGS := -O3 -std=gnu11 $(WARNINGS) -falign-functions=64 -falign-loops=32
 
 .PHONY: face-build face-test face-compare face-examples face-bindings face-archive fuzz
 .NOTPARALLEL:
-.PHONY: bench-build bench bench-count bench-table bench-keep bench-guard bench-list bench-anything bench-sheet fuzz-list sheet-19
+.PHONY: bench-build bench bench-count bench-table bench-keep bench-guard bench-list bench-anything bench-salvage bench-sheet fuzz-list sheet-19
 
 # The archives of this repository are made anew where a source is newer, so that nothing is measured or compared that isn't in the
 # crates. Those of another folder are taken as they are.
@@ -142,8 +142,8 @@ fuzz-list:
 	rm target/long.log target/long.list
 	@echo "linelist: a log of $(LONG_OCTETS) octets is listed alike"
 
-BENCH_SOURCES := $(addprefix bench/,bench.c formats.c frames.c logs.c plain.c plainsheet.c sheets.c units.c)
-BENCH_HEADERS := $(addprefix bench/,formats.h frames.h logs.h plain.h plainsheet.h sheets.h units.h)
+BENCH_SOURCES := $(addprefix bench/,bench.c formats.c frames.c logs.c plain.c plainsheet.c plainwalks.c units.c walks.c)
+BENCH_HEADERS := $(addprefix bench/,formats.h frames.h logs.h plain.h plainlog.h plainsheet.h plainwalks.h units.h walks.h)
 
 target/bench/bench: $(BENCH_SOURCES) $(BENCH_HEADERS) include/rimesatchel.h $(ARCHIVE)
 	mkdir -p target/bench
@@ -154,22 +154,26 @@ bench-build: face-archive
 
 bench: bench-build
 	python3 bench/run.py target/bench/bench '$(ROWS)'
-	$(MAKE) --no-print-directory -f tests/face.mk bench-list bench-anything
-	$(MAKE) --no-print-directory -f tests/face.mk bench-sheet
+	$(MAKE) --no-print-directory -f tests/face.mk bench-list bench-anything bench-salvage bench-sheet
 
-target/bench/plainlist: bench/plainlist.c
+target/bench/plainlist target/bench/plainanything target/bench/plainsalvage: target/bench/%: bench/%.c bench/plainlog.h
 	mkdir -p target/bench
 	gcc $(BENCH_FLAGS) $< -o $@
 
-bench-list: target/bench/plainlist
-	python3 bench/list.py $(LINELIST) target/bench/plainlist
+WRITELOG_SOURCES := $(addprefix bench/,writelog.c formats.c logs.c)
 
-target/bench/plainanything: bench/plainanything.c
+target/bench/writelog: $(WRITELOG_SOURCES) $(BENCH_HEADERS) include/rimesatchel.h $(ARCHIVE)
 	mkdir -p target/bench
-	gcc $(BENCH_FLAGS) $< -o $@
+	gcc $(BENCH_FLAGS) -Iinclude -Ibench $(WRITELOG_SOURCES) $(ARCHIVE) -o $@
 
-bench-anything: target/bench/plainanything
-	python3 bench/anything.py $(ANYTHING) target/bench/plainanything
+bench-list: target/bench/plainlist target/bench/writelog
+	python3 bench/programs.py linelist target/bench/writelog $(LINELIST) target/bench/plainlist
+
+bench-anything: target/bench/plainanything target/bench/writelog
+	python3 bench/programs.py anything target/bench/writelog $(ANYTHING) target/bench/plainanything
+
+bench-salvage: target/bench/plainsalvage target/bench/writelog
+	python3 bench/programs.py salvage target/bench/writelog target/bin/salvage target/bench/plainsalvage
 
 SHEET_SOURCES := $(addprefix bench/,sheet.c formats.c logs.c plainsheet.c)
 

@@ -277,6 +277,21 @@ ends 3 "is there already, and is kept" "$desk" receive long.log none/x.wav --lab
 ends 3 "No such file or directory" "$desk" receive long.log nowhere/x.wav
 ends 3 "Is a directory" "$desk" list none
 ends 3 "Is a directory" "$desk" anything none
+
+# A file that becomes shorter while it is mapped and looked at: 8 GB of silence, none of it on the disk.
+shortened() {
+    printf '\x02\x01\x00' > shrinking.log
+    truncate -s 8G shrinking.log
+    "$desk" "$1" -q still.log shrinking.log &
+    while kill -0 $! && ! grep -q shrinking.log "/proc/$!/maps"; do sleep 0.01; done
+    truncate -s 100 shrinking.log
+    wait $!
+}
+ends 3 "shrinking.log: became shorter while it was read" shortened anything
+grep -qx "still.log: no 20" said
+ends 3 "shrinking.log: became shorter while it was read" shortened sheet
+rm shrinking.log
+
 ends 0 "200 cells" "$desk" send piped.wav piped.log # a header of no known length is no cut
 cmp piped.log in-16-2.log && rm piped.log
 list_to_full() { "$desk" list long.log > /dev/full; }

@@ -1,6 +1,6 @@
 -- Laws of counts: sums of them, and counts that are too many.
 -- Assumes nothing.
-use mathlib.Core.Bool.{Bool, true, false, not, true≢false}
+use mathlib.Core.Bool.{Bool, true, false, not}
 use mathlib.Core.List.{List, [], _∷_, _++_, append-nil}
 use mathlib.Core.Path.{_≡_, refl, sym, _∙_, ap}
 use Prim.Native.Nat.{ℕ, _+_, _*_, _-_, _%_, _≤_, _<_}
@@ -152,15 +152,6 @@ few-first a b e = few-back a (under-first a b (few (plusOf a b) e))
 
 pub few-second : (a b : Counts) → tooMany (plusOf a b) ≡ false → tooMany b ≡ false
 few-second a b e = few-first b a (ap tooMany (plus-either-way b a) ∙ e)
-
--- so a sum with a part that is too many is too many
-pub many-first : (a b : Counts) → tooMany a ≡ true → tooMany (plusOf a b) ≡ true
-many-first a b e =
-    split (tooMany (plusOf a b)) (λ so. so) (λ not-so. absurd (true≢false (sym e ∙ few-first a b not-so)))
-
-pub many-second : (a b : Counts) → tooMany b ≡ true → tooMany (plusOf a b) ≡ true
-many-second a b e =
-    split (tooMany (plusOf a b)) (λ so. so) (λ not-so. absurd (true≢false (sym e ∙ few-second a b not-so)))
 
 -- lengths up to a place, and the rest
 pub sum-split : (lengths : List ℕ) (i : ℕ) → sumOf (take i lengths) + sumOf (drop i lengths) ≡ sumOf lengths

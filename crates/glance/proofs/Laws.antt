@@ -1,6 +1,6 @@
 -- Laws of a look at a cell: octets read, what is protected in a subframe, and what the entries come to.
 -- Assumes nothing.
-use mathlib.Core.Bool.{Bool, true, false}
+use mathlib.Core.Bool.{Bool, true, false, _&&_}
 use mathlib.Core.List.{List}
 use mathlib.Core.Path.{_≡_, refl, sym, _∙_, ap, ap₂}
 use Prim.Native.Nat.{ℕ, _+_, _*_, _/_, _%_, _-_, _^_, _≤_, _<_}
@@ -151,6 +151,16 @@ module _ (set : Settled) (cell : List ℕ) (limits : Limits set) where
       (slot-lt (set .channels) (set .times) (limits .channels-from) (set .«by_channel») h)
       (sym (entry-in-slot h) ∙ e)))
 
+-- a cell that isn't of 48 octets
+both-short : (b : Bool) → b && false ≡ false
+both-short true = refl
+both-short false = refl
+
+pub short-silent : (st : Receiver) (cell : List ℕ) → (length cell ≡ 48 → ⊥) → false ≡ soundsOf st cell
+unfolding soundsOf readable
+short-silent st cell short =
+    rw (ne-eqb (length cell) 48 short, both-short (eqb (settingsRefusal (st .format) (st .channels) (st .order)) 0))
+
 -- what a state settles
 module _ (st : Receiver) (cell : List ℕ) {set : Settled}
     (settles : set ≡ settingsOf (st .format) (st .channels) (st .order)) where
@@ -175,15 +185,6 @@ module _ (st : Receiver) (cell : List ℕ) {set : Settled}
 
     limits : Limits set
     limits = limits-of (st .format) (st .channels) (st .order) settles taken
-
-    module _ (short : length cell ≡ 48 → ⊥) where
-      cut : readable st cell ≡ false
-      unfolding readable
-      cut = rw (eq-eqb _ 0 none, ne-eqb _ 48 short)
-
-      pub short-silent : false ≡ soundsOf st cell
-      unfolding soundsOf
-      short-silent = rw cut
 
     module _ (whole : length cell ≡ 48) where
       read-whole : readable st cell ≡ true

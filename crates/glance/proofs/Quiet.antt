@@ -1,126 +1,289 @@
--- Laws of a silent cell of 56 hex.
+-- Laws of a silent cell: none of its octets has a bit that is a sample's.
 -- Assumes nothing.
-use mathlib.Core.Bool.{Bool, true, false, not, _||_}
+use mathlib.Core.Bool.{false, cond}
 use mathlib.Core.List.{List}
+use mathlib.Core.Logic.{⊎-elim}
 use mathlib.Core.Path.{_≡_, refl, sym, _∙_, ap, ap₂, subst}
-use Prim.Native.Nat.{ℕ, _+_, _*_, _/_, _%_, _≤_, _<_}
+use Prim.Native.Nat.{ℕ, zero, suc, _+_, _-_, _*_, _/_, _%_, _^_, _≤_, _<_}
+use native.Mathlib.Nat.{eq-or-lt-of-le, le-of-suc-le-suc, not-suc-le-zero, mul-add-mod-self-right, mod-eq-of-lt, zero-add}
 use native.Mathlib.Numerals.{add-one}
 use native.Mathlib.Omega.{arith}
-use borrow.Author.Tests.{eq-eqb, ne-eqb, leb-true, leb-false, eqb-true, eqb-false, not-true}
-use lib.Bits.{bitOr, or-add-and, and-le-l, and-le-r}
+use borrow.Author.Tests.{eq-eqb, ne-eqb, leb-true, leb-false, eqb-true, eqb-false}
+use lib.Arith.{digits-lt}
+use lib.Bits.{bitAnd, bitOr, or-add-and, and-le-l, and-le-r, and-zero-l, and-block, and-high, or-shifted-r}
 use lib.Dec.{eqb, leb}
-use lib.ListN.{length, getD, take, drop}
-use Rattle.runs.specs.Runs.{numberOf}
+use lib.ListN.{length, getD}
+use lib.Pow.{pow-add, pow-pos, shl-exact, shl-shr, shr-le, shr-lt}
+use Rattle.runs.specs.Runs.{readOn}
 use Rattle.runs.proofs.Laws.{split}
 use Rattle.formats.specs.declared.Format.{Format}
 use Rattle.formats.specs.declared.Settled.{Settled}
-use Rattle.formats.specs.Formats.{
-  lengthOf,
-  sampleBits,
-  ancillaryBits,
-  overheadBits,
-  listedOctets,
-  isAmong,
-  isListed,
-  widthOf,
-  slotsOf,
-  formatOf,
-  settingsRefusal,
-}
+use Rattle.formats.specs.Formats.{formatOf, settingsRefusal}
 use Rattle.formats.specs.Settings.{settingsOf}
-use Rattle.formats.specs.Sound.{Limits}
+use Rattle.formats.specs.Sound.{Sound, Limits}
 use Rattle.formats.proofs.Laws.{refusal-of, settled-of, limits-of}
 use Rattle.cells.specs.Cells.{subframeAt}
+use Rattle.cells.proofs.Subframes.{slot-room}
 use Rattle.receiver.specs.declared.Receiver.{Receiver}
-use Rattle.receiver.specs.Unpacking.{usedIn, twoAt}
-use Rattle.receiver.proofs.Reading.{four-read}
+use Rattle.receiver.specs.Unpacking.{usedIn}
+use Rattle.receiver.proofs.Reading.{read, read-more, one-left}
+use Rattle.glance.specs.declared.Masks.{Masks}
 use Rattle.glance.specs.Glance.{some, soundsOf}
-use Rattle.glance.specs.Code.{soundIn, loudAt}
-use Rattle.glance.proofs.Some.{some-none, some-fails}
+use Rattle.glance.specs.Code.{soundIn, lowAt, bitsAt, packed, Eight, Blank, wordFrom, masksOf, Under, Clear}
+use Rattle.glance.proofs.Some.{some-fails}
 use Rattle.glance.proofs.Laws.{zero-silent, refused-silent, sounds-said}
 
--- a number of four octets that only the last one makes
-last-alone : (a b c d : ℕ) → (a * 256 + b) * 65536 + (c * 256 + d) < 256 → a + b * 256 + c * 65536 ≡ 0
-last-alone a b c d h =
-    let za : a ≡ 0 = omega (arith, h) in
-    let zb : b ≡ 0 = omega (arith, h) in
-    let zc : c ≡ 0 = omega (arith, h) in
-    rw (za, zb, zc)
+-- octets packed into one number
+abbrev Octets : (ℕ → ℕ) → ℕ → Type 0
+Octets g n = (i : ℕ) → i < n → g i < 256
 
--- four octets, the first as the lowest: the three lowest are the sample
-module _ (a b c d number low : ℕ) (a-fits : a < 256) (b-fits : b < 256) (c-fits : c < 256) (d-fits : d < 256)
-    (low-is : low ≡ a + b * 256 + c * 65536 + d * 16777216) (is : number ≡ (a * 256 + b) * 65536 + (c * 256 + d)) where
-  three : low % 16777216 ≡ a + b * 256 + c * 65536
-  three = omega arith
+fewer : {g : ℕ → ℕ} {n : ℕ} → Octets g (suc n) → Octets g n
+fewer small i h = small i (omega (arith, h))
 
-  told : not (eqb (low % 16777216) 0) ≡ leb 256 number
-  told =
-      split (leb 256 number)
-      (λ t. rw t (ap not (ne-eqb (low % 16777216) 0 (λ z. omega (arith, z, three, leb-true 256 number t)))))
-      (λ t.
-      rw t
-      (ap not
-      (eq-eqb (low % 16777216) 0 (three ∙ last-alone a b c d (subst (λ (n : ℕ). n < 256) is (leb-false 256 number t))))))
+packed-lt : (g : ℕ → ℕ) (n : ℕ) → Octets g n → packed g n < 2 ^ (8 * n)
+unfolding packed
+packed-lt g zero small = pow-pos (8 * zero)
+packed-lt g (suc n) small =
+    let next : 8 * suc n ≡ 8 + 8 * n = omega arith in
+    let further : 2 ^ (8 * suc n) ≡ 256 * 2 ^ (8 * n) = ap (λ (k : ℕ). 2 ^ k) next ∙ pow-add 2 8 (8 * n) in
+    rw further (digits-lt (small n (omega arith)) (packed-lt g n (fewer small)))
 
-pub low-loud : (cell : List ℕ) (at : ℕ) → at + 4 ≤ length cell → getD cell at 0 < 256 → getD cell (at + 1) 0 < 256
-    → getD cell (at + 2) 0 < 256 → getD cell (at + 3) 0 < 256
-    → not (eqb ((getD cell at 0 + getD cell (at + 1) 0 * 256 + getD cell (at + 2) 0 * 65536 + getD cell (at + 3) 0 * 16777216)
-    % 16777216) 0)
-    ≡ leb 256 (numberOf (take 4 (drop at cell)))
-low-loud cell at room a-fits b-fits c-fits d-fits =
-    let place : at + 2 + 1 ≡ at + 3 = omega arith in
-    told (getD cell at 0) (getD cell (at + 1) 0) (getD cell (at + 2) 0) (getD cell (at + 3) 0) (numberOf (take 4 (drop at cell)))
-    (getD cell at 0 + getD cell (at + 1) 0 * 256 + getD cell (at + 2) 0 * 65536 + getD cell (at + 3) 0 * 16777216)
-    a-fits b-fits c-fits d-fits refl
-    (sym (four-read cell at room)
-    ∙ ap (λ (n : ℕ). twoAt cell at * 65536 + (getD cell (at + 2) 0 * 256 + getD cell n 0)) place)
+packed-and : (g h : ℕ → ℕ) (n : ℕ) → Octets g n → Octets h n
+    → bitAnd (packed g n) (packed h n) ≡ packed (λ i. bitAnd (g i) (h i)) n
+unfolding packed
+packed-and g h zero a b = and-zero-l 0
+packed-and g h (suc n) a b =
+    and-block (8 * n) (g n) (h n) (packed g n) (packed h n) (packed-lt g n (fewer a)) (packed-lt h n (fewer b))
+    ∙ ap (λ (x : ℕ). bitAnd (g n) (h n) * 2 ^ (8 * n) + x) (packed-and g h n (fewer a) (fewer b))
 
--- a number has a bit where one of two has it
-or-any : (a b : ℕ) → not (eqb (bitOr a b) 0) ≡ not (eqb a 0) || not (eqb b 0)
-or-any a b =
-    let left : a ≤ bitOr a b = omega (arith, or-add-and a b, and-le-r a b) in
-    let right : b ≤ bitOr a b = omega (arith, or-add-and a b, and-le-l a b) in
-    split (eqb a 0)
-    (λ ta.
-    split (eqb b 0)
-    (λ tb.
-    rw (ta, tb, eq-eqb (bitOr a b) 0 (omega (arith, or-add-and a b, eqb-true a 0 ta, eqb-true b 0 tb))))
-    (λ tb. rw (ta, tb, ne-eqb (bitOr a b) 0 (λ z. eqb-false b 0 tb (omega (arith, z, right))))))
-    (λ ta. rw (ta, ne-eqb (bitOr a b) 0 (λ z. eqb-false a 0 ta (omega (arith, z, left)))))
+packed-zero : (g : ℕ → ℕ) (n : ℕ) → packed g n ≡ 0 → (i : ℕ) → i < n → g i ≡ 0
+unfolding packed
+packed-zero g zero e i h = absurd (not-suc-le-zero h)
+packed-zero g (suc n) e i h =
+    ⊎-elim
+    (λ same.
+    let top : g n ≡ 0 = omega (arith, e, shl-shr (g n) (8 * n), shr-le (g n * 2 ^ (8 * n)) (8 * n)) in
+    ap g same ∙ top)
+    (λ less. let rest : packed g n ≡ 0 = omega (arith, e) in packed-zero g n rest i less)
+    (eq-or-lt-of-le (le-of-suc-le-suc h))
 
--- slot after slot
-pub loud-on : (cell : List ℕ) (slot all low : ℕ) → not (eqb all 0) ≡ some (loudAt cell) slot
-    → not (eqb (low % 16777216) 0) ≡ leb 256 (numberOf (take 4 (drop (slot * 4) cell)))
-    → not (eqb (bitOr all (low % 16777216)) 0) ≡ some (loudAt cell) (slot + 1)
-unfolding some loudAt
-loud-on cell slot all low before here =
-    or-any all (low % 16777216)
-    ∙ ap₂ (λ (x y : Bool). x || y) before here
-    ∙ ap (some (loudAt cell)) (sym (add-one slot))
+-- one octet more
+module _ (cell : List ℕ) (at : ℕ) where
+  pub eight-begun : Eight cell at 0 0
+  unfolding packed
+  eight-begun = record { is = refl; octets = λ i h. absurd (not-suc-le-zero h) }
 
-pub loud-done : (cell : List ℕ) (slot all : ℕ) → not (eqb all 0) ≡ some (loudAt cell) slot → slot ≤ 12 → 12 ≤ slot
-    → not (eqb all 0) ≡ some (loudAt cell) 12
-loud-done cell slot all so-far within end =
-    let same : slot ≡ 12 = omega arith in
-    so-far ∙ ap (some (loudAt cell)) same
+  pub eight-small : {number i : ℕ} → Eight cell at i number → number < 2 ^ (8 * i)
+  eight-small {number} {i} so-far = rw (so-far .is) (packed-lt (λ k. getD cell (at + k) 0) i (so-far .octets))
 
-abbrev usual : Format
-usual = record { «sample_bits» = 24; «ancillary_bits» = 4; «overhead_bits» = 4; width = 4; slots = 12 }
+  pub eight-on : {number i octet : ℕ} → Eight cell at i number → i < 8 → octet ≡ getD cell (at + i) 0 → octet < 256
+      → Eight cell at (i + 1) (bitOr number (octet * 2 ^ (8 * i) % 2 ^ 64))
+  unfolding packed
+  eight-on {number} {i} {octet} so-far less e small =
+      rw (add-one i, shl-exact 8 (8 * i) 64 small (omega (arith, less)))
+      (record {
+        is =
+            or-shifted-r octet (8 * i) number (eight-small so-far)
+            ∙ ap₂ (λ (x y : ℕ). x * 2 ^ (8 * i) + y) e (so-far .is);
+        octets =
+            λ k h.
+            ⊎-elim
+            (λ same. rw same (subst (λ (x : ℕ). x < 256) e small))
+            (so-far .octets k)
+            (eq-or-lt-of-le (le-of-suc-le-suc h));
+      })
 
-is-usual : formatOf 86 ≡ usual
-unfolding lengthOf sampleBits ancillaryBits overheadBits listedOctets isAmong isListed widthOf slotsOf formatOf
-is-usual = refl
+-- no bit in the one and none in the other
+or-none : (a b : ℕ) → bitOr a b ≡ 0 → (a ≡ 0) × (b ≡ 0)
+or-none a b e =
+    (omega (arith, e, or-add-and a b, and-le-r a b), omega (arith, e, or-add-and a b, and-le-l a b))
 
-slot-silent : (cell : List ℕ) → some (loudAt cell) 12 ≡ false → (slot : ℕ) → slot < 12 → soundIn usual cell slot ≡ false
-unfolding loudAt subframeAt
-slot-silent cell none slot h =
-    let gone : numberOf (take 4 (drop (slot * 4) cell)) / 256 ≡ 0
-    = omega (arith, leb-false 256 (numberOf (take 4 (drop (slot * 4) cell))) (some-none (loudAt cell) 12 none slot h)) in
-    sym (zero-silent usual cell slot {subframe = numberOf (take 4 (drop (slot * 4) cell))} refl gone)
+bits-small : (f : Format) (i : ℕ) → bitsAt f i < 256
+bits-small f i = omega (arith, pow-pos (lowAt f i))
 
--- a cell of 56 hex with no sample but zeros
-module _ (st : Receiver) (cell : List ℕ) (is-86 : st .format ≡ 86) (whole : length cell ≡ 48)
-    (none : some (loudAt cell) 12 ≡ false) where
+-- a word of the cell, and the bits of it that are a sample's
+module _ (f : Format) (cell : List ℕ) (start from at : ℕ) (at-is : at ≡ start + from) {mask : ℕ}
+    (mask-is : mask ≡ wordFrom from f) (blank : Blank cell at mask) where
+  eight-clear : (i : ℕ) → i < 8 → Under (getD cell (start + (from + i)) 0) (lowAt f (from + i))
+  eight-clear i h =
+      let all : packed (λ k. bitAnd (getD cell (at + k) 0) (bitsAt f (from + k))) 8 ≡ 0
+      = sym (packed-and (λ k. getD cell (at + k) 0) (λ k. bitsAt f (from + k)) 8 (blank .reads .octets) (λ k hk. bits-small f (from + k)))
+      ∙ sym (ap₂ bitAnd (blank .reads .is) mask-is)
+      ∙ blank .none in
+      let place : at + i ≡ start + (from + i) = omega arith in
+      subst (λ (k : ℕ). Under (getD cell k 0) (lowAt f (from + i))) place
+      (record {
+        fits = blank .reads .octets i h;
+        none = packed-zero (λ k. bitAnd (getD cell (at + k) 0) (bitsAt f (from + k))) 8 all i h;
+      })
+
+-- what holds in three eights holds in all
+thirds : (P : ℕ → Type 0) → ((i : ℕ) → i < 8 → P (0 + i)) → ((i : ℕ) → i < 8 → P (8 + i)) → ((i : ℕ) → i < 8 → P (16 + i))
+    → (i : ℕ) → i < 24 → P i
+thirds P a b c i h =
+    split (leb 8 i)
+    (λ t.
+    split (leb 16 i)
+    (λ u.
+    let there : 16 + (i - 16) ≡ i = omega (arith, leb-true 16 i u) in
+    subst P there (c (i - 16) (omega (arith, leb-true 16 i u))))
+    (λ u.
+    let there : 8 + (i - 8) ≡ i = omega (arith, leb-true 8 i t) in
+    subst P there (b (i - 8) (omega (arith, leb-false 16 i u, leb-true 8 i t)))))
+    (λ t. let there : 0 + i ≡ i = omega arith in subst P there (a i (leb-false 8 i t)))
+
+-- a mask and what a cell has of it, in both halves
+pub or-blank : (cell : List ℕ) (at : ℕ) {word next mask : ℕ} → Eight cell at 8 word → Eight cell (at + 24) 8 next
+    → bitOr (bitAnd word mask) (bitAnd next mask) ≡ 0 → Blank cell at mask × Blank cell (at + 24) mask
+or-blank cell at {word} {next} {mask} here behind none =
+    let both = or-none (bitAnd word mask) (bitAnd next mask) none in (
+      record { word = word; reads = here; none = both .0 },
+      record { word = next; reads = behind; none = both .1 },
+    )
+
+abbrev Halves : List ℕ → ℕ → ℕ → ℕ → Type 0
+Halves cell at mask r = r ≡ 0 → Blank cell at mask × Blank cell (at + 24) mask
+
+pub all-clear : (octet : ℕ) (cell : List ℕ) {bits : Masks} {first second third : ℕ} → bits ≡ masksOf octet
+    → Halves cell 0 (bits .first) first → Halves cell 8 (bits .second) second → Halves cell 16 (bits .third) third
+    → bitOr (bitOr first second) third ≡ 0 → Clear (formatOf octet) cell
+unfolding masksOf
+all-clear octet cell {bits} {first} {second} {third} is a b c e =
+    let (front, last) = or-none (bitOr first second) third e in
+    let (one, two) = or-none first second front in
+    let f = formatOf octet in
+    let first-is : bits .first ≡ wordFrom 0 f = ap (λ (m : Masks). m .first) is in
+    let second-is : bits .second ≡ wordFrom 8 f = ap (λ (m : Masks). m .second) is in
+    let third-is : bits .third ≡ wordFrom 16 f = ap (λ (m : Masks). m .third) is in
+    record {
+      before =
+          thirds (λ i. Under (getD cell (0 + i) 0) (lowAt f i))
+          (eight-clear f cell 0 0 0 refl first-is (a one .0))
+          (eight-clear f cell 0 8 8 refl second-is (b two .0))
+          (eight-clear f cell 0 16 16 refl third-is (c last .0));
+      behind =
+          thirds (λ i. Under (getD cell (24 + i) 0) (lowAt f i))
+          (eight-clear f cell 24 0 24 refl first-is (a one .1))
+          (eight-clear f cell 24 8 32 refl second-is (b two .1))
+          (eight-clear f cell 24 16 40 refl third-is (c last .1));
+    }
+
+-- an octet with no bit above the low ones
+under-none : (o : ℕ) → Under o 0 → o ≡ 0
+under-none o u = omega (arith, u .fits, u .none, and-high o 8 0)
+
+under-few : (o low : ℕ) → low % 4 ≡ 0 → low ≤ 8 → Under o low → o < 2 ^ low
+under-few o low fours few u =
+    split (eqb low 0)
+    (λ t.
+    let e = eqb-true low 0 t in
+    let none = under-none o (subst (Under o) e u) in
+    rw e (omega (arith, none)))
+    (λ t.
+    split (eqb low 4)
+    (λ v.
+    let e = eqb-true low 4 v in
+    let four : Under o 4 = subst (Under o) e u in
+    let top : o / 16 % 16 ≡ 0 = omega (arith, four .none, and-high o 4 4) in
+    let all : o / 16 ≡ 0 = omega (arith, four .fits, top) in
+    rw e (omega (arith, all)))
+    (λ v.
+    let e : low ≡ 8 = omega (arith, eqb-false low 0 t, eqb-false low 4 v) in
+    rw e (u .fits)))
+
+under-shifted : {n : ℕ} (low : ℕ) → n < 2 ^ low → n / 2 ^ low ≡ 0
+under-shifted {n} low h = omega (arith, shr-lt 0 low (subst (λ (k : ℕ). n < 2 ^ k) (sym (zero-add low)) h))
+
+-- the second half is like the first: each width divides 24
+module _ {f : Format} (s : Sound f) where
+  again : (i : ℕ) → (24 + i) % f .width ≡ i % f .width
+  again i =
+      split (eqb (f .width) 4)
+      (λ t. rw (eqb-true (f .width) 4 t) (omega arith))
+      (λ four.
+      split (eqb (f .width) 3)
+      (λ t. rw (eqb-true (f .width) 3 t) (omega arith))
+      (λ three.
+      split (eqb (f .width) 2)
+      (λ t. rw (eqb-true (f .width) 2 t) (omega arith))
+      (λ two.
+      split (eqb (f .width) 6)
+      (λ t. rw (eqb-true (f .width) 6 t) (omega arith))
+      (λ six.
+      rw (one-left s (eqb-false (f .width) 4 four) (eqb-false (f .width) 3 three) (eqb-false (f .width) 2 two)
+      (eqb-false (f .width) 6 six))
+      (omega arith)))))
+
+  low-again : (i : ℕ) → lowAt f (24 + i) ≡ lowAt f i
+  unfolding lowAt
+  low-again i =
+      ap (λ (m : ℕ). cond (eqb m (f .width - 1)) (f .«ancillary_bits» + f .«overhead_bits») 0) (again i)
+
+  -- slot by slot
+  module _ (cell : List ℕ) (whole : length cell ≡ 48) (clear : Clear f cell) where
+    octet-under : (i : ℕ) → i < 48 → Under (getD cell i 0) (lowAt f i)
+    octet-under i h =
+        split (leb 24 i)
+        (λ t.
+        let there : 24 + (i - 24) ≡ i = omega (arith, leb-true 24 i t) in
+        subst (λ (k : ℕ). Under (getD cell k 0) (lowAt f k)) there
+        (subst (Under (getD cell (24 + (i - 24)) 0)) (sym (low-again (i - 24))) (clear .behind (i - 24) (omega (arith, h)))))
+        (λ t.
+        let there : 0 + i ≡ i = omega arith in
+        subst (λ (k : ℕ). Under (getD cell k 0) (lowAt f i)) there (clear .before i (leb-false 24 i t)))
+
+    lead : (i : ℕ) → i < 48 → (i % f .width ≡ f .width - 1 → ⊥) → getD cell i 0 ≡ 0
+    unfolding lowAt
+    lead i h before =
+        let none : lowAt f i ≡ 0 = rw (ne-eqb (i % f .width) (f .width - 1) before) in
+        under-none (getD cell i 0) (subst (Under (getD cell i 0)) none (octet-under i h))
+
+    last : (i : ℕ) → i < 48 → i % f .width ≡ f .width - 1
+        → getD cell i 0 < 2 ^ (f .«ancillary_bits» + f .«overhead_bits»)
+    unfolding lowAt
+    last i h at-last =
+        let all : lowAt f i ≡ f .«ancillary_bits» + f .«overhead_bits»
+        = rw (eq-eqb (i % f .width) (f .width - 1) at-last) in
+        under-few (getD cell i 0) (f .«ancillary_bits» + f .«overhead_bits»)
+        (omega (arith, s .ancillary-fours, s .overhead-fours)) (omega (arith, s .ancillary-to, s .overhead-to))
+        (subst (Under (getD cell i 0)) all (octet-under i h))
+
+    module _ (slot : ℕ) (less : slot < f .slots) where
+      within : {k : ℕ} → k < f .width → slot * f .width + k < 48
+      within h = omega (arith, h, slot-room s less)
+
+      place-in : {k : ℕ} → k < f .width → (slot * f .width + k) % f .width ≡ k
+      place-in {k} h = mul-add-mod-self-right slot (f .width) k ∙ mod-eq-of-lt h
+
+      zeros : (k : ℕ) → k < f .width → read cell (slot * f .width) k ≡ 0
+      unfolding readOn
+      zeros zero h = refl
+      zeros (suc k) h =
+          let fits : k < f .width = omega (arith, h) in
+          read-more cell (slot * f .width) k (omega (arith, whole, within fits))
+          ∙ ap₂ (λ (x y : ℕ). x * 256 + y) (zeros k fits)
+          (lead (slot * f .width + k) (within fits) (λ e. omega (arith, place-in fits, e, h)))
+
+      subframe-low : subframeAt f cell slot < 2 ^ (f .«ancillary_bits» + f .«overhead_bits»)
+      unfolding subframeAt
+      subframe-low =
+          let all : suc (f .width - 1) ≡ f .width = omega (arith, s .width-from) in
+          let fits : f .width - 1 < f .width = omega (arith, s .width-from) in
+          let ends : read cell (slot * f .width) (f .width) ≡ getD cell (slot * f .width + (f .width - 1)) 0
+          = ap (read cell (slot * f .width)) (sym all)
+          ∙ read-more cell (slot * f .width) (f .width - 1) (omega (arith, whole, within fits))
+          ∙ ap (λ (x : ℕ). x * 256 + getD cell (slot * f .width + (f .width - 1)) 0) (zeros (f .width - 1) fits)
+          ∙ zero-add _ in
+          rw ends (last (slot * f .width + (f .width - 1)) (within fits) (place-in fits))
+
+      slot-silent : soundIn f cell slot ≡ false
+      slot-silent =
+          let gone : subframeAt f cell slot / 2 ^ (f .«ancillary_bits» + f .«overhead_bits») ≡ 0
+          = under-shifted (f .«ancillary_bits» + f .«overhead_bits») subframe-low in
+          sym (zero-silent f cell slot refl gone)
+
+-- a cell with no sample but zeros
+module _ (st : Receiver) (cell : List ℕ) (whole : length cell ≡ 48) (clear : Clear (formatOf (st .format)) cell) where
   abbrev set : Settled
   set = settingsOf (st .format) (st .channels) (st .order)
 
@@ -128,23 +291,19 @@ module _ (st : Receiver) (cell : List ℕ) (is-86 : st .format ≡ 86) (whole : 
     settles : set .refusal ≡ 0
     settles = refusal-of (st .format) (st .channels) (st .order) ∙ taken
 
-    format-is : set .format ≡ usual
-    format-is =
-        ap (λ (x : Settled). x .format) (settled-of (st .format) (st .channels) (st .order) taken) ∙ ap formatOf is-86 ∙ is-usual
-
-    few : usedIn set ≤ 12
-    few =
-        let limits : Limits set = limits-of (st .format) (st .channels) (st .order) refl settles in
-        let twelve : set .format .slots ≡ 12 = ap (λ (f : Format). f .slots) format-is in
-        omega (arith, limits .used-in, twelve)
+    format-is : formatOf (st .format) ≡ set .format
+    format-is = sym (ap (λ (x : Settled). x .format) (settled-of (st .format) (st .channels) (st .order) taken))
 
     all-silent : some (soundIn (set .format) cell) (usedIn set) ≡ false
     all-silent =
+        let limits : Limits set = limits-of (st .format) (st .channels) (st .order) refl settles in
         some-fails (soundIn (set .format) cell) (usedIn set)
-        (λ i h. ap (λ (f : Format). soundIn f cell i) format-is ∙ slot-silent cell none i (omega (arith, h, few)))
+        (λ i h.
+        slot-silent (limits .sound) cell whole (subst (λ (f : Format). Clear f cell) format-is clear) i
+        (omega (arith, h, limits .used-in)))
 
-  silent-said : false ≡ soundsOf st cell
-  silent-said =
+  pub quiet-silent : false ≡ soundsOf st cell
+  quiet-silent =
       split (eqb (settingsRefusal (st .format) (st .channels) (st .order)) 0)
       (λ t.
       let taken = eqb-true (settingsRefusal (st .format) (st .channels) (st .order)) 0 t in
@@ -153,7 +312,3 @@ module _ (st : Receiver) (cell : List ℕ) (is-86 : st .format ≡ 86) (whole : 
       refused-silent st cell refl
       (λ e. eqb-false (settingsRefusal (st .format) (st .channels) (st .order)) 0 t
       (sym (refusal-of (st .format) (st .channels) (st .order)) ∙ e)))
-
-pub quiet-silent : (st : Receiver) (cell : List ℕ) {found : Bool} → st .format ≡ 86 → length cell ≡ 48
-    → found ≡ some (loudAt cell) 12 → not found ≡ true → false ≡ soundsOf st cell
-quiet-silent st cell {found} is-86 whole is quiet = silent-said st cell is-86 whole (sym is ∙ not-true found quiet)

@@ -51,9 +51,6 @@ module _ (test : ℕ → Bool) where
       let before : Passing n = some-where n (or-first (some test n) (test n) none e) in
       record { place = before .place; within = omega (arith, before .within); passes = before .passes })
 
-  pub some-none : (n : ℕ) → some test n ≡ false → (i : ℕ) → i < n → test i ≡ false
-  some-none n none i h = split (test i) (λ e. absurd (true≢false (sym (some-here n i h e) ∙ none))) (λ e. e)
-
   pub some-fails : (n : ℕ) → ((i : ℕ) → i < n → test i ≡ false) → some test n ≡ false
   some-fails n fails =
       split (some test n)
@@ -69,13 +66,6 @@ pub same-bool : (a b : Bool) → (a ≡ true → b ≡ true) → (b ≡ true →
 same-bool true b f g = sym (f refl)
 same-bool false true f g = g refl
 same-bool false false f g = refl
-
--- two tests that say the same below n
-pub some-same : (f g : ℕ → Bool) (n : ℕ) → ((i : ℕ) → i < n → f i ≡ g i) → some f n ≡ some g n
-unfolding some
-some-same f g zero same = refl
-some-same f g (suc n) same =
-    ap₂ (λ (a b : Bool). a || b) (some-same f g n (λ i h. same i (omega (arith, h)))) (same n (omega arith))
 
 -- a test that fails below m and from there on is another one
 pub some-behind : (f g : ℕ → Bool) (m n : ℕ) → ((i : ℕ) → i < m → f i ≡ false) → ((i : ℕ) → i < n → f (m + i) ≡ g i)

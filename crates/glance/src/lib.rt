@@ -1,18 +1,18 @@
 // A look at one cell: what its own entries hold, without writing them anywhere.
 use formats::Format;
 use receiver::Receiver;
-ghost use mathlib.Core.Bool.{true, false, not};
+ghost use mathlib.Core.Bool.{true};
 ghost use mathlib.Core.Path.{_≡_};
-ghost use Prim.Native.Nat.{_+_, _%_, _^_, _≤_, _<_};
-ghost use lib.Dec.{eqb, leb};
+ghost use Prim.Native.Nat.{_+_, _^_, _≤_, _<_};
 ghost use lib.ListN.{length, take, drop};
 ghost use Rattle.runs.specs.Runs.{numberOf};
+ghost use Rattle.formats.specs.Formats.{formatOf};
 ghost use Rattle.formats.specs.Sound.{Sound};
 ghost use Rattle.guards.specs.Guards.{nineOf, protectedBits, vOf};
 ghost use Rattle.guards.specs.Code.{sevenGuards};
 ghost use Rattle.cells.specs.Cells.{subframeAt, sampleIn, ancillaryIn, markIn};
 ghost use Rattle.glance.specs.Glance.{some, soundsOf};
-ghost use Rattle.glance.specs.Code.{soundIn, loudAt};
+ghost use Rattle.glance.specs.Code.{soundIn, masksOf, Eight, Blank, Clear};
 
 // The number of up to six octets, most significant octet first.
 fn number_in(cell: &[u8], at: usize, width: usize) -> u64
@@ -99,43 +99,72 @@ fn among(format: Format, cell: &[u8], used: usize) -> bool
     false
 }
 
-// Four octets, the first as the lowest. A function of its own, so that the compiler reads them by one load.
-fn low4(cell: &[u8], at: usize) -> u64
-    requires { ⌜ at + 4 ≤ length (now cell) ⌝ }
-    ensures { λ r. ⌜ not (eqb (r % 16777216) 0) ≡ leb 256 (numberOf (take 4 (drop at (now (cell .entry))))) ⌝ }
-{
-    cell[at] as u64
-        + cell[at + 1] as u64 * 256
-        + cell[at + 2] as u64 * 65536
-        + cell[at + 3] as u64 * 16777216
+// The bits of a cell's octets that are a sample's, in three words of eight octets each, the first octet lowest. The other half of
+// the cell has the same.
+struct Masks {
+    first: u64,
+    second: u64,
+    third: u64,
 }
 
-// Whether one of the twelve samples of a cell of 56 hex isn't zero, whatever its mark. A subframe there has four octets, and the
-// sample stands above the last: the first three octets, which are the low ones here.
-fn loud(cell: &[u8]) -> bool
+fn three(first: u64, second: u64, third: u64) -> Masks
+    ensures { λ r. ⌜ r ≡ record { first = first; second = second; third = third } ⌝ }
+{
+    Masks {
+        first,
+        second,
+        third,
+    }
+}
+
+// By the format. Without ancillary bits and overhead they are all bits, and of no format they may be: its cells aren't read.
+fn masks_for(octet: u8) -> Masks
+    ensures { λ r. ⌜ r ≡ masksOf octet ⌝ }
+{
+    match octet {
+        0x13 | 0x43 => three(0xF0FFF0FFF0FFF0FF, 0xF0FFF0FFF0FFF0FF, 0xF0FFF0FFF0FFF0FF),
+        0x15 | 0x45 => three(0xFFFFF0FFFFF0FFFF, 0xFFF0FFFFF0FFFFF0, 0xF0FFFFF0FFFFF0FF),
+        0x17 | 0x47 => three(0xF0FFFFFFF0FFFFFF, 0xF0FFFFFFF0FFFFFF, 0xF0FFFFFFF0FFFFFF),
+        0x52 => three(0x00FF00FF00FF00FF, 0x00FF00FF00FF00FF, 0x00FF00FF00FF00FF),
+        0x54 => three(0xFFFF00FFFF00FFFF, 0xFF00FFFF00FFFF00, 0x00FFFF00FFFF00FF),
+        0x56 => three(0x00FFFFFF00FFFFFF, 0x00FFFFFF00FFFFFF, 0x00FFFFFF00FFFFFF),
+        0x5A => three(0xFFFF00FFFFFFFFFF, 0xFFFFFFFF00FFFFFF, 0x00FFFFFFFFFF00FF),
+        _ => three(0xFFFFFFFFFFFFFFFF, 0xFFFFFFFFFFFFFFFF, 0xFFFFFFFFFFFFFFFF),
+    }
+}
+
+// Eight octets as one number, the first as the lowest: the compiler reads them by one load.
+fn eight(cell: &[u8], at: usize) -> u64
+    requires { ⌜ at + 8 ≤ length (now cell) ⌝ }
+    ensures { λ r. ⌜ Eight (now (cell .entry)) at 8 r ⌝ }
+{
+    let mut number: u64 = 0;
+    let mut i = 0;
+    while i < 8 {
+        number |= (cell[at + i] as u64) << (8 * i);
+        i += 1;
+    }
+    number
+}
+
+// The bits of a mask that are set at a place of the cell or 24 octets behind it.
+fn either_half(cell: &[u8], at: usize, mask: u64) -> u64
+    requires { ⌜ at + 32 ≤ length (now cell) ⌝ }
+    ensures { λ r. ⌜ (r ≡ 0 → Blank (now (cell .entry)) at mask × Blank (now (cell .entry)) (at + 24) mask) ⌝ }
+{
+    (eight(cell, at) & mask) | (eight(cell, at + 24) & mask)
+}
+
+// Whether a cell has no sample but zeros, whatever their marks: so silence is told by few instructions.
+fn hushed(octet: u8, cell: &[u8]) -> bool
     requires { ⌜ length (now cell) ≡ 48 ⌝ }
-    ensures { λ r. ⌜ r ≡ some (loudAt (now (cell .entry))) 12 ⌝ }
+    ensures { λ r. ⌜ (r ≡ true → Clear (formatOf octet) (now (cell .entry))) ⌝ }
 {
-    let mut all: u64 = 0;
-    let mut slot = 0;
-    while slot < 12 {
-        all |= low4(cell, slot * 4) % 16777216;
-        slot += 1;
-    }
-    all != 0
-}
-
-// A cell of 56 hex, the usual format, with no sample but zeros: silence there is told by few instructions.
-fn silent(state: Receiver, cell: &[u8]) -> bool
-    ensures { λ r. ⌜ (r ≡ true → false ≡ soundsOf state (now (cell .entry))) ⌝ }
-{
-    if state.format != 86 {
-        return false;
-    }
-    if cell.len() != 48 {
-        return false;
-    }
-    !loud(cell)
+    let bits = masks_for(octet);
+    let first = either_half(cell, 0, bits.first);
+    let second = either_half(cell, 8, bits.second);
+    let third = either_half(cell, 16, bits.third);
+    first | second | third == 0
 }
 
 // Whether one of the cell's own samples is marked 0 and isn't zero. Not so where the state's settings are refused, or the cell
@@ -143,7 +172,10 @@ fn silent(state: Receiver, cell: &[u8]) -> bool
 pub fn sounds(state: Receiver, cell: &[u8]) -> bool
     ensures { λ r. ⌜ r ≡ soundsOf state (now (cell .entry)) ⌝ }
 {
-    if silent(state, cell) {
+    if cell.len() != 48 {
+        return false;
+    }
+    if hushed(state.format, cell) {
         return false;
     }
     let set = formats::settings(
@@ -152,9 +184,6 @@ pub fn sounds(state: Receiver, cell: &[u8]) -> bool
         state.order as u32,
     );
     if set.refusal != 0 {
-        return false;
-    }
-    if cell.len() != 48 {
         return false;
     }
     let used = set.channels * set.times;

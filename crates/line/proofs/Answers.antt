@@ -1,7 +1,7 @@
 -- The sheet and `anything` of a log of the cells as they arrived: each by what its records tell.
 -- Assumes nothing.
 use mathlib.Core.Bool.{Bool, true, false, cond, not, _&&_, _||_}
-use mathlib.Core.List.{List, [], _∷_, _++_, flatMap, zip, zipWith}
+use mathlib.Core.List.{List, [], _∷_, flatMap, zip, zipWith}
 use mathlib.Core.Path.{_≡_, refl, sym, _∙_, ap, ap₂, subst}
 use Prim.Native.Nat.{ℕ, zero, suc, _+_}
 use native.Mathlib.Nat.{suc-ne-zero}

@@ -2,10 +2,10 @@
 -- Assumes nothing.
 use mathlib.Core.Bool.{true, false, cond, _&&_}
 use mathlib.Core.List.{List, [], _∷_, _++_}
-use mathlib.Core.Path.{_≡_, refl, sym, _∙_, ap}
-use Prim.Native.Nat.{ℕ, zero, suc, _+_, _*_, _/_, _%_, _-_, _^_, _≤_, _<_}
+use mathlib.Core.Path.{_≡_, _∙_}
+use Prim.Native.Nat.{ℕ, suc, _+_, _*_, _/_, _%_, _-_, _≤_}
 use native.Mathlib.Omega.{arith}
-use borrow.Author.Tests.{eqb-true, le-leb}
+use borrow.Author.Tests.{eqb-true}
 use lib.Dec.{eqb, ltb}
 use lib.ListN.{length, take, length-append}
 use Rattle.runs.proofs.Laws.{split}
@@ -15,27 +15,16 @@ use Rattle.reading.specs.Records.{frontOf}
 use Rattle.pieces.specs.declared.Standing.{Standing}
 use Rattle.pieces.specs.Limit.{Part, head, whole, refused, broken, done, endPart}
 use Rattle.pieces.specs.Steps.{heldCount, takingOf}
-use Rattle.pieces.specs.Taken.{Taking, Took, inHeader, inRecord, one, after, handed, endParts}
+use Rattle.pieces.specs.Taken.{Taking, inHeader, inRecord, one, handed, endParts}
 use Rattle.text.specs.declared.Put.{Put}
 use Rattle.listing.specs.declared.Listing.{Listing}
 use Rattle.listing.specs.declared.Printed.{Printed}
 use Rattle.listing.specs.declared.Tally.{Tally}
 use Rattle.listing.specs.Lines.{formatLine, brokenLine, endLine, logRefusedLine}
 use Rattle.listing.specs.List.{lineOf}
-use Rattle.listing.specs.Taking.{
-  judgedWhole,
-  endText,
-  partText,
-  partTally,
-  textOf,
-  tallyOf,
-  pieceText,
-  endOfText,
-  Takes,
-  Ends,
-}
+use Rattle.listing.specs.Taking.{judgedWhole, endText, partText, textOf, tallyOf, pieceText, endOfText, Takes, Ends}
 use Rattle.text.specs.Put.{listed}
-use Rattle.text.specs.Text.{digitsOf, item}
+use Rattle.text.specs.Text.{item}
 use Rattle.text.specs.Words.{words}
 use Rattle.text.proofs.Short.{take-to, with-words, one-item, three-short, two-short, listed-whole}
 use Rattle.listing.proofs.Texts.{text-joined}

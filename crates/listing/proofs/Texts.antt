@@ -4,33 +4,29 @@ use mathlib.Core.Bool.{true, false, cond}
 use mathlib.Core.List.{List, [], _∷_, _++_, append-nil, append-assoc}
 use mathlib.Core.Path.{_≡_, refl, sym, _∙_, ap}
 use Prim.Native.Nat.{ℕ, _+_, _%_, _^_, _≤_, _<_}
-use native.Mathlib.Omega.{arith}
-use borrow.Author.Tests.{eq-eqb, ne-eqb, eqb-true, le-leb}
+use borrow.Author.Tests.{eq-eqb, ne-eqb, eqb-true}
 use lib.Dec.{eqb, ltb}
 use lib.ListN.{length, take}
-use Rattle.runs.proofs.Laws.{split, neither}
+use Rattle.runs.proofs.Laws.{split}
 use Rattle.log.specs.declared.Header.{Header}
 use Rattle.log.specs.Records.{headerOf}
-use Rattle.receiver.specs.declared.Receiver.{Receiver}
 use Rattle.receiver.specs.declared.Received.{Received}
 use Rattle.reading.specs.Records.{frontOf}
 use Rattle.pieces.specs.declared.Found.{Found}
 use Rattle.pieces.specs.declared.Standing.{Standing}
-use Rattle.pieces.specs.Limit.{Part, head, whole, refused, broken, done, endPart}
+use Rattle.pieces.specs.Limit.{Part, head, whole, refused, broken, endPart}
 use Rattle.pieces.specs.Steps.{takingOf, Steps, foundParts, isRecord, foundOctets}
-use Rattle.pieces.specs.Taken.{Taking, handed, endFault, endParts}
+use Rattle.pieces.specs.Taken.{Taking, endFault, endParts}
 use Rattle.pieces.proofs.Walks.{Along, along-start, along-turn, along-end, turn-on, found-record, no-record}
 pub use Rattle.pieces.proofs.Walks.{found-room}
 use Rattle.text.specs.declared.Put.{Put}
 use Rattle.listing.specs.declared.Listing.{Listing}
-use Rattle.listing.specs.declared.Printed.{Printed}
 use Rattle.listing.specs.declared.Tally.{Tally}
 use Rattle.text.specs.Put.{Puts}
 use Rattle.listing.specs.Lines.{formatLine, soundLine, refusedLine, brokenLine, endLine, logRefusedLine}
 use Rattle.listing.specs.List.{lineOf}
 use Rattle.listing.specs.Taking.{
   freshTally,
-  judgedWhole,
   judgedFront,
   afterOf,
   endText,
@@ -38,9 +34,7 @@ use Rattle.listing.specs.Taking.{
   partTally,
   textOf,
   tallyOf,
-  pieceParts,
   pieceText,
-  listingAfter,
   endOfText,
   Takes,
   Ends,

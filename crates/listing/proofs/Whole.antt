@@ -3,10 +3,9 @@
 use mathlib.Core.Bool.{true, false, cond, not}
 use mathlib.Core.List.{List, [], _∷_, _++_, map, append-nil, append-assoc}
 use mathlib.Core.Path.{_≡_, refl, sym, _∙_, ap}
-use Prim.Native.Nat.{ℕ, zero, suc, _+_, _*_, _-_, _%_, _^_, _≤_, _<_}
+use Prim.Native.Nat.{ℕ, suc, _+_, _*_, _-_, _%_, _^_, _≤_, _<_}
 use native.Mathlib.Nat.{mod-eq-of-lt}
 use native.Mathlib.Omega.{arith}
-use borrow.Author.Tests.{eq-eqb, ne-eqb, eqb-true, eqb-false}
 use lib.Dec.{eqb}
 use lib.ListN.{length, take}
 use Rattle.runs.proofs.Laws.{split}
@@ -15,24 +14,22 @@ use Rattle.receiver.specs.declared.Receiver.{Receiver}
 use Rattle.receiver.specs.declared.Received.{Received}
 use Rattle.reading.specs.Heard.{Heard, hear, heardBy, onward, heardFrom, isSound, soundIn, missingIn, refusedIn}
 use Rattle.reading.specs.Reading.{freshOf, behindHeader}
-use Rattle.reading.specs.Records.{Whole, recordsIn}
+use Rattle.reading.specs.Records.{Whole}
 use Rattle.reading.specs.Totals.{totalOf}
-use Rattle.reading.proofs.Heard.{length-heard, missing-few, refused-missing}
+use Rattle.reading.proofs.Heard.{missing-few, refused-missing}
 use Rattle.reading.proofs.Records.{octets-counted}
-use Rattle.pieces.specs.declared.Standing.{Standing}
-use Rattle.pieces.specs.Limit.{Part, head, whole, refused, broken, done, recordsTo, faultTo, endPart, partsOf}
+use Rattle.pieces.specs.Limit.{Part, whole, refused, recordsTo, faultTo, endPart, partsOf}
 use Rattle.pieces.specs.Steps as pieces
 use Rattle.pieces.specs.Steps.{takingOf, stoodOf, handedOver}
-use Rattle.pieces.specs.Taken.{Taking, after, handed, endParts, joinedOf}
+use Rattle.pieces.specs.Taken.{Taking, after, handed, joinedOf}
 use Rattle.pieces.proofs.Octets.{handed-joined}
 use Rattle.pieces.proofs.Walks.{stood-state, stood-size, division-parts}
 use Rattle.text.proofs.Short.{take-to}
 use Rattle.listing.specs.declared.Listing.{Listing}
 use Rattle.listing.specs.declared.Tally.{Tally}
 use Rattle.listing.specs.Lines.{formatLine, brokenLine, endLine, logRefusedLine}
-use Rattle.listing.specs.List.{lineOf, linesOf, endLines, heardTo, listTo, listOf}
+use Rattle.listing.specs.List.{lineOf, linesOf, endLines, heardTo, listTo}
 use Rattle.listing.specs.Taking.{
-  freshTally,
   judgedWhole,
   afterOf,
   endText,
@@ -45,7 +42,6 @@ use Rattle.listing.specs.Taking.{
   pieceParts,
   pieceText,
   listingAfter,
-  endOfText,
   writtenOver,
   listingOver,
 }

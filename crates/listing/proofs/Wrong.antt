@@ -15,7 +15,6 @@ use Rattle.pieces.specs.Steps.{stepsFrom, stoodOf}
 use Rattle.text.specs.declared.Put.{Put}
 use Rattle.listing.specs.declared.Listing.{Listing}
 use Rattle.listing.specs.declared.Printed.{Printed}
-use Rattle.listing.specs.declared.Tally.{Tally}
 use Rattle.listing.specs.List.{lineOf}
 use Rattle.listing.specs.Taking.{afterOf, endText, partText, partTally, textOf, tallyOf, startOf}
 use Rattle.text.specs.Text.{digitsOf}

@@ -10,7 +10,6 @@ ghost use mathlib.Core.Path.{_≡_};
 ghost use Prim.Native.Nat.{_+_, _≤_};
 ghost use lib.ListN.{length, take};
 ghost use Rattle.log.specs.Records.{headerOf};
-ghost use Rattle.reading.specs.Reading.{freshOf};
 ghost use Rattle.pieces.specs.Steps.{foundParts};
 ghost use Rattle.text.specs.Put.{Puts};
 ghost use Rattle.listing.specs.List.{lineOf};

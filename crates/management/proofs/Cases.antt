@@ -1,10 +1,10 @@
 -- A few calls worked out from the definitions, and that the hypotheses of `sides-agree` can be met.
 -- Assumes nothing.
-use mathlib.Core.Bool.{Bool, true}
+use mathlib.Core.Bool.{true}
 use mathlib.Core.List.{List, [], _∷_}
 use mathlib.Core.Path.{_≡_, refl}
 use Prim.Native.Nat.{ℕ}
-use lib.ListN.{take, drop}
+use lib.ListN.{take}
 use Rattle.management.specs.Controller.{controllerOf}
 use Rattle.management.specs.Demands.{askedBy}
 use Rattle.management.specs.Equipment.{equipmentOf, reportOf}

@@ -297,16 +297,6 @@ found-is word {n} e =
     never : Nothing ≡ Number n → ⊥
     never h = let z : _≡_ {A = ℕ} 0 1 = cc in omega arith
 
-pub found-not : (word : ℕ) → foundOf word ≡ Nothing → 16 ≡ numberIn word
-unfolding foundOf tableA1
-found-not word e =
-    split (ltb (numberIn word) 16)
-    (λ t. absurd (let other : Number (numberIn word) ≡ Nothing = rw t at e in never other))
-    (λ t. let above = ltb-false (numberIn word) 16 t in let low = place-le word tableA1 in omega arith)
-  where
-    never : Number (numberIn word) ≡ Nothing → ⊥
-    never h = let z : _≡_ {A = ℕ} 0 1 = cc in omega arith
-
 -- a number's entry is found to be that number
 pub entry-found : {number : ℕ} → number < 16 → foundOf (entryOf number) ≡ Number number
 entry-found {number} h = sym (found-number (entryOf number) (number-entry h) h)
@@ -322,13 +312,6 @@ found-either word P here there =
 pub value-lt : (word : ℕ) → valueOf (foundOf word) < 16
 unfolding valueOf
 value-lt word = found-either word (λ f. valueOf f < 16) (λ h. h) (λ e. omega arith)
-
-pub found-entry : (word : ℕ) → refusalOf (foundOf word) ≡ 0 → entryOf (valueOf (foundOf word)) ≡ word
-unfolding refusalOf valueOf
-found-entry word =
-    found-either word (λ f. refusalOf f ≡ 0 → entryOf (valueOf f) ≡ word)
-    (λ h e. entry-number-in word h)
-    (λ none e. absurd (let never : _≡_ {A = ℕ} 8 0 = e in omega arith))
 
 pub no-entry-refused : (word : ℕ) → ((number : ℕ) → number < 16 → entryOf number ≡ word → ⊥) → refusalOf (foundOf word) ≡ 8
 unfolding refusalOf

@@ -1,26 +1,26 @@
 -- Laws of a search through the parts of a log, and what any division of it comes to.
 -- Assumes nothing.
-use mathlib.Core.Bool.{true, false, cond}
+use mathlib.Core.Bool.{true, false}
 use mathlib.Core.List.{List, [], _∷_, _++_, map}
 use mathlib.Core.Path.{_≡_, refl, sym, _∙_, ap}
-use Prim.Native.Nat.{ℕ, suc, _+_, _-_, _%_, _^_, _≤_, _<_}
+use Prim.Native.Nat.{ℕ, _+_, _-_, _%_, _^_, _≤_, _<_}
 use native.Mathlib.Nat.{mod-eq-of-lt}
 use native.Mathlib.Omega.{arith}
 use borrow.Author.Tests.{eq-eqb, ne-eqb, eqb-true, eqb-false}
-use lib.Dec.{eqb, ltb}
-use lib.ListN.{length, take, drop, length-drop}
+use lib.Dec.{eqb}
+use lib.ListN.{length, take, length-drop}
 use lib.Seq.{take-all}
 use Rattle.runs.proofs.Laws.{split}
 use Rattle.log.specs.Records.{headerOf}
 use Rattle.receiver.specs.declared.Receiver.{Receiver}
-use Rattle.reading.specs.Heard.{Heard, heardBy, hear, onward, heardFrom}
+use Rattle.reading.specs.Heard.{heardBy, hear, onward, heardFrom}
 use Rattle.reading.specs.Reading.{freshOf, behindHeader}
 use Rattle.reading.specs.Records.{Whole, frontOf, recordsIn}
 use Rattle.reading.proofs.Reading.{header-three}
 use Rattle.reading.proofs.Records.{octets-counted}
 use Rattle.pieces.specs.declared.Found.{Found}
 use Rattle.pieces.specs.declared.Standing.{Standing}
-use Rattle.pieces.specs.Limit.{Part, head, whole, refused, broken, done, recordsTo, faultTo, endPart, partsOf}
+use Rattle.pieces.specs.Limit.{Part, head, whole, refused, broken, recordsTo, faultTo, endPart, partsOf}
 use Rattle.pieces.specs.Steps.{takingOf, stoodOf, Steps, foundParts, isRecord, foundOctets, handedOver}
 use Rattle.pieces.specs.Taken.{Taking, handed, endFault, endParts, joinedOf}
 use Rattle.pieces.proofs.Walks.{Along, along-start, along-turn, along-end, turn-on, division-parts, found-record, no-record}
@@ -28,7 +28,7 @@ use Rattle.presence.specs.declared.Presence.{Presence}
 use Rattle.presence.specs.declared.Search.{Search}
 use Rattle.presence.specs.declared.Sought.{Sought}
 use Rattle.presence.specs.declared.sounds.Said.{Said}
-use Rattle.presence.specs.Presence.{sounds, saidOf, yesAt, answerOf, presenceOf}
+use Rattle.presence.specs.Presence.{sounds, saidOf, presenceOf}
 use Rattle.presence.specs.Taking.{
   freshSought,
   pastHeard,

@@ -1,17 +1,17 @@
 -- Laws of the answer's line.
 -- Assumes nothing.
-use mathlib.Core.Bool.{Bool, true, false, cond}
+use mathlib.Core.Bool.{true, false}
 use mathlib.Core.List.{List, _++_, _∷_, []}
-use mathlib.Core.Path.{_≡_, refl, sym, _∙_, ap}
+use mathlib.Core.Path.{_≡_, _∙_, ap}
 use Prim.Native.Nat.{ℕ, zero, suc, _+_, _/_, _%_, _≤_}
 use native.Mathlib.Omega.{arith}
 use borrow.Author.Tests.{eq-eqb, ne-eqb, le-leb}
-use lib.Dec.{eqb, leb, ltb}
-use lib.ListN.{length, take, length-append}
+use lib.Dec.{eqb, ltb}
+use lib.ListN.{length, length-append}
 use lib.Seq.{take-all}
 use Rattle.runs.proofs.Laws.{split}
 use Rattle.text.specs.declared.Put.{Put}
-use Rattle.text.specs.Put.{Puts, listed}
+use Rattle.text.specs.Put.{Puts}
 use Rattle.text.specs.Text.{digitsOf, item}
 use Rattle.text.specs.Words.{words}
 use Rattle.text.proofs.Laws.{puts-same, said-from-start, wrote-from-start}

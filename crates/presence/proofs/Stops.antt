@@ -1,12 +1,12 @@
 -- A search may stop at a yes: the answer is that of the whole log, whatever stands behind.
 -- Assumes nothing.
 use mathlib.Core.Bool.{true, true≢false}
-use mathlib.Core.List.{List, [], _∷_, _++_}
+use mathlib.Core.List.{List, _∷_, _++_}
 use mathlib.Core.Path.{_≡_, sym, _∙_, ap, ap₂}
 use Prim.Native.Nat.{ℕ, _≤_}
 use borrow.Author.Tests.{eqb-true, eqb-false}
 use lib.Dec.{eqb}
-use lib.ListN.{length, take, drop, take-append-drop}
+use lib.ListN.{length, drop, take-append-drop}
 use lib.Seq.{drop-append-le}
 use Rattle.runs.proofs.Laws.{split}
 use Rattle.log.specs.declared.Header.{Header}

@@ -1,6 +1,6 @@
 -- Request 7's sentences as theorems over the answer's definition.
 -- Assumes nothing.
-use mathlib.Core.Bool.{Bool, true, false, true≢false, not}
+use mathlib.Core.Bool.{true, false, true≢false, not}
 use mathlib.Core.List.{List, [], _∷_, _++_}
 use mathlib.Core.Path.{_≡_, refl, sym, _∙_, ap, subst}
 use Prim.Native.Nat.{ℕ, suc, _+_, _<_}
@@ -19,7 +19,7 @@ use Rattle.glance.specs.Glance.{isSound, soundAt}
 use Rattle.glance.proofs.Some.{Passing, some-here, some-where}
 use Rattle.presence.specs.declared.Presence.{Presence}
 use Rattle.presence.specs.Handed.{Call, HandsOut, AllSilent, FirstAt, FirstIn}
-use Rattle.presence.specs.Presence.{sounds, someOf, firstOf, yesAt, refusedBy, answerOf, presenceOf}
+use Rattle.presence.specs.Presence.{sounds, someOf, firstOf, yesAt, answerOf, presenceOf}
 use Rattle.presence.proofs.Laws.{
   or-rest,
   answerFrom,

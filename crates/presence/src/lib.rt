@@ -6,13 +6,11 @@ use text::Put;
 ghost use mathlib.Core.Bool.{true, false};
 ghost use mathlib.Core.List.{_++_};
 ghost use mathlib.Core.Path.{_≡_};
-ghost use Rattle.log.specs.Records.{headerOf};
-ghost use Rattle.reading.specs.Reading.{behindHeader};
 ghost use Rattle.text.specs.Put.{Puts};
 ghost use Rattle.text.specs.Text.{item};
 ghost use Rattle.text.specs.Words.{words};
 ghost use Rattle.presence.specs.Line.{Writes};
-ghost use Rattle.presence.specs.Presence.{presenceOf, readFrom, refusedBy};
+ghost use Rattle.presence.specs.Presence.{presenceOf, readFrom};
 ghost use Rattle.presence.specs.Taking.{searchStart, Takes, answerAtEnd};
 
 mod parts; // parts.rt: a log's parts one after the other

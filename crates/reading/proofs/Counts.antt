@@ -6,22 +6,17 @@ use mathlib.Core.Path.{_≡_, refl, sym, _∙_, ap}
 use Prim.Native.Nat.{ℕ, _+_}
 use native.Mathlib.Omega.{arith}
 use borrow.Author.Tests.{eq-eqb, ne-eqb}
-use lib.ListN.{length}
 use Rattle.receiver.specs.declared.Received.{Received}
 use Rattle.reading.specs.Code.{Counts}
 use Rattle.reading.specs.Heard.{Heard, isSound, missingIn}
 use Rattle.reading.specs.Totals.{totalOf, countOf}
-use Rattle.reading.proofs.Totals.{total-more, count-both}
+use Rattle.reading.proofs.Totals.{total-more}
 
 pub counts-none : Counts 0 0 0 []
 unfolding totalOf
 counts-none = record { sound-is = refl; missing-is = refl; refused-is = refl }
 
 module _ {sound missing refused : ℕ} {done : List Heard} (c : Counts sound missing refused done) where
-  -- each record is sound or refused
-  pub counts-all : sound + refused ≡ length done
-  counts-all = omega (arith, c .sound-is, c .refused-is, count-both isSound done)
-
   -- one record more
   module _ (h : Heard) {got : Received} (is : got ≡ h .answer) where
     missing-more : missing + got .missing ≡ missingIn (done ++ (h ∷ []))

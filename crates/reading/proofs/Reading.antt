@@ -1,9 +1,8 @@
 -- Laws of the reading of a log: its header is three octets, and its octets are those and its records' and what is left.
 -- Assumes nothing.
-use mathlib.Core.Bool.{true, false}
 use mathlib.Core.List.{List, [], _∷_, _++_, append-nil}
 use mathlib.Core.Path.{_≡_, refl, sym, _∙_, ap}
-use Prim.Native.Nat.{ℕ, _+_, _*_, _%_, _≤_, _<_}
+use Prim.Native.Nat.{ℕ, _+_, _*_, _≤_, _<_}
 use native.Mathlib.Omega.{arith}
 use borrow.Author.Tests.{eq-eqb, ne-eqb, eqb-true}
 use lib.Dec.{eqb}
@@ -14,14 +13,13 @@ use Rattle.runs.proofs.Laws.{split, past-both}
 use Rattle.formats.specs.Formats.{settingsRefusal}
 use Rattle.log.specs.declared.Header.{Header}
 use Rattle.log.specs.declared.Number.{Number}
-use Rattle.log.specs.Code.{numberWithin}
 use Rattle.log.specs.Numbers.{number, numberAt}
 use Rattle.log.specs.Records.{headerRefusal, headerOfNumbers, headerOf, secondNumber, thirdNumber, recordAt}
 use Rattle.log.proofs.Groups.{number-agrees}
 use Rattle.log.proofs.Headers.{format-small, channels-small, order-small}
 use Rattle.log.proofs.Laws.{number-whole, number-cases}
 use Rattle.reading.specs.Heard.{hear, onward, heardFrom}
-use Rattle.reading.specs.Reading.{Reading, freshOf, behindHeader, readingOf}
+use Rattle.reading.specs.Reading.{freshOf, readingOf}
 use Rattle.reading.specs.Records.{Whole, Framed, walkIn, recordsIn, restIn, octetsIn, faultIn}
 use Rattle.reading.specs.Totals.{Each}
 use Rattle.reading.proofs.Heard.{length-heard}

@@ -12,7 +12,7 @@ use lib.Dec.{eqb}
 use lib.ListN.{length, getD, take, drop, length-append, length-drop, take-append-drop, List·getD-append}
 use lib.Seq.{length-take-le, take-append-le, drop-append-le, take-at, drop-at}
 use Rattle.runs.proofs.Laws.{split}
-use Rattle.log.specs.Records.{recordAt, cellAt}
+use Rattle.log.specs.Records.{cellAt}
 use Rattle.log.specs.Written.{octetOf, recordOctets}
 use Rattle.log.proofs.Places.{record-cell, record-cases}
 use Rattle.reading.specs.Records.{Whole, Walk, Framed, isWhole, frontOf, stopped, behind, walkWithin, walkIn, recordsIn, restIn, faultIn, octetsIn}

@@ -3,11 +3,11 @@
 use mathlib.Core.Bool.{Bool, true, false, cond, not, _||_}
 use mathlib.Core.List.{List, _++_}
 use mathlib.Core.Path.{_≡_, sym, _∙_, ap, ap₂}
-use Prim.Native.Nat.{ℕ, suc, _+_, _*_, _-_, _%_, _≤_, _<_}
+use Prim.Native.Nat.{ℕ, suc, _+_, _*_, _-_, _%_, _≤_}
 use native.Mathlib.Nat.{suc-ne-zero, pos-of-ne-zero, suc-mul, mod-lt, le-of-suc-le-suc}
 use native.Mathlib.Omega.{arith}
-use borrow.Author.Tests.{lt-ltb, le-ltb, eq-eqb, ne-eqb, ltb-false, eqb-true, eqb-false, not-false}
-use lib.Dec.{T, eqb, ltb, eqb→eq}
+use borrow.Author.Tests.{ne-eqb, ltb-false, eqb-true, eqb-false, not-false}
+use lib.Dec.{eqb, ltb}
 use lib.ListN.{length, replicate}
 use Rattle.runs.specs.Refusals.{orElse}
 use Rattle.runs.specs.Runs.{over}
@@ -21,7 +21,7 @@ use Rattle.formats.proofs.Laws.{settled-of, settled-limits, given-refusal, give
 use Rattle.numbers.specs.declared.Found.{Found}
 use Rattle.numbers.specs.declared.Found.the-variants.{Number, Nothing}
 use Rattle.numbers.specs.Numbers.{foundOf, refusalOf, valueOf, differenceOf, indicationRefused}
-use Rattle.cells.specs.Cells.{sampleIn, ancillaryIn, markIn, eightIn, secondIn}
+use Rattle.cells.specs.Cells.{sampleIn, ancillaryIn, markIn, eightIn}
 use Rattle.receiver.specs.declared.Receiver.{Receiver}
 use Rattle.receiver.specs.declared.Received.{Received}
 use Rattle.receiver.specs.Receiver.{
@@ -275,19 +275,11 @@ module _ {f : Format} (st : Receiver) (cell : List ℕ) (is : formatOf (st .form
   unfolding foundNow
   found-over = rw (is, ne-eqb (f .«overhead_bits») 0 over)
 
-  pub second-over : secondNow st cell ≡ secondIn f cell
-  unfolding secondNow
-  second-over = rw (is, ne-eqb (f .«overhead_bits») 0 over)
-
 pub gap-by : (st : Receiver) (cell : List ℕ) {started none : Bool} {number : ℕ} → st .started ≡ started
     → eqb (formatOf (st .format) .«overhead_bits») 0 ≡ none → numberNow st cell ≡ number
     → gapOf st cell ≡ cond (not started || none) 1 (differenceOf number (st .last))
 unfolding gapOf
 gap-by st cell a b e = λ i. cond (not (a i) || b i) 1 (differenceOf (e i) (st .last))
-
-pub found-passes : (st : Receiver) (cell : List ℕ) {number : ℕ} → foundNow st cell ≡ Number number → refusalOf (foundNow st cell) ≡ 0
-unfolding refusalOf
-found-passes st cell found = ap refusalOf found
 
 pub number-found : (st : Receiver) (cell : List ℕ) {number : ℕ} → Number number ≡ foundNow st cell → number ≡ numberNow st cell
 unfolding valueOf

@@ -8,7 +8,7 @@ ghost use Rattle.formats.specs.Sound.{Sound};
 ghost use Rattle.numbers.specs.Numbers.{foundOf};
 ghost use Rattle.cells.specs.Cells.{eightIn};
 ghost use Rattle.receiver.specs.Receiver.{judgedOf, Receives};
-ghost use Rattle.receiver.specs.Unpacking.{Unpacks, Fills, Room, Enters, straight, fours};
+ghost use Rattle.receiver.specs.Unpacking.{Unpacks, Fills, Room, Enters, straight};
 use crate::Received;
 use crate::Receiver;
 use crate::bits;

@@ -2,7 +2,6 @@
 -- Assumes nothing.
 use mathlib.Core.Bool.{Bool, true, false, cond}
 use mathlib.Core.Path.{_≡_, refl}
-use Prim.Native.Nat.{ℕ}
 use mir.Val.{boolByte}
 
 pub byte-of : (b : Bool) → boolByte b ≡ cond b 1 0

@@ -9,7 +9,7 @@ use borrow.Author.Tests.{le-leb, lt-leb, leb-true, leb-false}
 use borrow.Rule.Slice.PartMut.{midOf, postOf, putMid}
 use lib.Dec.{leb}
 use lib.ListN.{length, take, drop, replicate, length-append, length-drop, drop-of-length-le}
-use lib.Seq.{take-all, length-take-le, take-at, drop-at, drop-drop}
+use lib.Seq.{take-all, take-at, drop-at, drop-drop}
 use mir.Val.{boolByte}
 use Rattle.runs.specs.Runs.{over}
 use Rattle.runs.proofs.Laws.{split}

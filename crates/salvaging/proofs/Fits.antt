@@ -1,23 +1,23 @@
 -- What a piece of at most 65,536 octets makes fits two runs of 131,072: 49 octets or a line of at most 50 for each record that it can
 -- make whole, and the header.
 -- Assumes nothing.
-use mathlib.Core.Bool.{true, false, cond, _&&_}
+use mathlib.Core.Bool.{true, cond, _&&_}
 use mathlib.Core.List.{List, [], _∷_, _++_}
-use mathlib.Core.Path.{_≡_, refl, sym, _∙_, ap}
-use Prim.Native.Nat.{ℕ, zero, suc, _+_, _*_, _-_, _/_, _%_, _≤_, _<_}
+use mathlib.Core.Path.{_≡_, _∙_}
+use Prim.Native.Nat.{ℕ, suc, _+_, _*_, _-_, _/_, _%_, _≤_}
 use native.Mathlib.Nat.{mul-le-mul-right}
 use native.Mathlib.Omega.{arith}
 use borrow.Author.Tests.{eqb-true}
 use lib.Dec.{eqb, ltb}
 use lib.ListN.{length, take, drop, length-append}
 use Rattle.runs.proofs.Laws.{split}
-use Rattle.log.specs.Records.{headerOf, recordAt, cellAt}
+use Rattle.log.specs.Records.{headerOf, cellAt}
 use Rattle.log.proofs.Places.{record-cases}
 use Rattle.reading.specs.Records.{frontOf}
 use Rattle.pieces.specs.declared.Standing.{Standing}
-use Rattle.pieces.specs.Limit.{Part, head, whole, refused, broken, done}
+use Rattle.pieces.specs.Limit.{Part, whole, refused}
 use Rattle.pieces.specs.Steps.{heldCount, takingOf}
-use Rattle.pieces.specs.Taken.{Taking, Took, inHeader, inRecord, one, handed}
+use Rattle.pieces.specs.Taken.{Taking, inHeader, inRecord, one, handed}
 use Rattle.text.specs.declared.Put.{Put}
 use Rattle.text.specs.Text.{item}
 use Rattle.text.specs.Words.{words}
@@ -25,8 +25,6 @@ use Rattle.text.proofs.Short.{take-to, one-item, with-words, two-short, three-s
 use Rattle.salvaging.specs.declared.Salvaging.{Salvaging}
 use Rattle.salvaging.specs.declared.Tally.{Tally}
 use Rattle.salvaging.specs.declared.Wrote.{Wrote}
-use Rattle.listing.specs.Lines.{refusedLine, logRefusedLine}
-use Rattle.salvaging.specs.Lines.{endLine}
 use Rattle.salvaging.specs.Taking.{
   judgedWhole,
   partOctets,

@@ -15,7 +15,18 @@ use Rattle.text.specs.Put.{Puts}
 use Rattle.text.proofs.Laws.{puts-then, puts-same, puts-none, said-from-start, wrote-from-start}
 use Rattle.salvaging.specs.declared.Salvaging.{Salvaging}
 use Rattle.salvaging.specs.declared.Tally.{Tally}
-use Rattle.salvaging.specs.Taking.{octetsBy, textBy, tallyBy, Tells, pieceOctets, pieceText, endOfText, lastText, endTally, Takes, Ends}
+use Rattle.salvaging.specs.Taking.{
+  octetsBy,
+  textBy,
+  tallyBy,
+  Tells,
+  pieceOctets,
+  pieceText,
+  lastText,
+  endTally,
+  Takes,
+  Ends,
+}
 use Rattle.salvaging.proofs.Texts.{octets-joined, text-joined, tally-joined}
 
 -- nothing is written yet

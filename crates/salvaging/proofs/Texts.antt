@@ -3,7 +3,7 @@
 use mathlib.Core.Bool.{true, false, cond}
 use mathlib.Core.List.{List, [], _∷_, _++_, append-nil, append-assoc}
 use mathlib.Core.Path.{_≡_, refl, sym, _∙_, ap}
-use Prim.Native.Nat.{ℕ, _+_, _-_, _%_, _^_, _≤_, _<_}
+use Prim.Native.Nat.{ℕ, _+_, _-_, _%_, _^_}
 use native.Mathlib.Omega.{arith}
 use borrow.Author.Tests.{eq-eqb, ne-eqb}
 use lib.Dec.{eqb, ltb}
@@ -17,9 +17,8 @@ use Rattle.receiver.specs.declared.Received.{Received}
 use Rattle.receiver.specs.Receiver.{judgedOf}
 use Rattle.reading.specs.Records.{Whole, frontOf}
 use Rattle.pieces.specs.declared.Found.{Found}
-use Rattle.pieces.specs.declared.Standing.{Standing}
-use Rattle.pieces.specs.Limit.{Part, head, whole, refused, broken, done, endPart}
-use Rattle.pieces.specs.Steps.{takingOf, Steps, foundParts}
+use Rattle.pieces.specs.Limit.{Part, head, whole, refused, broken, endPart}
+use Rattle.pieces.specs.Steps.{takingOf, foundParts}
 use Rattle.pieces.specs.Taken.{Taking, endFault, endParts}
 use Rattle.text.specs.declared.Put.{Put}
 use Rattle.text.specs.Put.{Puts}

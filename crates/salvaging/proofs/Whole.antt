@@ -1,18 +1,17 @@
 -- However a log is divided, what is written is the new log of the whole one and what is said of it, and no count wraps.
 -- Assumes nothing.
-use mathlib.Core.Bool.{Bool, true, false, cond, not}
-use mathlib.Core.List.{List, [], _∷_, _++_, map, append-nil, append-assoc}
+use mathlib.Core.Bool.{true, false, cond, not}
+use mathlib.Core.List.{List, [], _∷_, _++_, map, append-assoc}
 use mathlib.Core.Path.{_≡_, refl, sym, _∙_, ap, ap₂}
-use Prim.Native.Nat.{ℕ, zero, suc, _+_, _*_, _-_, _%_, _^_, _≤_, _<_}
+use Prim.Native.Nat.{ℕ, suc, _+_, _*_, _-_, _%_, _^_, _≤_, _<_}
 use native.Mathlib.Nat.{mod-eq-of-lt}
 use native.Mathlib.Numerals.{add-one}
 use native.Mathlib.Omega.{arith}
-use borrow.Author.Tests.{eq-eqb, ne-eqb, eqb-true, eqb-false, le-leb}
-use lib.Dec.{eqb, leb, ltb}
-use lib.ListN.{length, take, drop, length-append, length-drop}
+use borrow.Author.Tests.{eq-eqb, ne-eqb, eqb-true, eqb-false}
+use lib.Dec.{eqb, ltb}
+use lib.ListN.{length, take, length-append, length-drop}
 use lib.Seq.{take-all}
 use Rattle.runs.proofs.Laws.{split}
-use Rattle.log.specs.declared.Header.{Header}
 use Rattle.log.specs.Records.{headerOf}
 use Rattle.log.specs.Written.{recordOctets}
 use Rattle.log.proofs.Headers.{format-small, channels-small, order-small}
@@ -20,26 +19,22 @@ use Rattle.receiver.specs.declared.Receiver.{Receiver}
 use Rattle.receiver.specs.declared.Received.{Received}
 use Rattle.reading.specs.Heard.{Heard, hear, heardBy, onward, heardFrom, isSound, soundIn, refusedIn, keptOf}
 use Rattle.reading.specs.Reading.{Reading, freshOf, behindHeader, readingOf}
-use Rattle.reading.specs.Records.{Whole, recordsIn, restIn, faultIn, octetsIn}
+use Rattle.reading.specs.Records.{Whole, recordsIn, octetsIn}
 use Rattle.reading.specs.Totals.{totalOf, those}
 use Rattle.reading.proofs.Heard.{length-heard}
-use Rattle.reading.proofs.Reading.{header-three, header-long, header-octets, header-settles, reading-is, log-counted}
+use Rattle.reading.proofs.Reading.{header-three, header-octets, header-settles, log-counted}
 use Rattle.reading.proofs.Records.{octets-counted}
-use Rattle.reading.proofs.Totals.{count-both}
-use Rattle.pieces.specs.declared.Standing.{Standing}
-use Rattle.pieces.specs.Limit.{Part, head, whole, refused, broken, done, recordsTo, faultTo, endPart, partsOf}
+use Rattle.pieces.specs.Limit.{Part, head, whole, refused, recordsTo, faultTo, endPart, partsOf}
 use Rattle.pieces.specs.Steps.{takingOf, stoodOf, handedOver}
-use Rattle.pieces.specs.Taken.{Taking, handed, endParts, joinedOf}
+use Rattle.pieces.specs.Taken.{Taking, endParts, joinedOf}
 use Rattle.pieces.proofs.Walks.{division-parts}
-use Rattle.saving.specs.Salvage.{newLog, listFrom, listOf, leftOut, cutFrom}
+use Rattle.saving.specs.Salvage.{newLog, listFrom, cutFrom}
 use Rattle.salvaging.specs.declared.Salvaging.{Salvaging}
 use Rattle.salvaging.specs.declared.Tally.{Tally}
-use Rattle.listing.specs.Lines.{refusedLine, logRefusedLine}
+use Rattle.listing.specs.Lines.{refusedLine}
 use Rattle.salvaging.specs.Lines.{endLine}
 use Rattle.salvaging.specs.Said.{savedOf, linesOf, notesOf}
 use Rattle.salvaging.specs.Taking.{
-  freshTally,
-  refusedBy,
   judgedWhole,
   afterOf,
   headOctets,
@@ -55,7 +50,6 @@ use Rattle.salvaging.specs.Taking.{
   pieceOctets,
   pieceText,
   salvagingAfter,
-  endTally,
   lastText,
   savedOver,
   notesOver,

@@ -1,7 +1,7 @@
 -- Wrong answers to the public functions: the contracts rule each of them out. Stated over the contracts themselves.
 -- Assumes nothing.
 use mathlib.Core.Bool.{true, true≢false}
-use mathlib.Core.List.{List, [], _∷_}
+use mathlib.Core.List.{List, _∷_}
 use mathlib.Core.Path.{_≡_, sym, _∙_, ap}
 use Prim.Native.Nat.{ℕ}
 use native.Mathlib.Omega.{arith}
@@ -16,7 +16,6 @@ use Rattle.text.specs.declared.Put.{Put}
 use Rattle.text.specs.Text.{digitsOf}
 use Rattle.text.specs.Words.{words}
 use Rattle.salvaging.specs.declared.Salvaging.{Salvaging}
-use Rattle.salvaging.specs.declared.Tally.{Tally}
 use Rattle.salvaging.specs.declared.Wrote.{Wrote}
 use Rattle.salvaging.specs.Taking.{afterOf, partOctets, partText, partTally, octetsBy, textBy, tallyBy, lastText, startOf}
 use Rattle.salvaging.proofs.end.Kinds as end-kinds

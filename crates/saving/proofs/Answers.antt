@@ -2,7 +2,7 @@
 -- Assumes nothing.
 use mathlib.Core.Bool.{cond}
 use mathlib.Core.List.{List, [], _∷_, _++_}
-use mathlib.Core.Path.{_≡_, refl, sym, _∙_, ap, ap₂}
+use mathlib.Core.Path.{_≡_, sym, _∙_, ap, ap₂}
 use Prim.Native.Nat.{ℕ, _+_, _*_, _-_, _≤_, _<_}
 use native.Mathlib.Omega.{arith}
 use borrow.Author.Tests.{ne-eqb, le-ltb}
@@ -20,9 +20,9 @@ use Rattle.log.proofs.Headers as headers
 use Rattle.receiver.specs.declared.Ready.{Ready}
 use Rattle.receiver.specs.declared.Receiver.{Receiver}
 use Rattle.receiver.specs.Receiver.{openedOf}
-use Rattle.reading.specs.Heard.{Heard, isSound, soundIn, refusedIn, keptOf}
+use Rattle.reading.specs.Heard.{Heard, soundIn, refusedIn, keptOf}
 use Rattle.reading.specs.Reading.{Reading, freshOf, readingOf}
-use Rattle.reading.specs.Records.{restIn, octetsIn}
+use Rattle.reading.specs.Records.{octetsIn}
 use Rattle.reading.proofs.Reading.{header-long, header-octets, header-settles, reading-is}
 use Rattle.saving.specs.declared.Salvaged.{Salvaged}
 use Rattle.saving.specs.declared.Standing.{Standing}

@@ -2,7 +2,7 @@
 -- definitions.
 -- Assumes nothing.
 use mathlib.Core.List.{List, []}
-use mathlib.Core.Path.{_≡_, refl, sym, _∙_, ap}
+use mathlib.Core.Path.{_≡_, sym, _∙_, ap}
 use Prim.Native.Nat.{ℕ, _+_, _*_, _/_, _≤_}
 use native.Mathlib.Omega.{arith}
 use lib.ListN.{length, take}
@@ -12,7 +12,7 @@ use Rattle.log.specs.Records.{headerOf}
 use Rattle.reading.specs.Reading.{readingOf}
 use Rattle.saving.specs.declared.Salvaged.{Salvaged}
 use Rattle.saving.specs.Demands.{SameLine}
-use Rattle.saving.specs.Salvage.{newLog, listOf, leftOut, cutFrom, salvageRefusal, salvagedOf, savedInto, Salvages}
+use Rattle.saving.specs.Salvage.{newLog, listOf, leftOut, cutFrom, salvageRefusal, savedInto, Salvages}
 use Rattle.saving.proofs.Laws as laws
 
 -- a call that isn't refused

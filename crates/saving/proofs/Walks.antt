@@ -21,7 +21,7 @@ use Rattle.receiver.specs.declared.Receiver.{Receiver}
 use Rattle.receiver.specs.declared.Received.{Received}
 use Rattle.receiver.specs.Receiver.{judgedOf}
 use Rattle.reading.specs.Heard.{Heard, heardBy, hear, heardFrom, isSound, soundIn, refusedIn, keptOf}
-use Rattle.reading.specs.Records.{Whole, Walk, recordsIn, restIn, octetsIn}
+use Rattle.reading.specs.Records.{Whole, Walk, restIn, octetsIn}
 use Rattle.reading.specs.Totals.{totalOf, those}
 use Rattle.reading.proofs.Places.{walk-at, stop-at}
 use Rattle.saving.specs.declared.Standing.{Standing}

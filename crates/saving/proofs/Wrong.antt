@@ -1,7 +1,7 @@
 -- Wrong tools: the contract of the salvage rules each of them out, the first four at every log. Stated over the contract itself.
 -- Assumes nothing.
-use mathlib.Core.List.{List, [], _∷_, _++_}
-use mathlib.Core.Path.{_≡_, sym, _∙_, ap}
+use mathlib.Core.List.{List, [], _∷_}
+use mathlib.Core.Path.{_≡_, ap}
 use Prim.Native.Nat.{ℕ, _+_, _<_}
 use native.Mathlib.Omega.{arith}
 use contract.Lifetimes.{Lfts}

@@ -12,11 +12,9 @@ use lib.Seq.{drop-at}
 use Rattle.runs.specs.Runs.{joined, octetsOf}
 use Rattle.runs.proofs.Filling.{filled}
 use Rattle.runs.proofs.Laws.{length-joined, length-octets}
-use Rattle.formats.specs.declared.Format.{Format}
 use Rattle.formats.specs.declared.Settled.{Settled}
 use Rattle.formats.specs.Settings.{settingsOf}
 use Rattle.formats.proofs.Laws.{usual-is, usual-set}
-use Rattle.numbers.specs.Numbers.{wordBit}
 use Rattle.numbers.specs.Code.{sequenceOf}
 use Rattle.numbers.proofs.Laws.{sequence-bit}
 use Rattle.cells.specs.Cells.{overheadOf, subframeOf, slotOctets, cellOf}

@@ -1,7 +1,7 @@
 -- Wrong answers to what a word is: the contract rules each of them out. Stated over the contract itself.
 -- Assumes nothing.
 use mathlib.Core.List.{List}
-use mathlib.Core.Path.{_≡_, sym, _∙_}
+use mathlib.Core.Path.{_≡_}
 use Prim.Native.Nat.{ℕ}
 use native.Mathlib.Omega.{arith}
 use contract.Lifetimes.{Lfts}

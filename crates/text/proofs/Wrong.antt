@@ -1,7 +1,7 @@
 -- Wrong answers to the public functions: the contracts rule each of them out. Stated over the contracts themselves.
 -- Assumes nothing.
 use mathlib.Core.Bool.{true, true≢false}
-use mathlib.Core.List.{List, [], _∷_}
+use mathlib.Core.List.{List}
 use mathlib.Core.Path.{_≡_, sym, _∙_, ap}
 use Prim.Native.Nat.{ℕ}
 use native.Mathlib.Omega.{arith}

@@ -1,6 +1,6 @@
 -- `presence::anything` meets its contract.
 -- Assumes nothing.
-use mathlib.Core.Path.{_≡_, _∙_}
+use mathlib.Core.Path.{_∙_}
 use borrow.Author.Needs.{needs}
 use Rattle.presence.proofs.Walks.{header-refused, header-taken}
 use Rattle.presence.proofs.anything.Statement.{statement}

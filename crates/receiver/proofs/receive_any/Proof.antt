@@ -5,7 +5,6 @@ use Prim.Native.Nat.{_≤_}
 use native.Mathlib.Nat.{mul-le-mul}
 use native.Mathlib.Omega.{arith}
 use denote.Ref.{now}
-use Rattle.formats.specs.Formats.{formatOf}
 use Rattle.formats.specs.Sound.{Limits}
 use Rattle.receiver.proofs.Laws.{
   Call,

@@ -1,8 +1,8 @@
 -- `salvage::save` is safe and ends, and what it writes is whole. The loop keeps the lengths of what is lent; the measure is how many
 -- octets can still be counted.
 -- Assumes nothing.
-use mathlib.Core.Path.{_≡_, refl, sym, _∙_}
-use Prim.Native.Nat.{_-_, _≤_}
+use mathlib.Core.Path.{_≡_, refl, _∙_}
+use Prim.Native.Nat.{_-_}
 use native.Mathlib.Omega.{arith}
 use borrow.Author.Needs.{needs}
 use lib.ListN.{length}

@@ -1,7 +1,6 @@
 -- `saving::salvage` meets its contract: a law for each return.
 -- Assumes nothing.
 use mathlib.Core.Path.{_∙_}
-use Prim.Native.Nat.{_+_, _*_, _≤_}
 use native.Mathlib.Omega.{arith}
 use borrow.Author.Needs.{needs}
 use Rattle.saving.proofs.Answers.{header-unsaved, long, few, out-unsaved, list-unsaved, room, saved}

@@ -1,6 +1,5 @@
 -- `receiver::judge::count_refused` meets its contract.
 -- Assumes nothing.
-use borrow.Author.Tests.{eq-eqb, ne-eqb}
 use Rattle.receiver.specs.Receiver.{countRefused}
 use Rattle.receiver.proofs.judge.count_refused.Statement.{statement}
 use Rattle.receiver.proofs.judge.count_refused.Tie as tie

@@ -3,7 +3,7 @@
 use mathlib.Core.Bool.{Bool, true, false, _||_}
 use mathlib.Core.Path.{_≡_, refl, sym, _∙_}
 use borrow.Author.Needs.{needs}
-use Rattle.receiver.specs.Receiver.{lastRefused, countRefused}
+use Rattle.receiver.specs.Receiver.{lastRefused}
 use Rattle.receiver.proofs.judge.numbers_refused.Statement.{statement}
 use Rattle.receiver.proofs.judge.numbers_refused.Tie as tie
 

@@ -1,6 +1,5 @@
 -- `rimesatchel::boxes::receiver_of` meets its contract.
 -- Assumes nothing.
-use mathlib.Core.Path.{_≡_}
 use Rattle.rimesatchel.specs.Boxes.{receiverOf}
 use borrow.Author.Needs.{needs}
 use Rattle.rimesatchel.proofs.boxes.receiver_of.Statement.{statement}

@@ -1,6 +1,5 @@
 -- `sender::fill::guard_in` meets its contract.
 -- Assumes nothing.
-use native.Mathlib.Omega.{arith}
 use Rattle.sender.proofs.Subframes.{twice-fits, nine-fits, guard-looked}
 use borrow.Author.Needs.{needs}
 use Rattle.sender.proofs.fill.guard_in.Statement.{statement}

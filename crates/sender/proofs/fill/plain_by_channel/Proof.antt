@@ -1,7 +1,7 @@
 -- `sender::fill::plain_by_channel` meets its contract.
 -- Assumes nothing.
 use mathlib.Core.Path.{_≡_}
-use Prim.Native.Nat.{ℕ, _/_, _%_, _-_, _^_, _<_}
+use Prim.Native.Nat.{_/_, _%_, _-_, _^_, _<_}
 use native.Mathlib.Omega.{arith}
 use denote.Ref.{now}
 use lib.ListN as L

@@ -1,8 +1,7 @@
 -- `sender::fill::plain_in_order` meets its contract.
 -- Assumes nothing.
 use mathlib.Core.Bool.{false}
-use mathlib.Core.Path.{_≡_}
-use Prim.Native.Nat.{ℕ, _/_, _%_, _-_, _^_, _<_}
+use Prim.Native.Nat.{ℕ, _/_, _%_, _-_, _^_}
 use native.Mathlib.Omega.{arith}
 use denote.Ref.{now}
 use lib.ListN as L
