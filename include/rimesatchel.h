@@ -326,10 +326,10 @@ uint8_t rime_anything(const uint8_t *log, size_t log_len, uint64_t answer[RIME_A
  * `list` two numbers for each whole record that it leaves out: the record, counted from 0, and its refusal.
  * What is past the new log and past the list stays. Leaves in `counts` the octets of the new log, the records left out,
  * and the octets cut, from the first of a faulty record to the end. The log may be of any length; `log_len` octets and
- * 2 * (`log_len` / 49) numbers are always room enough. A receiver that runs over the new log hands out what it hands out
- * over the old one up to its first framing fault, and ends in the same state. A new log salvaged again stays as it is:
- * nothing is left out and nothing cut. `log_len` is the octets of the new log, 49 for each record left out, and the octets
- * cut.
+ * 2 * (`log_len` / 49) numbers are always room enough, and with so much room it is read once and not twice. A receiver
+ * that runs over the new log hands out what it hands out over the old one up to its first framing fault, and ends in the
+ * same state. A new log salvaged again stays as it is: nothing is left out and nothing cut. `log_len` is the octets of the
+ * new log, 49 for each record left out, and the octets cut.
  * Refused, with `out` and `list` untouched and `counts` zeros: 11, 1, 2 and 3, as for rime_log_header; then 21, `out` is
  * shorter than the new log or `list` than two numbers for each record left out.
  */

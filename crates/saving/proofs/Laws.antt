@@ -4,8 +4,8 @@ use mathlib.Core.List.{List, [], _∷_, _++_, map, flatMap}
 use mathlib.Core.Path.{_≡_, refl, sym, _∙_, ap, ap₂}
 use Prim.Native.Nat.{ℕ, suc, _+_, _*_, _/_, _≤_, _<_}
 use native.Mathlib.Omega.{arith}
-use borrow.Author.Tests.{eqb-true, lt-ltb, le-ltb, ltb-false}
-use lib.Dec.{eqb, ltb}
+use borrow.Author.Tests.{eqb-true, leb-true, leb-false, lt-ltb, le-ltb, ltb-false}
+use lib.Dec.{eqb, leb, ltb}
 use lib.ListN.{length, take, drop, length-append, length-map}
 use lib.Seq.{length-take-le, take-at}
 use Rattle.runs.specs.Refusals.{orElse}
@@ -172,6 +172,17 @@ module _ (log : List ℕ) (out list : ℕ) where
     pub room-for-both : length (newLog log) ≤ out → length (listOf log) ≤ list → salvageRefusal log out list ≡ 0
     unfolding salvageRefusal orElse
     room-for-both h l = rw (ok, le-ltb out (length (newLog log)) h, le-ltb list (length (listOf log)) l)
+
+    -- what refuses behind the header is 21
+    pub too-short : (salvageRefusal log out list ≡ 0 → ⊥) → salvageRefusal log out list ≡ 21
+    too-short some =
+        split (leb (length (newLog log)) out)
+        (λ t.
+        let out-long = leb-true (length (newLog log)) out t in
+        split (leb (length (listOf log)) list)
+        (λ u. absurd (some (room-for-both out-long (leb-true (length (listOf log)) list u))))
+        (λ u. list-too-short out-long (leb-false (length (listOf log)) list u)))
+        (λ t. out-too-short (leb-false (length (newLog log)) out t))
 
     -- as many octets as the log has, and two numbers for each 49 of them, are always room enough
     pub always-room : length log ≤ out → 2 * (length log / 49) ≤ list → salvageRefusal log out list ≡ 0

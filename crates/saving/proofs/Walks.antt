@@ -1,4 +1,4 @@
--- Laws of the two passes along a log's records: the invariants of their loops. Each says what is still to come, so that a turn
+-- Laws of the two walks along a log's records: the invariants of their loops. Each says what is still to come, so that a turn
 -- takes one record off it.
 -- Assumes nothing.
 use mathlib.Core.Bool.{Bool, true, false, cond, not}
@@ -109,7 +109,7 @@ module _ (log : List ℕ) (here : Standing) where
     rest-none : restIn (drop (here .place) log) ≡ drop (here .place) log
     rest-none = ap (λ (w : Walk). w .rest) (stop-at log (here .place) none)
 
--- along the records, in either pass
+-- along the records, in either walk
 pub record Walking (log : List ℕ) (state : Receiver) (here : Standing) (found : Record) : Type 0 where
   pub read : found ≡ recordAt log (here .place)
   pub within : here .place ≤ length log
@@ -198,7 +198,7 @@ module _ {log : List ℕ} {state : Receiver} {here : Standing} {found : Record} 
       walking-turn {found′ = found′} a f =
           subst (λ (s : Standing). found′ ≡ recordAt log (s .place) → Walking log state s found′) (sym (past-is a)) turned f
 
-      -- there is room for it in the second pass
+      -- there is room for it where records are written
       pub walking-fits : {out list : ℕ} → Room log state out list → Fits out list here (got .refusal) cell
       walking-fits room =
           record {
@@ -235,7 +235,7 @@ numbers-turn index h hs = split (eqb (h .answer .refusal) 0) (λ e. rw e) (λ e.
 numbers-long : (refusal index : ℕ) → length (putNumbers refusal index) ≡ 2 * cond (not (eqb refusal 0)) 1 0
 numbers-long refusal index = split (eqb refusal 0) (λ e. rw e (omega arith)) (λ e. rw e (omega arith))
 
--- along the records in the second pass: what is written so far, and what is still to come
+-- along the records where they are written: what is there so far, and what is still to come
 pub record Putting (log : List ℕ) (state : Receiver) (out₀ list₀ : List ℕ) (here : Standing) (out list : List ℕ) : Type 0 where
   pub same-out : length out ≡ length out₀
   pub same-list : length list ≡ length list₀

@@ -1,4 +1,4 @@
--- Words that only the code of the salvage needs: two passes over a log's records, the first to count them, the second to write.
+-- Words that only the code of the salvage needs: walks along a log's records, one that counts them and one that writes.
 -- Assumes nothing.
 use mathlib.Core.Bool.{Bool, cond, not}
 use mathlib.Core.List.{List, [], _∷_}
@@ -41,7 +41,7 @@ heardAt log here = heardFrom (here .state) (recordsIn (drop (here .place) log))
 abbrev pub allOf : List ℕ → Receiver → List Heard
 allOf log state = heardAt log (startOf state)
 
--- where the first pass ends
+-- where a walk ends
 pub record Counts (log : List ℕ) (state : Receiver) (here : Standing) : Type 0 where
   pub kept : here .kept ≡ soundIn (allOf log state)
   pub left : here .«left_out» ≡ refusedIn (allOf log state)
@@ -66,7 +66,7 @@ pub record PutsOne (out list : List ℕ) (here : Standing) (refusal : ℕ) (indi
   pub out-after : out₁ ≡ written out (3 + 49 * here .kept) (putOctets refusal indication cell)
   pub list-after : list₁ ≡ written list (2 * here .«left_out») (putNumbers refusal (here .kept + here .«left_out»))
 
--- the second pass: there is room for all of it, and what it leaves
+-- to write: there is room for all of it, and what it leaves
 pub record Room (log : List ℕ) (state : Receiver) (out list : ℕ) : Type 0 where
   pub headed : 3 ≤ length log
   pub out-room : 3 + 49 * soundIn (allOf log state) ≤ out

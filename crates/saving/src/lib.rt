@@ -5,10 +5,13 @@ use receiver::Receiver;
 ghost use mathlib.Core.List.{[], _∷_};
 ghost use mathlib.Core.Path.{_≡_};
 ghost use Prim.Native.Nat.{_+_, _≤_, _<_};
+ghost use lib.Dec.{eqb};
 ghost use lib.ListN.{length};
 ghost use Rattle.runs.specs.Runs.{written};
+ghost use Rattle.log.specs.Records.{headerOf};
+ghost use Rattle.reading.specs.Reading.{freshOf};
 ghost use Rattle.saving.specs.Code.{notSaved, startOf, afterOf, Counts, Fits, PutsOne, Room, Writes};
-ghost use Rattle.saving.specs.Salvage.{Salvages};
+ghost use Rattle.saving.specs.Salvage.{salvageRefusal, Salvages};
 
 // The refusal (0: none); the octets of the new log, the records left out, and the octets cut, all zero where it is refused.
 pub struct Salvaged {
@@ -62,7 +65,7 @@ fn start(state: Receiver) -> Standing
     }
 }
 
-// The first pass: counts the records, and stops at the first framing fault or the end.
+// Counts the records, and stops at the first framing fault or the end.
 fn count(log: &[u8], state: Receiver) -> Standing
     requires { ⌜ 3 ≤ length (now log) ⌝ }
     ensures { λ r. ⌜ Counts (now (log .entry)) state r ⌝ }
@@ -79,6 +82,25 @@ fn count(log: &[u8], state: Receiver) -> Standing
         found = log::read_record(log, here.place);
     }
     here
+}
+
+// Whether there is room for the new log and the list: of so many octets and so many numbers. Where a copy of the log and a list of
+// all its records would fit, nothing need be counted.
+fn has_room(log: &[u8], state: Receiver, out: usize, list: usize) -> bool
+    requires { ⌜ (headerOf (now log) .refusal ≡ 0) × (state ≡ freshOf (headerOf (now log))) ⌝ }
+    ensures { λ r. ⌜ r ≡ eqb (salvageRefusal (now (log .entry)) out list) 0 ⌝ }
+{
+    let size = log.len();
+    if size <= out {
+        if size / 49 * 2 <= list {
+            return true;
+        }
+    }
+    let counted = count(log, state);
+    if out < 3 + 49 * counted.kept {
+        return false;
+    }
+    2 * counted.left_out <= list
 }
 
 // Two numbers at a place of a lent list.
@@ -104,11 +126,11 @@ fn put(out: &mut [u8], list: &mut [u64], here: Standing, refusal: u8, indication
     put_two(list, 2 * here.left_out, index as u64, refusal as u64);
 }
 
-// The second pass: writes the records that are kept, and the list, where there is room for all of both.
-fn write(log: &[u8], state: Receiver, out: &mut [u8], list: &mut [u64])
+// Writes the records that are kept, and the list, where there is room for all of both.
+fn write(log: &[u8], state: Receiver, out: &mut [u8], list: &mut [u64]) -> Standing
     requires { ⌜ Room (now log) state (length (now out)) (length (now list)) ⌝ }
-    ensures { λ _. ⌜ Writes (now (log .entry)) state (now (out .entry)) (now (list .entry)) (now (out .exit))
-        (now (list .exit)) ⌝ }
+    ensures { λ r. ⌜ Counts (now (log .entry)) state r × Writes (now (log .entry)) state (now (out .entry)) (now (list .entry))
+        (now (out .exit)) (now (list .exit)) ⌝ }
 {
     let mut here = start(state);
     let mut found = log::read_record(log, here.place);
@@ -119,6 +141,7 @@ fn write(log: &[u8], state: Receiver, out: &mut [u8], list: &mut [u64])
         here = after(here, found.next, got);
         found = log::read_record(log, here.place);
     }
+    here
 }
 
 fn refused(refusal: u8) -> Salvaged
@@ -144,21 +167,17 @@ pub fn salvage(log: &[u8], out: &mut [u8], list: &mut [u64]) -> Salvaged
     }
     let opened = receiver::opened(header.format, header.channels, header.order);
     let state = opened.state;
-    let counted = count(log, state);
-    let octets = 3 + 49 * counted.kept;
-    if out.len() < octets {
-        return refused(21);
-    }
-    if list.len() < 2 * counted.left_out {
+    if !has_room(log, state, out.len(), list.len()) {
         return refused(21);
     }
     log::keep::write_header(out, header.format, header.channels, header.order);
-    write(log, state, out, list);
-    let cut = log.len() - counted.place;
+    let end = write(log, state, out, list);
+    let octets = 3 + 49 * end.kept;
+    let cut = log.len() - end.place;
     Salvaged {
         refusal: 0,
         octets,
-        left_out: counted.left_out,
+        left_out: end.left_out,
         cut,
     }
 }

@@ -15,6 +15,7 @@ use Rattle.saving.proofs.Walks.{
   walking-less,
   walking-turn,
   walking-fits,
+  counted,
   putting-start,
   putting-room,
   putting-turn,
@@ -79,7 +80,8 @@ same-length-2 c = c .before .before .loop .inv .2 .same-list
 returns : tie.Need-returns Inv-loop μ-loop
 returns c =
     let inv = c .before .before .loop .inv in
-    wrote (inv .2) (inv .1) (c .before .before .before .before .start .ensures) refl (c .if1 .left)
+    let start = c .before .before .before .before .start .ensures in
+    (counted (inv .1) (c .if1 .left) start refl, wrote (inv .2) (inv .1) start refl (c .if1 .left))
 
 pub write-spec : {M : Type 1} → statement M
 write-spec =
