@@ -7,21 +7,21 @@ PROGRAMS := $(filter $(notdir $(wildcard crates/*)),linelist anything salvage sh
 .PHONY: all help programs demo lib examples install test mutants tables reading clean
 
 all:
-	@echo 'Proves every crate that changed and builds the programs: some 6 minutes from nothing, on two cores. `make help` has more.'
+	@echo 'Proves every crate that changed and builds the programs: some 7 minutes from nothing, on two cores. `make help` has more.'
 	@bash tools/prove.sh check
 
 help:
 	@echo 'to use it'
 	@echo '  make demo             a reading made on the spot into a log, some cells lost, and back; without the proof: seconds'
 	@echo '  make desk             build the desk tool over the proved library: target/desk/rimesatchel'
-	@echo '  make programs         prove and build the programs: $(PROGRAMS); some 4 minutes from nothing, on two cores'
-	@echo '  make lib              prove and build the archive and the shared library: some 6 minutes from nothing'
+	@echo '  make programs         prove and build the programs: $(PROGRAMS); up to 8 minutes from nothing, on two cores'
+	@echo '  make lib              prove and build the archive and the shared library: up to 11 minutes from nothing'
 	@echo '  make examples         build and run the examples in C, Rust and Python'
 	@echo '  make install          header, archive, shared library, programs, pkg-config file, man pages; PREFIX=/usr/local'
 	@echo '  make clean            remove all that was built'
 	@echo 'to work on it'
 	@echo '  make                  prove every crate that changed, and build the programs'
-	@echo '  make test             the gate: prove all from nothing, try the must-fail edits, run every test; some 15 minutes'
+	@echo '  make test             the gate: prove all from nothing, try the must-fail edits, run every test; 14 to 23 minutes'
 	@echo '  make mutants          try the wrong programs of tests/mutants; CRATES="sender log" for some crates'
 	@echo '  make fuzz             compare N=1000000 calls with another implementation, from SEED=2; memory checks'
 	@echo '  make sheet-19         one sheet over 626 MB, which is refused 19, and over one record less, which is given'
@@ -42,7 +42,7 @@ programs: $(PROGRAMS:%=target/bin/%)
 	@echo 'programs: $^'
 
 $(PROGRAMS:%=target/bin/%) &: $(SOURCES)
-	@echo 'Proves and builds $(PROGRAMS): some 4 minutes from nothing, on two cores.'
+	@echo 'Proves and builds $(PROGRAMS): up to 8 minutes from nothing, on two cores.'
 	@bash tools/prove.sh check $(PROGRAMS)
 
 lib: $(ARCHIVE) $(MANAGEMENT) $(SHARED) $(SHARED_MANAGEMENT)
@@ -68,7 +68,7 @@ install:
 	done
 
 test:
-	@echo 'The gate: some 15 minutes on two cores with nothing beside it.'
+	@echo 'The gate: 14 to 23 minutes on two cores with nothing beside it.'
 	.ci/run
 
 mutants:

@@ -61,7 +61,7 @@ enum {
     RIME_PORT_NONE = 0x00,   /* no port with this selector */
     RIME_PORT_DISABLED = 0x40,
     RIME_PORT_IN_USE = 0x60,    /* an output port in use for a source without an ATM address */
-    RIME_PORT_UNSUPPORTED = 0x80, /* and 4 the subframe format, 2 the packing, 1 the sampling frequency: 81 to 87 */
+    RIME_PORT_UNSUPPORTED = 0x80, /* plus 4 for the subframe format, 2 for the packing, 1 for the sampling frequency: 81 to 87 */
     RIME_PORT_ENABLED = 0xC0,   /* no audio signal; an output port available for calls */
     RIME_PORT_ACTIVE = 0xE0     /* an audio signal; an output port connected to a call */
 };

@@ -5,9 +5,9 @@
  * marks. Nothing here allocates, keeps anything between two calls, or reads or writes anything but what it is lent:
  * all state is the caller's, in the arrays below, and may hold any octets whatever.
  *
- * Every function but rime_check_character and rime_receiver_placed returns a refusal number, RIME_DONE (0) where there
- * is none. A call never does half of its work. A refusal leaves every lent run and the state as they were, and fills
- * `report`, `out` of rime_status_step, `header`, `record`, `*next`, `counts`, `units`, `*entries`, `answer` or the two
+ * Every call but rime_check_character and rime_receiver_placed returns a refusal number, RIME_DONE (0) where there is none.
+ * A call never does half of its work. A refusal leaves every lent run and the state as they were, and fills `report`,
+ * `out` of rime_status_step, `header`, `record`, `*next`, `counts`, `totals`, `units`, `*entries`, `answer` or the two
  * entries or halves of a frame with zeros; an opening that is refused fills `state` with zeros, which is itself refused 1.
  * Where several refusals apply, the first in the order of the list at each function is given.
  *
@@ -69,7 +69,7 @@ enum {
 enum {
     RIME_MARK_SOUND = 0,    /* the sample as it was sent, as far as its protection bits tell */
     RIME_MARK_DOUBTFUL = 1, /* the three protection bits disagree; the sample is given as it came */
-    RIME_MARK_MISSING = 2   /* an entry of a cell that did not come; sample and ancillary are 0 */
+    RIME_MARK_MISSING = 2   /* an entry of a cell that did not come or was refused; sample and ancillary are 0 */
 };
 
 /* Refusal numbers. */
@@ -87,7 +87,7 @@ enum {
     RIME_REFUSED_ROOM = 10,       /* too little room for the missing cells and this one */
     RIME_REFUSED_LOG_NUMBER = 11, /* a log number not in its shortest form, too long or cut; an indication above 1 */
     RIME_REFUSED_LOG_RECORD = 12, /* a record cut before its 48 octets end */
-    RIME_REFUSED_LOG_LENGTH = 13, /* given by the program linelist alone */
+    RIME_REFUSED_LOG_LENGTH = 13, /* in a list alone: the log has an octet past 4,294,967,295 */
     RIME_REFUSED_STATUS = 14,     /* a channel status input that cannot be */
     RIME_REFUSED_INDICATED = 15,  /* a cell that comes with indication 1 where its number isn't a multiple of 8 */
     RIME_REFUSED_PREAMBLES = 16,  /* the preambles of a frame aren't X then Y, or Z then Y */
@@ -98,6 +98,7 @@ enum {
     RIME_REFUSED_OUTPUT = 21,     /* an output of the salvage is shorter than what goes into it */
     RIME_REFUSED_PLAN = 22,       /* more than 64 circuits or 1,024 channels */
     RIME_REFUSED_FREQUENCY = 23,  /* a sampling frequency of 0 or above 1,000,000 */
+    /* 24 and 25 are the management port's: rime_management.h */
     RIME_REFUSED_OVERHEAD = 26,   /* data units: a format with overhead */
     RIME_REFUSED_UNIT_SIZE = 27,  /* data units: a size below one frame */
     RIME_REFUSED_UNIT_ROOM = 28,  /* data units: too little room */
@@ -279,8 +280,7 @@ uint8_t rime_log_header(const uint8_t *log, size_t log_len, uint32_t header[RIME
  * Reads the record at `place` of a log: an indication, then a cell. Leaves in `record` that it is a cell, its
  * indication, the place where its 48 octets start in `log`, and the next place. A place at the log's end or past it,
  * however large, leaves the end: 0, 0, 0 and `place` as given.
- * Refused, with `record` zeros: 11, the indication is above 1, not in its shortest form or cut; 12, the log ends
- * before the 48 octets do.
+ * Refused, with `record` zeros: 11, the octet of the indication is above 1; 12, the log ends before the 48 octets do.
  */
 uint8_t rime_log_record(const uint8_t *log, size_t log_len, size_t place, uint64_t record[RIME_RECORD]);
 
@@ -439,8 +439,8 @@ enum {
  * nothing. A row has the cells sound, missing, and refused by 8, 9, 15 and 20, the samples marked 0, 1 and 2, and the missing
  * cells per million of sound plus missing, rounded down, 0 where that sum is 0.
  * Leaves a row a log in `rows`, RIME_SHEET_ROW numbers each, and in `totals` the row of all logs together, its per million
- * worked out from its sound and missing. The sheet of two lists of logs joined has the rows of both, and the first nine
- * numbers of its totals are the sums of theirs.
+ * worked out from its sound and missing. Where it isn't refused, the sheet of two lists of logs joined has the rows of both,
+ * and the first nine numbers of its totals are the sums of theirs. It takes some 160 KiB of stack.
  * Refused, with `rows` untouched and `totals` zeros: 18, more than 4,096 logs; 5, the lengths don't add up to `octets_len`, or
  * `rows_len` isn't ten times `lengths_len`; 19, one of the first nine totals is above 4,294,967,295.
  */

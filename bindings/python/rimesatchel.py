@@ -195,7 +195,7 @@ class Entry(NamedTuple):
 
 
 class Handed(NamedTuple):
-    """What a receiver makes of a cell: those missing before it, and its own. Time after time, channels side by side."""
+    """What a receiver makes of a cell: the entries of the cells missing before it, and its own, channels side by side."""
 
     missing: int
     number: int

@@ -1,6 +1,6 @@
 #!/usr/bin/env bash
 # sheet as a cataloguer would try it: the vectors of request 3, by files and by lengths on standard input, each table opened by
-# Python's csv; octets that come in uneven pieces, 4,096 logs and one more, lengths that are none, wrong arguments and files.
+# Python's csv; octets that come in uneven pieces, 4,096 logs and one more, lengths that are none, wrong arguments, files and devices.
 set -eu -o pipefail
 export LC_ALL=C
 sheet=target/bin/sheet
@@ -106,3 +106,20 @@ prints "--help" 'usage: sheet [FILE..]'
 $sheet "$dir/long" "$dir/none" 2> "$dir/out" > "$dir/nothing" < /dev/null
 prints "no such file" "sheet: $dir/none: No such file or directory"
 [ ! -s "$dir/nothing" ]
+$sheet "$dir/long" "$dir" 2> "$dir/out" > "$dir/nothing" < /dev/null
+prints "a folder" "sheet: $dir: Is a directory"
+[ ! -s "$dir/nothing" ]
+$sheet "$dir/long" -x 2> "$dir/out" > "$dir/nothing" < /dev/null
+prints "an option among files" 'usage: sheet [FILE..]'
+[ ! -s "$dir/nothing" ]
+$sheet examples/reading.log 2> "$dir/out" > /dev/full
+prints "a full disk" 'sheet: standard output: No space left on device'
+python3 - "$sheet" > "$dir/out" << 'PYTHON'
+import pty, subprocess, sys
+ours, theirs = pty.openpty()
+ran = subprocess.run([sys.argv[1]], stdin=theirs, stdout=subprocess.PIPE, stderr=subprocess.PIPE)
+assert ran.stdout == b''
+sys.stdout.write(ran.stderr.decode())
+PYTHON
+prints "a terminal" 'usage: sheet [FILE..]'
+echo "sheet: tried as a cataloguer would"

@@ -229,7 +229,7 @@ done
 
 # Bad input, and files that can't be written: the message, the status, and nothing left behind.
 echo "no sound" > no.wav
-head -c 500 /dev/urandom > noise.log && printf '\xff\x7f' | dd of=noise.log conv=notrunc status=none
+{ printf '\xff\x7f\x02\x00' && head -c 500 "$desk"; } > noise.log # its first number, 16383, is no format
 made many.wav 16 13 10
 sox -R -n -r 48000 -e floating-point -b 32 -c 1 float.wav synth 10s pinknoise
 "$desk" send -q in-16-2.wav wide.log --format 08

@@ -49,7 +49,7 @@ pub enum Mark {
     Sound,
     /// Its protection bits disagree; it is given as it came.
     Doubtful,
-    /// Its cell never came, or couldn't be read; sample and ancillary are 0.
+    /// Its cell never came, or was refused; sample and ancillary are 0.
     Missing,
 }
 
@@ -61,7 +61,7 @@ pub struct Entry {
     pub mark: Mark,
 }
 
-/// What a receiver makes of a cell: those missing before it, and its own.
+/// What a receiver makes of a cell: the entries of the cells missing before it, and its own.
 #[derive(Debug, Clone, PartialEq, Eq)]
 pub struct Handed {
     pub missing: u8,

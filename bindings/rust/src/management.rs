@@ -18,6 +18,7 @@ mod raw {
     }
 }
 
+/// `rime_equipment`: what the equipment does with a message.
 pub fn equipment(ports: &mut [u8], message: &[u8], answer: &mut [u8], report: &mut [u64; 4]) -> u8 {
     let (ports_at, ports_len) = (ports.as_mut_ptr(), ports.len());
     let (answer_at, answer_len) = (answer.as_mut_ptr(), answer.len());
@@ -25,6 +26,7 @@ pub fn equipment(ports: &mut [u8], message: &[u8], answer: &mut [u8], report: &m
     unsafe { raw::rime_equipment(ports_at, ports_len, message.as_ptr(), message.len(), answer_at, answer_len, report) }
 }
 
+/// `rime_controller`: what the controlling entity does with a message.
 pub fn controller(ports: &mut [u8], message: &[u8]) -> u8 {
     let (ports_at, ports_len) = (ports.as_mut_ptr(), ports.len());
     unsafe { raw::rime_controller(ports_at, ports_len, message.as_ptr(), message.len()) }

@@ -28,6 +28,7 @@ use Rattle.figures.specs.Sheets.{
   sheetRefusal,
   sheetOf,
   Sheets,
+  AddUp,
 }
 use Rattle.figures.proofs.Demand1.{demand-1-sheet}
 use Rattle.figures.proofs.Laws.{counts-joined, few-first, few-second}
@@ -166,15 +167,7 @@ module _ {octets lengths rows : List ℕ} {answer : Answer} {rows₁ : List ℕ}
   pub rows-said : sheetRefusal octets lengths (length rows) ≡ 0 → rows₁ ≡ rowsOf (logsOf octets lengths)
   rows-said none = s .rows-after ∙ rw (eq-eqb (sheetRefusal octets lengths (length rows)) 0 none)
 
--- over every three calls: where the sheet of the joined list isn't refused, neither of the two is, its rows are theirs, and
--- its totals
--- are the sums of theirs, "the per-million line apart"
-pub record AddUp (a b joined : Answer) (rows-a rows-b rows-joined : List ℕ) : Type 0 where
-  pub first-taken : a .refusal ≡ 0
-  pub second-taken : b .refusal ≡ 0
-  pub rows : rows-joined ≡ rows-a ++ rows-b
-  pub totals : (k : ℕ) → k < 9 → getD (joined .totals) k 0 ≡ getD (a .totals) k 0 + getD (b .totals) k 0
-
+-- over every three calls
 pub sheets-add-up : {octets more lengths others rows rows′ rows″ rows-a rows-b rows-joined : List ℕ} {a b joined : Answer}
     → sumOf lengths ≡ length octets → length rows ≡ 10 * length lengths → length rows′ ≡ 10 * length others
     → Sheets octets lengths rows a rows-a → Sheets more others rows′ b rows-b

@@ -61,7 +61,7 @@ module _ (st : Receiver) (cell : List ℕ) (indication : Bool) {told : Told} (is
     unfolding hear
     marks-none = refused-gives st arrived none (marksNow st cell)
 
-    no-marks : (mark : ℕ) → 0 ≡ marked mark (h .marks)
+    pub no-marks : (mark : ℕ) → 0 ≡ marked mark (h .marks)
     unfolding totalOf
     no-marks mark = sym (ap (marked mark) marks-none)
 
@@ -129,6 +129,13 @@ module _ (st : Receiver) (cell : List ℕ) (indication : Bool) {told : Told} (is
     two : marked 2 ownMarks ≡ 0
     unfolding entriesOf
     two = own-two _ (λ i. own-low _) (usedNow st)
+
+    -- C×T samples are its own, and as many are marked 2 for each missing cell
+    pub taken-own : marked 0 (h .marks) + marked 1 (h .marks) ≡ usedNow st
+    taken-own = omega (arith, marked-in 0, marked-in 1, both)
+
+    pub taken-gap : marked 2 (h .marks) ≡ usedNow st * told .missing
+    taken-gap = omega (arith, marked-in 2, two, ap (λ (n : ℕ). n * usedNow st) missing-is)
 
     used-to : usedNow st ≤ 48
     used-to = settled-limits (st .format) (st .channels) (st .order) refl (passed .early .settings) .used-to

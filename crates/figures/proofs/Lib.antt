@@ -3,6 +3,7 @@ pub mod Adds
 pub mod Bare
 pub mod Cells
 pub mod Demand1
+pub mod Every
 pub mod Going
 pub mod Laws
 pub mod Marks

@@ -1,5 +1,4 @@
--- No second answer: whatever answer, lent array and lent rows at exit meet the contract of a public function are equal.
--- Stated over
+-- No second answer: whatever answer, lent array and lent rows at exit meet the contract of a public function are equal. Stated over
 -- the contracts themselves.
 -- Assumes nothing.
 use mathlib.Core.Path.{refl, sym, _∙_}

@@ -69,6 +69,9 @@ slots low rest = 0 ∷ 0 ∷ 0 ∷ low ∷ 0 ∷ 0 ∷ 0 ∷ low ∷ 0 ∷ 0 ∷
 abbrev pub once : List ℕ
 once = 0x56 ∷ 2 ∷ 0 ∷ 0 ∷ slots 7 (slots 15 (slots 7 []))
 
+abbrev refused-header : List ℕ
+refused-header = 0x56 ∷ 13 ∷ 0 ∷ 0 ∷ slots 7 (slots 15 (slots 7 []))
+
 abbrev pub twice : List ℕ
 twice = once ++ (0 ∷ slots 7 (slots 15 (slots 7 [])))
 
@@ -90,6 +93,12 @@ module _ (κs : Lfts 3) (p q r : Place) where
   unfolding unfolded
   cut-record-not-refused x v wrong s =
       let right : getD (x .totals) 3 0 ≡ 0 = ap (λ (a : Answer). getD (a .totals) 3 0) (s .answered) in omega arith
+
+  -- a whole cell counted behind a header that is refused: 56 hex has no 13 channels
+  pub refused-header-not-counted : Sheet refused-header (52 ∷ []) 10 (λ x rows. getD rows 0 0 ≡ 1)
+  unfolding unfolded
+  refused-header-not-counted x v wrong s = let right : getD (v .1 .1 .0) 0 0 ≡ 0 = ap (λ (l : List ℕ). getD l 0 0)
+      (s .rows-after) in omega arith
 
   -- a refused sheet that writes its row
   pub refused-rows-not-written : Sheet twice (100 ∷ []) 10 (λ x rows. getD rows 0 0 ≡ 1)

@@ -7,8 +7,7 @@ use lib.Dec.{eqb, ltb}
 use Rattle.reading.specs.Heard.{Heard, soundIn, missingIn, refusedWith, markedWith}
 use Rattle.figures.specs.declared.Counts.{Counts}
 
--- "the cells sound, missing and refused (by number), and samples marked 0, 1 and 2"; 8, 9, 15 and 20 are all that a fresh
--- receiver
+-- "the cells sound, missing and refused (by number), and samples marked 0, 1 and 2"; 8, 9, 15 and 20 are all that a fresh receiver
 -- with room can say to a record
 unfoldable pub countsOf : List Heard → Counts
 countsOf heard =

@@ -3,9 +3,9 @@
 use mathlib.Core.Bool.{Bool, cond, not, _||_}
 use mathlib.Core.List.{List, [], _∷_, _++_}
 use mathlib.Core.Path.{_≡_}
-use Prim.Native.Nat.{ℕ, _*_}
+use Prim.Native.Nat.{ℕ, _+_, _*_, _<_}
 use lib.Dec.{eqb, ltb}
-use lib.ListN.{length, take, drop, replicate}
+use lib.ListN.{length, getD, take, drop, replicate}
 use Rattle.reading.specs.Heard.{Heard}
 use Rattle.reading.specs.Reading.{readingOf}
 use Rattle.reading.specs.Totals.{totalOf}
@@ -40,8 +40,7 @@ rowsOf (log ∷ logs) = rowOf (countsOf (heardIn log)) ++ rowsOf logs
 abbrev pub sumOf : List ℕ → ℕ
 sumOf lengths = totalOf (λ n. n) lengths
 
--- 5: "where the lengths don't add up to the octets or rows and logs differ in number"; the octets and the rows are told by
--- how many
+-- 5: "where the lengths don't add up to the octets or rows and logs differ in number"; the octets and the rows are told by how many
 -- they are
 unfoldable pub unlike : ℕ → List ℕ → ℕ → Bool
 unlike octets lengths rows = not (eqb (sumOf lengths) octets) || not (eqb rows (10 * length lengths))
@@ -68,3 +67,11 @@ sheetOf octets lengths rows =
 pub record Sheets (octets lengths rows : List ℕ) (answer : Answer) (rows₁ : List ℕ) : Type 0 where
   pub answered : answer ≡ sheetOf octets lengths (length rows)
   pub rows-after : rows₁ ≡ cond (eqb (sheetRefusal octets lengths (length rows)) 0) (rowsOf (logsOf octets lengths)) rows
+
+-- "sheets of two lists joined add up to the sheet of the joined list, if that isn't refused, the per-million line apart": then neither
+-- of the two is refused, its rows are theirs, and its first nine totals are the sums of theirs
+pub record AddUp (a b joined : Answer) (rows-a rows-b rows-joined : List ℕ) : Type 0 where
+  pub first-taken : a .refusal ≡ 0
+  pub second-taken : b .refusal ≡ 0
+  pub rows : rows-joined ≡ rows-a ++ rows-b
+  pub totals : (k : ℕ) → k < 9 → getD (joined .totals) k 0 ≡ getD (a .totals) k 0 + getD (b .totals) k 0

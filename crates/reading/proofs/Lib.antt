@@ -1,7 +1,7 @@
 pub mod Computed
-pub mod Counts
 pub mod Heard
 pub mod Places
 pub mod Reading
 pub mod Records
+pub mod Said
 pub mod Totals

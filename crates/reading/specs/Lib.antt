@@ -1,4 +1,3 @@
-pub mod Code
 pub mod Heard
 pub mod Reading
 pub mod Records

@@ -4,6 +4,7 @@ pub mod Indication
 pub mod Laws
 pub mod Marking
 pub mod One
+pub mod Onward
 pub mod Reading
 pub mod Room
 pub mod Unpacking

@@ -16,6 +16,7 @@ pub mod PlansOne
 pub mod PlansWrong
 pub mod SalvagesOne
 pub mod SalvagesWrong
+pub mod SheetsAdd
 pub mod SheetsOne
 pub mod SheetsWrong
 pub mod StatusesOne

@@ -1,4 +1,4 @@
--- The two boxes' states as octets, and what each call of the face leaves (C-FACE.md).
+-- The two boxes' states as octets, and what each call of the face leaves, as include/rimesatchel.h has it.
 -- Assumes nothing.
 use mathlib.Core.Bool.{Bool, cond, not}
 use mathlib.Core.List.{List, [], _∷_}

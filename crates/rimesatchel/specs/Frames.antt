@@ -1,4 +1,4 @@
--- What the AES3 cable's calls write into the arrays lent to them (C-FACE-REQUESTS.md): first half first.
+-- What the AES3 cable's calls write into the arrays lent to them, as include/rimesatchel.h has it: first half first.
 -- Assumes nothing.
 use mathlib.Core.List.{List}
 use mathlib.Core.Path.{_≡_}

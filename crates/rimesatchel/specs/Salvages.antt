@@ -1,4 +1,4 @@
--- What the salvage of a log writes into the runs and the array lent to it (C-FACE-REQUESTS.md).
+-- What the salvage of a log writes into the runs and the array lent to it, as include/rimesatchel.h has it.
 -- Assumes nothing.
 use mathlib.Core.List.{List, [], _∷_}
 use mathlib.Core.Path.{_≡_}

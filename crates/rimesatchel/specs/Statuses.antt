@@ -1,4 +1,4 @@
--- A block of channel status as 25 octets, and what a step on them leaves (C-FACE.md).
+-- A block of channel status as 25 octets, and what a step on them leaves, as include/rimesatchel.h has it.
 -- Assumes nothing.
 use mathlib.Core.List.{List, _∷_}
 use mathlib.Core.Path.{_≡_}

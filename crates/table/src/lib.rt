@@ -51,7 +51,7 @@ pub fn start(files: usize) -> Sheet
     }
 }
 
-// The log of a file begins. Its length isn't known: it may have more octets than any file has.
+// The log of a file begins. Its length isn't known: more octets are taken to be left than any file has.
 pub fn open_log(sheet: Sheet) -> Sheet
     ensures { λ r. ⌜ r ≡ openedOf sheet ⌝ }
 {

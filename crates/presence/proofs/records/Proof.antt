@@ -1,6 +1,5 @@
--- `presence::records` meets its contract. The loop: none before this record, and the rest from here. The measure is what is left
--- of the
--- log.
+-- `presence::records` meets its contract. The loop: none before this record, and the rest from here. The measure is what is left of
+-- the log.
 -- Assumes nothing.
 use mathlib.Core.Path.{_∙_, ap}
 use Prim.Native.Nat.{_-_}
