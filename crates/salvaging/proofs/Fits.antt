@@ -15,7 +15,7 @@ use Rattle.log.specs.Records.{headerOf, cellAt}
 use Rattle.log.proofs.Places.{record-cases}
 use Rattle.reading.specs.Records.{frontOf}
 use Rattle.pieces.specs.declared.Standing.{Standing}
-use Rattle.pieces.specs.Limit.{Part, whole, refused}
+use Rattle.pieces.specs.Limit.{Part, whole}
 use Rattle.pieces.specs.Steps.{heldCount, takingOf}
 use Rattle.pieces.specs.Taken.{Taking, inHeader, inRecord, one, handed}
 use Rattle.text.specs.declared.Put.{Put}
@@ -84,70 +84,46 @@ most each first t n =
     cond (eqb (t .stage) 0) (each * (n / 49) + first)
     (cond (eqb (t .stage) 1) (each * ((length (t .part) + n) / 49)) 0)
 
-module _ (t : Tally) (k : Taking) (x n : ℕ) where
-  octet-octets : length (octetsBy t (one k x .parts)) + most 49 3 (one k x .taking) n ≤ most 49 3 k (suc n)
-  unfolding one inHeader inRecord most octetsBy partOctets
-  octet-octets =
-      let longer : List ℕ = k .part ++ (x ∷ []) in
-      let more : length longer ≡ suc (length (k .part)) = length-append (k .part) (x ∷ []) ∙ omega arith in
-      split (eqb (k .stage) 0)
-      (λ a.
-      split (eqb (length longer) 3 && eqb (headerOf longer .refusal) 0)
-      (λ b. rw (a, b) (omega arith))
-      (λ b. split (eqb (length longer) 9) (λ e. rw (a, b, e) (omega arith)) (λ e. rw (a, b, e) (omega arith))))
-      (λ a.
-      split (eqb (k .stage) 1)
-      (λ o.
-      split (eqb (k .left) 0)
-      (λ l. rw (a, o, l) (omega arith))
-      (λ l. split (eqb (length (k .part)) 0 && ltb 1 x)
-      (λ b. rw (a, o, l, b) (omega arith))
-      (λ b. split (eqb (length (k .part)) 48)
-      (λ e. rw (a, o, l, b, e) (omega (arith, whole-octets t longer, eqb-true (length (k .part)) 48 e)))
-      (λ e. rw (a, o, l, b, e, more) (omega arith)))))
-      (λ o. rw (a, o, a, o) (omega arith)))
+-- an octet's share of both runs, and what can come behind it
+octet-both : (t : Tally) (k : Taking) (x n : ℕ)
+    → (length (octetsBy t (one k x .parts)) + most 49 3 (one k x .taking) n ≤ most 49 3 k (suc n))
+    × (length (textBy t (one k x .parts)) + most 50 0 (one k x .taking) n ≤ most 50 0 k (suc n))
+unfolding one inHeader inRecord most octetsBy textBy partOctets partText
+octet-both t k x n =
+    let longer : List ℕ = k .part ++ (x ∷ []) in
+    let more : length longer ≡ suc (length (k .part)) = length-append (k .part) (x ∷ []) ∙ omega arith in
+    split (eqb (k .stage) 0)
+    (λ a.
+    split (eqb (length longer) 3 && eqb (headerOf longer .refusal) 0)
+    (λ b. rw (a, b) (omega arith))
+    (λ b. split (eqb (length longer) 9) (λ e. rw (a, b, e) (omega arith)) (λ e. rw (a, b, e) (omega arith))))
+    (λ a.
+    split (eqb (k .stage) 1)
+    (λ o.
+    split (eqb (k .left) 0)
+    (λ l. rw (a, o, l) (omega arith))
+    (λ l. split (eqb (length (k .part)) 0 && ltb 1 x)
+    (λ b. rw (a, o, l, b) (omega arith))
+    (λ b. split (eqb (length (k .part)) 48)
+    (λ e. rw (a, o, l, b, e) (omega (arith, whole-octets t longer, whole-text t longer, eqb-true (length (k .part)) 48 e)))
+    (λ e. rw (a, o, l, b, e, more) (omega arith)))))
+    (λ o. rw (a, o, a, o) (omega arith)))
 
-  octet-text : length (textBy t (one k x .parts)) + most 50 0 (one k x .taking) n ≤ most 50 0 k (suc n)
-  unfolding one inHeader inRecord most textBy partText
-  octet-text =
-      let longer : List ℕ = k .part ++ (x ∷ []) in
-      let more : length longer ≡ suc (length (k .part)) = length-append (k .part) (x ∷ []) ∙ omega arith in
-      split (eqb (k .stage) 0)
-      (λ a.
-      split (eqb (length longer) 3 && eqb (headerOf longer .refusal) 0)
-      (λ b. rw (a, b) (omega arith))
-      (λ b. split (eqb (length longer) 9) (λ e. rw (a, b, e) (omega arith)) (λ e. rw (a, b, e) (omega arith))))
-      (λ a.
-      split (eqb (k .stage) 1)
-      (λ o.
-      split (eqb (k .left) 0)
-      (λ l. rw (a, o, l) (omega arith))
-      (λ l. split (eqb (length (k .part)) 0 && ltb 1 x)
-      (λ b. rw (a, o, l, b) (omega arith))
-      (λ b. split (eqb (length (k .part)) 48)
-      (λ e. rw (a, o, l, b, e) (omega (arith, whole-text t longer, eqb-true (length (k .part)) 48 e)))
-      (λ e. rw (a, o, l, b, e, more) (omega arith)))))
-      (λ o. rw (a, o, a, o) (omega arith)))
-
-octets-short : (t : Tally) (k : Taking) (octets : List ℕ) → length (octetsBy t (handed k octets)) ≤ most 49 3 k (length octets)
-unfolding handed octetsBy
-octets-short t k [] = omega arith
-octets-short t k (x ∷ octets) =
+both-short : (t : Tally) (k : Taking) (octets : List ℕ)
+    → (length (octetsBy t (handed k octets)) ≤ most 49 3 k (length octets))
+    × (length (textBy t (handed k octets)) ≤ most 50 0 k (length octets))
+unfolding handed octetsBy textBy
+both-short t k [] = omega arith
+both-short t k (x ∷ octets) =
+    let here : List Part = one k x .parts in
+    let behind : List Part = handed (one k x .taking) octets in
     rw (
-      octets-joined t (one k x .parts) (handed (one k x .taking) octets),
-      length-append (octetsBy t (one k x .parts)) (octetsBy (tallyBy t (one k x .parts)) (handed (one k x .taking) octets)),
+      octets-joined t here behind,
+      text-joined t here behind,
+      length-append (octetsBy t here) (octetsBy (tallyBy t here) behind),
+      length-append (textBy t here) (textBy (tallyBy t here) behind),
     )
-    (omega (arith, octet-octets t k x (length octets), octets-short (tallyBy t (one k x .parts)) (one k x .taking) octets))
-
-text-short : (t : Tally) (k : Taking) (octets : List ℕ) → length (textBy t (handed k octets)) ≤ most 50 0 k (length octets)
-unfolding handed textBy
-text-short t k [] = omega arith
-text-short t k (x ∷ octets) =
-    rw (
-      text-joined t (one k x .parts) (handed (one k x .taking) octets),
-      length-append (textBy t (one k x .parts)) (textBy (tallyBy t (one k x .parts)) (handed (one k x .taking) octets)),
-    )
-    (omega (arith, octet-text t k x (length octets), text-short (tallyBy t (one k x .parts)) (one k x .taking) octets))
+    (omega (arith, octet-both t k x (length octets), both-short (tallyBy t here) (one k x .taking) octets))
 
 -- at most 48 octets are held of a record
 most-fits : (each first : ℕ) (s : Standing) (held : List ℕ) (n : ℕ) → each ≤ 50 → first ≤ 3 → n ≤ 65536 → most each first (takingOf s held) n ≤ 131072
@@ -183,12 +159,12 @@ pub takes-whole : {s : Salvaging} {held piece out notes held-after out-after not
     → ((answer .saved .whole ≡ true) × (answer .saved .octets ≤ length out)) ×
     ((answer .noted .whole ≡ true) × (answer .noted .octets ≤ length notes))
 takes-whole {s} {held} {piece} {out} {notes} takes few room room-too =
-    let k : Taking = takingOf (s .standing) held in (
+    let short = both-short (s .tally) (takingOf (s .standing) held) piece in (
       listed-whole (pieceOctets s held piece) out 131072
-          (omega (arith, octets-short (s .tally) k piece, most-fits 49 3 (s .standing) held (length piece) (omega arith) (omega arith) few))
+          (omega (arith, short .0, most-fits 49 3 (s .standing) held (length piece) (omega arith) (omega arith) few))
           room (takes .saved),
       listed-whole (pieceText s held piece) notes 131072
-          (omega (arith, text-short (s .tally) k piece, most-fits 50 0 (s .standing) held (length piece) (omega arith) (omega arith) few))
+          (omega (arith, short .1, most-fits 50 0 (s .standing) held (length piece) (omega arith) (omega arith) few))
           room-too (takes .noted),
     )
 

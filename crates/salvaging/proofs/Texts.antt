@@ -3,11 +3,10 @@
 use mathlib.Core.Bool.{true, false, cond}
 use mathlib.Core.List.{List, [], _∷_, _++_, append-nil, append-assoc}
 use mathlib.Core.Path.{_≡_, refl, sym, _∙_, ap}
-use Prim.Native.Nat.{ℕ, _+_, _-_, _%_, _^_}
-use native.Mathlib.Omega.{arith}
+use Prim.Native.Nat.{ℕ, _+_, _-_, _%_, _^_, _≤_}
 use borrow.Author.Tests.{eq-eqb, ne-eqb}
 use lib.Dec.{eqb, ltb}
-use lib.ListN.{length, take, drop}
+use lib.ListN.{length, take}
 use Rattle.runs.proofs.Laws.{split}
 use Rattle.log.specs.declared.Header.{Header}
 use Rattle.log.specs.declared.Record.{Record}
@@ -18,8 +17,9 @@ use Rattle.receiver.specs.Receiver.{judgedOf}
 use Rattle.reading.specs.Records.{Whole, frontOf}
 use Rattle.pieces.specs.declared.Found.{Found}
 use Rattle.pieces.specs.Limit.{Part, head, whole, refused, broken, endPart}
-use Rattle.pieces.specs.Steps.{takingOf, foundParts}
+use Rattle.pieces.specs.Steps.{takingOf, foundParts, isRecord, foundOctets}
 use Rattle.pieces.specs.Taken.{Taking, endFault, endParts}
+use Rattle.pieces.proofs.Walks.{found-record, no-record}
 use Rattle.text.specs.declared.Put.{Put}
 use Rattle.text.specs.Put.{Puts}
 use Rattle.text.proofs.Laws.{puts-same, puts-none}
@@ -147,25 +147,13 @@ module _ (t : Tally) (f : Found) (held piece : List ℕ) (place : ℕ) where
         counts = one .counts ∙ ap (tallyBy t) (sym is);
       }
 
-  pub tells-in-piece : {out out₁ notes notes₁ : List ℕ} {saved saved₁ noted noted₁ : Put} {tally : Tally} → f .what ≡ 2
-      → TellsOne t (whole (frontOf (take (place + 49 - place) (drop place piece)))) out saved out₁ saved₁ notes noted notes₁ noted₁ tally
+  -- a record, in the piece or held
+  pub tells-record : {out out₁ notes notes₁ octets : List ℕ} {saved saved₁ noted noted₁ : Put} {tally : Tally}
+      → (f .what ≡ 2 → place + 49 ≤ length piece) → isRecord (f .what) ≡ true → octets ≡ foundOctets (f .what) held piece place
+      → TellsOne t (whole (frontOf octets)) out saved out₁ saved₁ notes noted notes₁ noted₁ tally
       → Tells t found out saved out₁ saved₁ notes noted notes₁ noted₁ tally
-  unfolding foundParts
-  tells-in-piece two one =
-      let n : place + 49 - place ≡ 49 = omega arith in
-      let other : eqb (f .what) 1 ≡ false = ne-eqb (f .what) 1 (λ one. omega arith) in
-      tells
-      (rw (other, eq-eqb (f .what) 2 two) (ap (λ (k : ℕ). whole (frontOf (take k (drop place piece))) ∷ []) (sym n)))
-      one
-
-  pub tells-held : {out out₁ notes notes₁ : List ℕ} {saved saved₁ noted noted₁ : Put} {tally : Tally} → f .what ≡ 3
-      → TellsOne t (whole (frontOf held)) out saved out₁ saved₁ notes noted notes₁ noted₁ tally
-      → Tells t found out saved out₁ saved₁ notes noted notes₁ noted₁ tally
-  unfolding foundParts
-  tells-held three one =
-      let not-1 : eqb (f .what) 1 ≡ false = ne-eqb (f .what) 1 (λ one. omega arith) in
-      let not-2 : eqb (f .what) 2 ≡ false = ne-eqb (f .what) 2 (λ two. omega arith) in
-      tells (rw (not-1, not-2, eq-eqb (f .what) 3 three)) one
+  tells-record room is-one is one =
+      tells (found-record f held piece place room is-one ∙ ap (λ (l : List ℕ). whole (frontOf l) ∷ []) (sym is)) one
 
   pub tells-header : {out out₁ notes : List ℕ} {saved saved₁ noted : Put} {tally : Tally} {h : Header} → f .what ≡ 1
       → h ≡ headerOf (take 3 held) → Puts out saved out₁ saved₁ (headOctets h) → tally ≡ freshTally h
@@ -179,17 +167,17 @@ module _ (t : Tally) (f : Found) (held piece : List ℕ) (place : ℕ) where
         counts = counts ∙ ap freshTally is;
       })
 
-  module _ (not-1 : f .what ≡ 1 → ⊥) (not-2 : f .what ≡ 2 → ⊥) (not-3 : f .what ≡ 3 → ⊥) where
+  module _ (none : isRecord (f .what) ≡ false) (not-1 : f .what ≡ 1 → ⊥) where
     pub tells-nothing : {out notes : List ℕ} {saved noted : Put} → (f .what ≡ 4 → ⊥)
         → Tells t found out saved out saved notes noted notes noted t
     unfolding foundParts octetsBy textBy tallyBy
     tells-nothing {out} {notes} {saved} {noted} not-4 =
-        let none : foundParts f held piece place ≡ [] =
-        rw (ne-eqb (f .what) 1 not-1, ne-eqb (f .what) 2 not-2, ne-eqb (f .what) 3 not-3, ne-eqb (f .what) 4 not-4) in
+        let nothing : foundParts f held piece place ≡ [] =
+        rw (ne-eqb (f .what) 1 not-1, no-record (f .what) none .0, no-record (f .what) none .1, ne-eqb (f .what) 4 not-4) in
         record {
-          saves = puts-same (ap (octetsBy t) (sym none)) (puts-none out saved);
-          notes-it = puts-same (ap (textBy t) (sym none)) (puts-none notes noted);
-          counts = ap (tallyBy t) (sym none);
+          saves = puts-same (ap (octetsBy t) (sym nothing)) (puts-none out saved);
+          notes-it = puts-same (ap (textBy t) (sym nothing)) (puts-none notes noted);
+          counts = ap (tallyBy t) (sym nothing);
         }
 
     module _ (four : f .what ≡ 4) where
@@ -197,7 +185,7 @@ module _ (t : Tally) (f : Found) (held piece : List ℕ) (place : ℕ) where
           → found ≡ p ∷ []
       unfolding foundParts
       found-fault is =
-          rw (ne-eqb (f .what) 1 not-1, ne-eqb (f .what) 2 not-2, ne-eqb (f .what) 3 not-3, eq-eqb (f .what) 4 four)
+          rw (ne-eqb (f .what) 1 not-1, no-record (f .what) none .0, no-record (f .what) none .1, eq-eqb (f .what) 4 four)
           (ap (λ (p : Part). p ∷ []) is)
 
       pub tells-header-refused : {out notes : List ℕ} {saved noted : Put} {tally : Tally} → f .standing .stage ≡ 2

@@ -18,7 +18,7 @@ use Rattle.log.proofs.Headers.{format-small, channels-small, order-small}
 use Rattle.receiver.specs.declared.Receiver.{Receiver}
 use Rattle.receiver.specs.declared.Received.{Received}
 use Rattle.reading.specs.Heard.{Heard, hear, heardBy, onward, heardFrom, isSound, soundIn, refusedIn, keptOf}
-use Rattle.reading.specs.Reading.{Reading, freshOf, behindHeader, readingOf}
+use Rattle.reading.specs.Reading.{freshOf, behindHeader, readingOf}
 use Rattle.reading.specs.Records.{Whole, recordsIn, octetsIn}
 use Rattle.reading.specs.Totals.{totalOf, those}
 use Rattle.reading.proofs.Heard.{length-heard}

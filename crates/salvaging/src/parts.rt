@@ -117,13 +117,13 @@ fn record_step(
     saved: Put,
     noted: Put,
     tally: Tally,
-    octets: &[u8],
+    octets: [u8; 49],
 ) -> Stepped
-    ensures { λ r. ⌜ TellsOne tally (whole (frontOf (now (octets .entry)))) (now (out .entry)) saved (now (out .exit)) (r .saved)
+    ensures { λ r. ⌜ TellsOne tally (whole (frontOf octets)) (now (out .entry)) saved (now (out .exit)) (r .saved)
         (now (notes .entry)) noted (now (notes .exit)) (r .noted) (r .tally) ⌝ }
 {
-    let record = log::read_record(octets, 0);
-    let cell = log::read_cell(octets, 0);
+    let record = log::read_record(&octets, 0);
+    let cell = log::read_cell(&octets, 0);
     let got = receiver::judged(tally.state, cell, record.indication);
     let counted = after(tally, got);
     if got.refusal == 0 {
@@ -143,20 +143,6 @@ fn record_step(
     }
 }
 
-fn held_step(
-    out: &mut [u8],
-    notes: &mut [u8],
-    saved: Put,
-    noted: Put,
-    tally: Tally,
-    held: [u8; 49],
-) -> Stepped
-    ensures { λ r. ⌜ TellsOne tally (whole (frontOf held)) (now (out .entry)) saved (now (out .exit)) (r .saved)
-        (now (notes .entry)) noted (now (notes .exit)) (r .noted) (r .tally) ⌝ }
-{
-    record_step(out, notes, saved, noted, tally, &held)
-}
-
 // What is written, and the counts, of what was found in a piece.
 pub(crate) fn step(
     out: &mut [u8],
@@ -173,12 +159,9 @@ pub(crate) fn step(
     ensures { λ r. ⌜ Tells tally (foundParts found (now (held .entry)) (now (piece .entry)) place) (now (out .entry)) saved
         (now (out .exit)) (r .saved) (now (notes .entry)) noted (now (notes .exit)) (r .noted) (r .tally) ⌝ }
 {
-    if found.what == 2 {
-        let end = place + 49;
-        return record_step(out, notes, saved, noted, tally, &piece[place..end]);
-    }
-    if found.what == 3 {
-        return held_step(out, notes, saved, noted, tally, *held);
+    if pieces::is_record(found.what) {
+        let octets = pieces::record_octets(found.what, held, piece, place);
+        return record_step(out, notes, saved, noted, tally, octets);
     }
     if found.what == 1 {
         let header = header_of(*held);

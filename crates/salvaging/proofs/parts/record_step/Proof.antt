@@ -9,24 +9,21 @@ returns : tie.Need-returns
 returns c =
     let at-if1 = c .before .before .before .before in
     let at-after = at-if1 .before .before in
-    let start = at-after .before .before .before .before .before .before .before in
-    tells-sound (start .args .tally) (start .args .octets .now) (at-after .before .before .before .read-record .ensures)
-    (at-after .before .before .read-cell .ensures .0)
-    (at-after .before .judged .ensures) (at-after .after .ensures) (at-if1 .if1 .taken) (c .before .before .put-record .ensures)
+    let at-cell = at-after .before .before in
+    tells-sound _ _ (at-cell .before .before .read-record .ensures) (at-cell .read-cell .ensures .0) (at-after .before .judged .ensures)
+    (at-after .after .ensures) (at-if1 .if1 .taken) (c .before .before .put-record .ensures)
 
 returns-2 : tie.Need-returns-2
 returns-2 c =
     let at-if1 = c .before .before .before .before .before .before in
     let at-after = at-if1 .before .before in
-    let start = at-after .before .before .before .before .before .before .before in
-    tells-refused (start .args .tally) (start .args .octets .now) (at-after .before .before .before .read-record .ensures)
-    (at-after .before .before .read-cell .ensures .0)
-    (at-after .before .judged .ensures) (at-after .after .ensures) (at-if1 .if1 .left)
-    (c .before .before .before .before .before .wrapping-add-usize .ensures)
+    let at-cell = at-after .before .before in
+    tells-refused _ _ (at-cell .before .before .read-record .ensures) (at-cell .read-cell .ensures .0) (at-after .before .judged .ensures)
+    (at-after .after .ensures) (at-if1 .if1 .left) (c .before .before .before .before .before .wrapping-add-usize .ensures)
     (c .before .before .refused-line .ensures)
 
 pub record-step-spec : {M : Type 1} → statement M
 record-step-spec =
     tie.close
-    (tie.spec (search needs) (search needs) (search needs) (search needs) (search needs) (search needs) returns (search needs)
-    (search needs) (search needs) (search needs) returns-2)
+    (tie.spec (search needs) (search needs) (search needs) (search needs) (search needs) (search needs) (search needs)
+    (search needs) returns (search needs) (search needs) (search needs) (search needs) returns-2)
