@@ -36,11 +36,9 @@ use Rattle.line.specs.Line.{
   handedBy,
   handed,
   refusals,
-  total,
-  soundBy,
-  missingBy,
 }
 use Rattle.line.specs.Tools.{placesHeard, hasMark}
+use Rattle.line.proofs.Counts.{soundBy, missingBy}
 use Rattle.line.proofs.Logs.{wholeOf}
 use Rattle.line.proofs.Steps.{take-zip}
 
@@ -99,14 +97,14 @@ calls-refuse st [] = refl
 calls-refuse st (r ∷ rs) = ap (λ (l : List ℕ). hear st r .answer .refusal ∷ l) (calls-refuse (onward (hear st r)) rs)
 
 pub calls-take-cells : (st : Receiver) (records : List Whole)
-    → total soundBy (callsFor st records) ≡ soundIn (heardFrom st records)
-unfolding callsFor heardBy total totalOf
+    → soundBy (callsFor st records) ≡ soundIn (heardFrom st records)
+unfolding callsFor heardBy totalOf
 calls-take-cells st [] = refl
 calls-take-cells st (r ∷ rs) =
     ap (λ (n : ℕ). cond (eqb (hear st r .answer .refusal) 0) 1 0 + n) (calls-take-cells (onward (hear st r)) rs)
 
-pub calls-miss : (st : Receiver) (records : List Whole) → total missingBy (callsFor st records) ≡ missingIn (heardFrom st records)
-unfolding callsFor heardBy total totalOf
+pub calls-miss : (st : Receiver) (records : List Whole) → missingBy (callsFor st records) ≡ missingIn (heardFrom st records)
+unfolding callsFor heardBy totalOf
 calls-miss st [] = refl
 calls-miss st (r ∷ rs) = ap (λ (n : ℕ). hear st r .answer .missing + n) (calls-miss (onward (hear st r)) rs)
 

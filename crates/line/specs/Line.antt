@@ -15,6 +15,7 @@ use Rattle.sender.specs.Sender as S
 use Rattle.receiver.specs.declared.Receiver.{Receiver}
 use Rattle.receiver.specs.declared.Ready.{Ready}
 use Rattle.receiver.specs.Receiver as R
+use Rattle.reading.specs.Totals.{totalOf, countOf}
 use Rattle.line.specs.Contracts.{SendCall, ReceiveCall, MeetsOpenReceiver}
 use Rattle.line.specs.Demands.{receiveTable, formatIn}
 
@@ -182,21 +183,11 @@ refusalsOf dropped = []
 refusalsOf (spoiled came indication again) = replicate (suc again) (cond (eqb (length came) 48) 8 5)
 refusalsOf (unaltered again) = 0 ∷ replicate again 9
 
--- Request 5 of a receiver: "it equals the sound cells plus the missing counts of the calls made since the state was opened". A sum
--- over calls, 1 for a call that took its cell, and the missing count that a call answered:
-unfoldable pub total : (ReceiveCall → ℕ) → List ReceiveCall → ℕ
-total number [] = 0
-total number (c ∷ cs) = number c + total number cs
-
-abbrev pub soundBy : ReceiveCall → ℕ
-soundBy c = cond (eqb (c .answer .refusal) 0) 1 0
-
-abbrev pub missingBy : ReceiveCall → ℕ
-missingBy c = c .answer .missing
-
+-- Request 5 of a receiver: "it equals the sound cells plus the missing counts of the calls made since the state was opened"; a call
+-- that isn't refused took a sound cell
 unfoldable pub CountsCells : (ReceiveCall → Type 0) → Type 0
 CountsCells Box =
     (octet channels order : ℕ) (opening : Ready) (calls : List ReceiveCall)
     → MeetsOpenReceiver octet channels order opening
     → Receiving Box (opening .state) calls
-    → leftBy (opening .state) calls .count ≡ total soundBy calls + total missingBy calls
+    → leftBy (opening .state) calls .count ≡ countOf (λ c. eqb (c .answer .refusal) 0) calls + totalOf (λ c. c .answer .missing) calls
