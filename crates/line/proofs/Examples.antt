@@ -16,6 +16,7 @@ use Rattle.receiver.specs.declared.Receiver.{Receiver}
 use Rattle.receiver.specs.declared.Received.{Received}
 use Rattle.receiver.specs.Receiver as R
 use Rattle.receiver.proofs.Room as Room
+use Rattle.reading.specs.Records.{Whole as Arrival}
 use Rattle.line.specs.Contracts.{SendCall, MeetsSend, ReceiveCall, MeetsReceive}
 use Rattle.line.specs.Line.{
   Row,
@@ -27,7 +28,6 @@ use Rattle.line.specs.Line.{
   Each,
   Fair,
   longest,
-  Arrival,
   arrivals,
   taken,
   WithRoom,

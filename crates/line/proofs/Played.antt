@@ -28,7 +28,6 @@ use Rattle.line.specs.Line.{
   Row,
   Receiving,
   Each,
-  Arrival,
   taken,
   WithRoom,
   Place,
@@ -39,7 +38,6 @@ use Rattle.line.specs.Line.{
 }
 use Rattle.line.specs.Tools.{placesHeard, hasMark}
 use Rattle.line.proofs.Counts.{soundBy, missingBy}
-use Rattle.line.proofs.Logs.{wholeOf}
 use Rattle.line.proofs.Steps.{take-zip}
 
 -- a call on three runs of 720 zeros, which is the room that a record is heard with; and such calls in a row
@@ -79,10 +77,10 @@ unfolding Row callsFor
 calls-in-a-row st [] = tt
 calls-in-a-row st (r ∷ rs) = (refl, meets-receive st r, calls-in-a-row (onward (hear st r)) rs)
 
-pub calls-take : (st : Receiver) (came : List Arrival) → map taken (callsFor st (map wholeOf came)) ≡ came
+pub calls-take : (st : Receiver) (records : List Whole) → map taken (callsFor st records) ≡ records
 unfolding callsFor
 calls-take st [] = refl
-calls-take st (a ∷ came) = ap (λ (l : List Arrival). a ∷ l) (calls-take (onward (hear st (wholeOf a))) came)
+calls-take st (r ∷ rs) = ap (λ (l : List Whole). r ∷ l) (calls-take (onward (hear st r)) rs)
 
 pub calls-room : (st : Receiver) (records : List Whole) → Each WithRoom (callsFor st records)
 unfolding Each callsFor

@@ -18,6 +18,7 @@ use Rattle.sender.specs.declared.Sender.{Sender}
 use Rattle.sender.specs.Sender as S
 use Rattle.receiver.specs.declared.Receiver.{Receiver}
 use Rattle.receiver.specs.Receiver as R
+use Rattle.reading.specs.Records.{Whole as Arrival}
 use Rattle.reading.specs.Totals.{totalOf, those}
 use Rattle.line.specs.Contracts.{SendCall, MeetsSend, ReceiveCall, MeetsReceive}
 use Rattle.line.specs.Demands.{InSettings, formatIn}
@@ -34,7 +35,6 @@ use Rattle.line.specs.Line.{
   Trip,
   Each,
   Fair,
-  Arrival,
   arrivalOf,
   arrivals,
   taken,

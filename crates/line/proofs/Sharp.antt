@@ -12,6 +12,7 @@ use Rattle.sender.specs.declared.Sender.{Sender}
 use Rattle.sender.specs.Sender as S
 use Rattle.receiver.specs.declared.Received.{Received}
 use Rattle.receiver.specs.Receiver as R
+use Rattle.reading.specs.Records.{Whole as Arrival}
 use Rattle.line.specs.Contracts.{SendCall, MeetsSend, ReceiveCall, MeetsReceive}
 use Rattle.line.specs.Line.{
   Sending,
@@ -25,7 +26,6 @@ use Rattle.line.specs.Line.{
   Each,
   Fair,
   longest,
-  Arrival,
   arrivals,
   taken,
   WithRoom,

@@ -13,6 +13,7 @@ use Rattle.runs.specs.Runs.{over}
 use Rattle.receiver.specs.declared.Receiver.{Receiver}
 use Rattle.receiver.specs.declared.Received.{Received}
 use Rattle.receiver.specs.Receiver as R
+use Rattle.reading.specs.Records.{Whole as Arrival}
 use Rattle.line.specs.Contracts.{MeetsSend, ReceiveCall, MeetsReceive}
 use Rattle.line.specs.Line.{
   Receiving,
@@ -24,7 +25,6 @@ use Rattle.line.specs.Line.{
   Each,
   Fair,
   longest,
-  Arrival,
   arrivals,
   taken,
   WithRoom,

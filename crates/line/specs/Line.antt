@@ -15,6 +15,7 @@ use Rattle.sender.specs.Sender as S
 use Rattle.receiver.specs.declared.Receiver.{Receiver}
 use Rattle.receiver.specs.declared.Ready.{Ready}
 use Rattle.receiver.specs.Receiver as R
+use Rattle.reading.specs.Records.{Whole as Arrival}
 use Rattle.reading.specs.Totals.{totalOf, countOf}
 use Rattle.line.specs.Contracts.{SendCall, ReceiveCall, MeetsOpenReceiver}
 use Rattle.line.specs.Demands.{receiveTable, formatIn}
@@ -74,11 +75,7 @@ unfoldable pub longest : ℕ → List Trip → ℕ
 longest k [] = k
 longest k (t ∷ ts) = cond (isLost (t .fate)) (longest (suc k) ts) (max k (longest 0 ts))
 
--- what arrives: octets and an indication
-pub record Arrival : Type 0 where
-  pub cell : List ℕ
-  pub indication : Bool
-
+-- what arrives: an indication and octets, as a record of a log has them; a spoiled cell may come with any number of octets
 abbrev pub arrivalOf : SendCall → Fate → List Arrival
 arrivalOf s dropped = []
 arrivalOf s (spoiled came indication again) = replicate (suc again) (record { cell = came; indication = indication })
