@@ -10,8 +10,9 @@ use borrow.Author.Tests.{eq-eqb, le-ltb}
 use lib.ListN.{length, replicate}
 use Rattle.sender.specs.declared.Sender.{Sender}
 use Rattle.sender.specs.Sender as S
+use Rattle.reading.specs.Totals.{Each}
 use Rattle.line.specs.Contracts.{SendCall, MeetsSend, MeetsReceive}
-use Rattle.line.specs.Line.{Fate, unaltered, Each, Fair, longest, wrote, arrivals, fromFirst, allLost, pastLast, leftBy, Demand3}
+use Rattle.line.specs.Line.{Fate, unaltered, Fair, longest, wrote, arrivals, fromFirst, allLost, pastLast, leftBy, Demand3}
 use Rattle.line.proofs.Counts.{count-within}
 use Rattle.line.proofs.Examples.{studio, fresh, sending, trips, sends, receives, receives-in-a-row, honest-plays}
 use Rattle.line.proofs.Opened.{opened}

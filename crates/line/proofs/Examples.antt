@@ -17,6 +17,7 @@ use Rattle.receiver.specs.declared.Received.{Received}
 use Rattle.receiver.specs.Receiver as R
 use Rattle.receiver.proofs.Room as Room
 use Rattle.reading.specs.Records.{Whole as Arrival}
+use Rattle.reading.specs.Totals.{Each}
 use Rattle.line.specs.Contracts.{SendCall, MeetsSend, ReceiveCall, MeetsReceive}
 use Rattle.line.specs.Line.{
   Row,
@@ -25,7 +26,6 @@ use Rattle.line.specs.Line.{
   wrote,
   Fate,
   Trip,
-  Each,
   Fair,
   longest,
   arrivals,

@@ -21,7 +21,7 @@ use Rattle.receiver.specs.Receiver as R
 use Rattle.reading.specs.Heard.{heardFrom, soundIn, missingIn, refusedIn}
 use Rattle.reading.specs.Reading.{freshOf, behindHeader, readingOf}
 use Rattle.reading.specs.Records.{Whole, Framed, recordsIn, faultIn, walkIn, octetsIn}
-use Rattle.reading.specs.Totals as T
+use Rattle.reading.specs.Totals.{Each}
 use Rattle.reading.proofs.Reading.{header-of-three}
 use Rattle.reading.proofs.Records.{walk-written, walk-stop, not-whole}
 use Rattle.pieces.specs.Limit.{recordsTo, faultTo}
@@ -62,11 +62,11 @@ module _ {refusal place : ℕ} {octets log after : List ℕ} {answer : Kept} (ke
 
 pub record Written (log : List ℕ) (place : ℕ) (calls : List KeepCall) : Type 0 where
   pub octets : writtenBy log place calls ≡ take place log ++ octetsIn (map (λ c. c .came) calls)
-  pub framed : T.Each Framed (map (λ c. c .came) calls)
+  pub framed : Each Framed (map (λ c. c .came) calls)
 
 records-kept : (log : List ℕ) (place : ℕ) (calls : List KeepCall) → place ≤ length log → Keeping log place calls
     → Written log place calls
-unfolding Row writtenBy octetsIn T.Each
+unfolding Row writtenBy octetsIn Each
 records-kept log place [] here row = record { octets = sym (append-nil (take place log)); framed = tt }
 records-kept log place (c ∷ cs) here row =
     let log-is : c .log ≡ log = ap (λ (x : List ℕ × ℕ). x .0) (row .0) in
@@ -98,8 +98,8 @@ module _ {st : Sender} {records : List Whole} {log : List ℕ} (is : LogOf st re
   all-kept =
       records-kept (is .headed) (is .opening .next) (is .calls) (kept-within (is .header) (is .taken) none-before) (is .in-a-row)
 
-  pub framed : T.Each Framed records
-  framed = subst (T.Each Framed) (is .these) (all-kept .framed)
+  pub framed : Each Framed records
+  framed = subst (Each Framed) (is .these) (all-kept .framed)
 
   log-is : log ≡ st .format ∷ st .channels ∷ st .order ∷ octetsIn records
   log-is =

@@ -14,7 +14,7 @@ use Rattle.sender.specs.declared.Sender.{Sender}
 use Rattle.sender.specs.Sender as S
 use Rattle.receiver.specs.declared.Receiver.{Receiver}
 use Rattle.receiver.specs.Receiver as R
-use Rattle.reading.specs.Totals.{totalOf, those}
+use Rattle.reading.specs.Totals.{totalOf, those, Each}
 use Rattle.line.specs.Contracts.{MeetsSend, ReceiveCall, MeetsReceive}
 use Rattle.line.specs.Line.{
   Row,
@@ -25,7 +25,6 @@ use Rattle.line.specs.Line.{
   unaltered,
   isLost,
   Trip,
-  Each,
   longest,
   Place,
   placesOf,

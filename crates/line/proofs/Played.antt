@@ -20,14 +20,13 @@ use Rattle.receiver.proofs.Laws.{answer-refusal, answer-missing}
 use Rattle.receiver.proofs.Room.{room-in-720}
 use Rattle.reading.specs.Heard.{heardBy, given, hear, onward, heardFrom, soundIn, missingIn, markedWith}
 use Rattle.reading.specs.Records.{Whole}
-use Rattle.reading.specs.Totals.{totalOf, countOf}
+use Rattle.reading.specs.Totals.{totalOf, countOf, Each}
 use Rattle.reading.proofs.Heard.{refused-gives}
 use Rattle.reading.proofs.Totals.{total-joined}
 use Rattle.line.specs.Contracts.{ReceiveCall, MeetsReceive}
 use Rattle.line.specs.Line.{
   Row,
   Receiving,
-  Each,
   taken,
   WithRoom,
   Place,

@@ -19,7 +19,7 @@ use Rattle.sender.specs.Sender as S
 use Rattle.receiver.specs.declared.Receiver.{Receiver}
 use Rattle.receiver.specs.Receiver as R
 use Rattle.reading.specs.Records.{Whole as Arrival}
-use Rattle.reading.specs.Totals.{totalOf, those}
+use Rattle.reading.specs.Totals.{totalOf, those, Each}
 use Rattle.line.specs.Contracts.{SendCall, MeetsSend, ReceiveCall, MeetsReceive}
 use Rattle.line.specs.Demands.{InSettings, formatIn}
 use Rattle.line.specs.Line.{
@@ -33,7 +33,6 @@ use Rattle.line.specs.Line.{
   unaltered,
   isLost,
   Trip,
-  Each,
   Fair,
   arrivalOf,
   arrivals,

@@ -13,6 +13,7 @@ use Rattle.sender.specs.Sender as S
 use Rattle.receiver.specs.declared.Received.{Received}
 use Rattle.receiver.specs.Receiver as R
 use Rattle.reading.specs.Records.{Whole as Arrival}
+use Rattle.reading.specs.Totals.{Each}
 use Rattle.line.specs.Contracts.{SendCall, MeetsSend, ReceiveCall, MeetsReceive}
 use Rattle.line.specs.Line.{
   Sending,
@@ -23,7 +24,6 @@ use Rattle.line.specs.Line.{
   spoiled,
   unaltered,
   Trip,
-  Each,
   Fair,
   longest,
   arrivals,

@@ -14,6 +14,7 @@ use Rattle.receiver.specs.declared.Receiver.{Receiver}
 use Rattle.receiver.specs.declared.Received.{Received}
 use Rattle.receiver.specs.Receiver as R
 use Rattle.reading.specs.Records.{Whole as Arrival}
+use Rattle.reading.specs.Totals.{Each}
 use Rattle.line.specs.Contracts.{MeetsSend, ReceiveCall, MeetsReceive}
 use Rattle.line.specs.Line.{
   Receiving,
@@ -22,7 +23,6 @@ use Rattle.line.specs.Line.{
   dropped,
   unaltered,
   Trip,
-  Each,
   Fair,
   longest,
   arrivals,

@@ -16,8 +16,7 @@ use Rattle.receiver.specs.Receiver as R
 use Rattle.reading.specs.Heard.{Heard, hear, onward, heardFrom, isSound, keptOf}
 use Rattle.reading.specs.Reading.{readingOf}
 use Rattle.reading.specs.Records.{Whole, Framed, octetsIn}
-use Rattle.reading.specs.Totals as T
-use Rattle.reading.specs.Totals.{totalOf, countOf, those}
+use Rattle.reading.specs.Totals.{totalOf, countOf, those, Each}
 use Rattle.reading.proofs.Heard.{all-arrived, arrived-is}
 use Rattle.reading.proofs.Totals.{total-joined}
 use Rattle.listing.specs.Lines.{formatLine, endLine}
@@ -32,7 +31,6 @@ use Rattle.line.specs.Line.{
   unaltered,
   isLost,
   Trip,
-  Each,
   arrivalOf,
   arrivals,
   Place,
@@ -124,18 +122,18 @@ FramedFate dropped = Unit {0}
 FramedFate (spoiled came indication again) = length came ≡ 48
 FramedFate (unaltered again) = Unit {0}
 
-framed-later : (first more : List Whole) → T.Each Framed (first ++ more) → T.Each Framed more
-unfolding T.Each
+framed-later : (first more : List Whole) → Each Framed (first ++ more) → Each Framed more
+unfolding Each
 framed-later [] more each = each
 framed-later (a ∷ first) more each = framed-later first more (each .1)
 
-framed-fate : (s : SendCall) (fate : Fate) (more : List Whole) → T.Each Framed (arrivalOf s fate ++ more) → FramedFate fate
-unfolding T.Each
+framed-fate : (s : SendCall) (fate : Fate) (more : List Whole) → Each Framed (arrivalOf s fate ++ more) → FramedFate fate
+unfolding Each
 framed-fate s dropped more each = tt
 framed-fate s (spoiled came indication again) more each = each .0
 framed-fate s (unaltered again) more each = tt
 
-framed-trips : (ts : List Trip) → T.Each Framed (arrivals ts) → Each (λ t. FramedFate (t .fate)) ts
+framed-trips : (ts : List Trip) → Each Framed (arrivals ts) → Each (λ t. FramedFate (t .fate)) ts
 unfolding Each flatMap
 framed-trips [] each = tt
 framed-trips (t ∷ ts) each = (
@@ -338,7 +336,7 @@ there-inside ts each =
 
 -- what a fresh receiver makes of what arrives
 module _ (st : Receiver) (trips : List Trip) (none : st .count ≡ 0)
-    (inside : Inside st trips (callsFor st (arrivals trips))) (framed : T.Each Framed (arrivals trips)) (sent : Each (λ t. Wrote (t .sent)) trips)
+    (inside : Inside st trips (callsFor st (arrivals trips))) (framed : Each Framed (arrivals trips)) (sent : Each (λ t. Wrote (t .sent)) trips)
   where
     abbrev records : List Whole
     records = arrivals trips

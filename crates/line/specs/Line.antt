@@ -16,7 +16,7 @@ use Rattle.receiver.specs.declared.Receiver.{Receiver}
 use Rattle.receiver.specs.declared.Ready.{Ready}
 use Rattle.receiver.specs.Receiver as R
 use Rattle.reading.specs.Records.{Whole as Arrival}
-use Rattle.reading.specs.Totals.{totalOf, countOf}
+use Rattle.reading.specs.Totals.{totalOf, countOf, Each}
 use Rattle.line.specs.Contracts.{SendCall, ReceiveCall, MeetsOpenReceiver}
 use Rattle.line.specs.Demands.{receiveTable, formatIn}
 
@@ -54,11 +54,6 @@ isLost (unaltered again) = false
 pub record Trip : Type 0 where
   pub sent : SendCall
   pub fate : Fate
-
--- something holds of each in a list
-unfoldable pub Each : {A : Type 0} → (A → Type 0) → List A → Type 0
-Each Holds [] = Unit {0}
-Each Holds (x ∷ xs) = Holds x × Each Holds xs
 
 -- how many of the first eight sequencing bits of a sent cell differ in the octets that came
 abbrev pub alteredIn : SendCall → List ℕ → ℕ

@@ -12,7 +12,7 @@ use Rattle.log.specs.declared.keep.Kept.{Kept}
 use Rattle.reading.specs.Heard.{Heard, soundIn, missingIn, refusedIn, refusedWith, markedWith, keptOf}
 use Rattle.reading.specs.Reading.{readingOf}
 use Rattle.reading.specs.Records.{Whole as Arrival, octetsIn}
-use Rattle.reading.specs.Totals.{totalOf, countOf, those}
+use Rattle.reading.specs.Totals.{totalOf, countOf, those, Each}
 use Rattle.listing.specs.Lines.{formatLine, endLine}
 use Rattle.listing.specs.List.{linesOf, listOf}
 use Rattle.saving.specs.Salvage.{newLog}
@@ -27,7 +27,6 @@ use Rattle.line.specs.Line.{
   unaltered,
   isLost,
   Trip,
-  Each,
   Fair,
   longest,
   arrivals,
