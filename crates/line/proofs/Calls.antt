@@ -10,7 +10,7 @@ use Rattle.numbers.specs.Numbers.{valueOf}
 use Rattle.sender.specs.Sender as S
 use Rattle.receiver.specs.Receiver as R
 use Rattle.line.specs.Contracts.{SendCall, MeetsSend, ReceiveCall, MeetsReceive}
-use Rattle.line.specs.Demands.{sendTable, receiveTable, Refuses, SentNothing, ReceivedNothing, InSettings, formatIn, GivesBack, Tells}
+use Rattle.line.specs.Demands.{sendTable, receiveTable, Refuses, SentNothing, ReceivedNothing, InSettings, GivesBack, Tells}
 use Rattle.line.proofs.Cells.{
   sent-refusal,
   received-refusal,
@@ -89,7 +89,7 @@ module _ (s : SendCall) (r : ReceiveCall) (sends : MeetsSend s) (sent : s .answe
     unfolding R.receivedOf
     second-told = ap (λ x. x .second) (receives .answered) ∙ rw taken
 
-    pub tells : (formatIn s .«overhead_bits» ≡ 0 → ⊥) → Tells s r
+    pub tells : (S.formatNow (s .state) .«overhead_bits» ≡ 0 → ⊥) → Tells s r
     unfolding R.receivedOf valueOf
     tells with-overhead =
         record {

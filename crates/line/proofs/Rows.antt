@@ -21,7 +21,7 @@ use Rattle.receiver.specs.Receiver as R
 use Rattle.reading.specs.Records.{Whole as Arrival}
 use Rattle.reading.specs.Totals.{totalOf, those, Each}
 use Rattle.line.specs.Contracts.{SendCall, MeetsSend, ReceiveCall, MeetsReceive}
-use Rattle.line.specs.Demands.{InSettings, formatIn}
+use Rattle.line.specs.Demands.{InSettings}
 use Rattle.line.specs.Line.{
   Row,
   Sending,
@@ -219,7 +219,7 @@ module _ (t : Trip) (ts : List Trip) (sends : MeetsSend (t .sent)) (sent : t .se
     s = t .sent
 
     -- the sender goes on in its settings
-    next-overhead : (formatIn s .«overhead_bits» ≡ 0 → ⊥) → formatOf (s .answer .state .format) .«overhead_bits» ≡ 0 → ⊥
+    next-overhead : (S.formatNow (s .state) .«overhead_bits» ≡ 0 → ⊥) → formatOf (s .answer .state .format) .«overhead_bits» ≡ 0 → ⊥
     unfolding S.after
     next-overhead some e = some (ap (λ x. formatOf (x .format) .«overhead_bits») (sym (next-state s sends sent)) ∙ e)
 

@@ -336,7 +336,8 @@ there-inside ts each =
 
 -- what a fresh receiver makes of what arrives
 module _ (st : Receiver) (trips : List Trip) (none : st .count ≡ 0)
-    (inside : Inside st trips (callsFor st (arrivals trips))) (framed : Each Framed (arrivals trips)) (sent : Each (λ t. Wrote (t .sent)) trips)
+    (inside : Inside st trips (callsFor st (arrivals trips))) (framed : Each Framed (arrivals trips))
+    (sent : Each (λ t. Wrote (t .sent)) trips)
   where
     abbrev records : List Whole
     records = arrivals trips

@@ -7,8 +7,6 @@ use Prim.Native.Nat.{ℕ, _+_, _*_, _≤_, _<_}
 use lib.Dec.{eqb, leb, ltb}
 use lib.ListN.{length, getD, replicate}
 use Rattle.runs.specs.Runs.{over}
-use Rattle.formats.specs.declared.Format.{Format}
-use Rattle.formats.specs.Formats.{formatOf}
 use Rattle.cells.specs.Sent.{SentCell}
 use Rattle.sender.specs.declared.Sender.{Sender}
 use Rattle.sender.specs.Sender as S
@@ -73,14 +71,10 @@ pub record ReadNothing (r : Record) : Type 0 where
   pub no-start : r .start ≡ 0
   pub no-next : r .next ≡ 0
 
--- the format of a sent cell
-abbrev pub formatIn : SendCall → Format
-formatIn s = formatOf (s .state .format)
-
 -- "Cells, number protection, data protection and placement are document 01's"
 abbrev pub IsDocument01's : SendCall → Type 0
 IsDocument01's s =
-    SentCell (formatIn s) (eqb (s .state .order) 1) (s .state .channels) (S.timesNow (s .state)) (s .state .number)
+    SentCell (S.formatNow (s .state)) (eqb (s .state .order) 1) (s .state .channels) (S.timesNow (s .state)) (s .state .number)
     (S.secondNow (s .state) (s .indication)) (s .samples) (s .ancillary) (s .written)
 
 -- "a receiver in the sender's settings"
@@ -99,5 +93,5 @@ pub record GivesBack (s : SendCall) (r : ReceiveCall) : Type 0 where
 -- beside it, of a format with overhead: the receiver reports the cell's number and its second number
 pub record Tells (s : SendCall) (r : ReceiveCall) : Type 0 where
   pub number-told : r .answer .number ≡ s .state .number
-  pub second-told : 12 ≤ formatIn s .slots → r .answer .second ≡ S.secondNow (s .state) (s .indication)
-  pub no-second-told : formatIn s .slots < 12 → r .answer .second ≡ 0
+  pub second-told : 12 ≤ S.formatNow (s .state) .slots → r .answer .second ≡ S.secondNow (s .state) (s .indication)
+  pub no-second-told : S.formatNow (s .state) .slots < 12 → r .answer .second ≡ 0

@@ -18,7 +18,7 @@ use Rattle.receiver.specs.Receiver as R
 use Rattle.reading.specs.Records.{Whole as Arrival}
 use Rattle.reading.specs.Totals.{totalOf, countOf, Each}
 use Rattle.line.specs.Contracts.{SendCall, ReceiveCall, MeetsOpenReceiver}
-use Rattle.line.specs.Demands.{receiveTable, formatIn}
+use Rattle.line.specs.Demands.{receiveTable}
 
 -- calls in a row: the first starts in this state, each later one in the state that the one before it answered, and each is as the
 -- box promises
@@ -57,7 +57,7 @@ pub record Trip : Type 0 where
 
 -- how many of the first eight sequencing bits of a sent cell differ in the octets that came
 abbrev pub alteredIn : SendCall → List ℕ → ℕ
-alteredIn s came = ones (bitXor (eightIn (formatIn s) (s .written)) (eightIn (formatIn s) came))
+alteredIn s came = ones (bitXor (eightIn (S.formatNow (s .state)) (s .written)) (eightIn (S.formatNow (s .state)) came))
 
 -- "one, two or three of the first eight sequencing bits and perhaps anything else"; `most` is the three
 abbrev pub Fair : ℕ → SendCall → Fate → Type 0
