@@ -42,14 +42,17 @@ receives-or-nothing r meets =
           λ some.
           let refused = ne-eqb _ 0 (λ e. some (received-refusal r meets ∙ e)) in
           record {
-            state-as-given = ap (λ x. x .state) (meets .answered) ∙ rw refused;
+            nothing-answered =
+                record {
+                  state-as-given = ap (λ x. x .state) (meets .answered) ∙ rw refused;
+                  none-missing = ap (λ x. x .missing) (meets .answered) ∙ rw refused;
+                  no-number = ap (λ x. x .number) (meets .answered) ∙ rw refused;
+                  no-second = ap (λ x. x .second) (meets .answered) ∙ rw refused;
+                  no-indication = ap (λ x. x .indication) (meets .answered) ∙ rw refused;
+                };
             samples-as-lent = meets .samples-after ∙ rw refused;
             ancillary-as-lent = meets .ancillary-after ∙ rw refused;
             marks-as-lent = meets .marks-after ∙ rw refused;
-            none-missing = ap (λ x. x .missing) (meets .answered) ∙ rw refused;
-            no-number = ap (λ x. x .number) (meets .answered) ∙ rw refused;
-            no-second = ap (λ x. x .second) (meets .answered) ∙ rw refused;
-            no-indication = ap (λ x. x .indication) (meets .answered) ∙ rw refused;
           };
     }
 

@@ -49,7 +49,7 @@ counted-on st (c ∷ cs) row =
     let stays : c .answer .state .count ≡ c .state .count = ap (λ (x : Receiver). x .count) (refused-stays (row .1) refused) in
     rw e
     (one-refused (soundBy cs) (missingBy cs) rest stays start
-    (receives-or-nothing c (row .1) .then-nothing refused .none-missing)))
+    (receives-or-nothing c (row .1) .then-nothing refused .nothing-answered .none-missing)))
 
 pub counts-cells : CountsCells MeetsReceive
 unfolding CountsCells

@@ -101,4 +101,4 @@ repeat-gets-9 c d takes none with-overhead next same ancillary-equal marks-equal
     ∙ (λ i.
     R.receiveRefusal ((next ∙ state) i) (same i .cell) (same i .indication) (length (d .samples)) (ancillary-equal i) (marks-equal i))
     ∙ again-9 (c .state) (c .cell) with-overhead (c .indication) _ _ _ (length (d .samples)) table in
-    (nine, receives-or-nothing d receives .then-nothing (λ e. suc-ne-zero 8 (sym nine ∙ e)) .state-as-given ∙ next)
+    (nine, receives-or-nothing d receives .then-nothing (λ e. suc-ne-zero 8 (sym nine ∙ e)) .nothing-answered .state-as-given ∙ next)

@@ -133,7 +133,7 @@ module _ {refusal : ℕ} (some : refusal ≡ 0 → ⊥) {a : Arrival} {came : Li
     skip (suc again) (c ∷ cs) takes =
         let is = each c (takes .meets .1) (takes .meets .0) (head-eq-of-cons-eq (takes .these)) (takes .room .0) in
         let refused : c .answer .refusal ≡ 0 → ⊥ = λ e. some (sym is ∙ e) in
-        let stays = receives-or-nothing c (takes .meets .1) .then-nothing refused .state-as-given ∙ takes .meets .0 in
+        let stays = receives-or-nothing c (takes .meets .1) .then-nothing refused .nothing-answered .state-as-given ∙ takes .meets .0 in
         let later = skip again cs
         (subst (λ (x : Receiver). Takes x cs (replicate again a ++ came)) stays
         (record { meets = takes .meets .2; these = tail-eq-of-cons-eq (takes .these); room = takes .room .1 })) in

@@ -37,22 +37,18 @@ pub record SentNothing (c : SendCall) : Type 0 where
   pub state-as-given : c .answer .state ≡ c .state
   pub cell-as-lent : c .written ≡ c .cell
 
-pub record ReceivedNothing (c : ReceiveCall) : Type 0 where
-  pub state-as-given : c .answer .state ≡ c .state
-  pub samples-as-lent : c .samples-after ≡ c .samples
-  pub ancillary-as-lent : c .ancillary-after ≡ c .ancillary
-  pub marks-as-lent : c .marks-after ≡ c .marks
-  pub none-missing : c .answer .missing ≡ 0
-  pub no-number : c .answer .number ≡ 0
-  pub no-second : c .answer .second ≡ 0
-  pub no-indication : c .answer .indication ≡ false
-
 pub record JudgedNothing (state : Receiver) (r : Received) : Type 0 where
   pub state-as-given : r .state ≡ state
   pub none-missing : r .missing ≡ 0
   pub no-number : r .number ≡ 0
   pub no-second : r .second ≡ 0
   pub no-indication : r .indication ≡ false
+
+pub record ReceivedNothing (c : ReceiveCall) : Type 0 where
+  pub nothing-answered : JudgedNothing (c .state) (c .answer)
+  pub samples-as-lent : c .samples-after ≡ c .samples
+  pub ancillary-as-lent : c .ancillary-after ≡ c .ancillary
+  pub marks-as-lent : c .marks-after ≡ c .marks
 
 -- "A mark above 2, .. is refused": the block is as it was lent, and 24 zeros go out with neither yes nor no
 pub record SteppedNothing (block : Block) (r : Stepped) : Type 0 where
