@@ -55,7 +55,7 @@ unfolding R.openedOf R.lastRefused R.countRefused R.stateRefusal R.lengthsRefuse
 receiver = tt
 
 line : Unit {0}
-unfolding L.Row L.wrote L.longest L.placesOf L.fromFirst L.allLost L.toLast L.pastLast L.leftBy L.CountsCells L.Demand3
+unfolding L.Row L.wrote L.longest L.placesOf L.fromFirst L.allLost L.toLast L.leftBy L.CountsCells L.Demand3
 line = tt
 
 losses : Unit {0}

@@ -38,7 +38,6 @@ use Rattle.line.specs.Line.{
   fromFirst,
   allLost,
   toLast,
-  pastLast,
   refusalsOf,
 }
 use Rattle.line.specs.Tools.{
@@ -194,22 +193,22 @@ none-unaltered (t ∷ ts) e =
     let both = both-true (isLost (t .fate)) (allLost ts) e in
     rw (both .0) (ap (λ (n : ℕ). 0 + n) (none-unaltered ts (both .1)))
 
-lost-to-last : (ts : List Trip) → countOf (λ t. isLost (t .fate)) (toLast ts) + countOf isUnaltered ts ≡ pastLast ts
-unfolding totalOf allLost toLast pastLast
+lost-to-last : (ts : List Trip) → countOf (λ t. isLost (t .fate)) (toLast ts) + countOf isUnaltered ts ≡ length (toLast ts)
+unfolding totalOf allLost toLast
 lost-to-last [] = refl
 lost-to-last (t ∷ ts) =
     let lost = countOf (λ t. isLost (t .fate)) (toLast ts) in
     let here = countOf isUnaltered ts in
-    let on : lost + here ≡ pastLast ts = lost-to-last ts in
+    let on : lost + here ≡ length (toLast ts) = lost-to-last ts in
     split (isLost (t .fate))
     (λ gone.
     split (allLost ts)
     (λ all. rw (gone, all) (let none : 0 + (0 + here) ≡ 0 = omega (arith, none-unaltered ts all) in none))
-    (λ some. rw (gone, some, gone) (let more : 1 + lost + (0 + here) ≡ suc (pastLast ts) = omega arith in more)))
-    (λ stays. rw (stays, stays) (let more : 0 + lost + (1 + here) ≡ suc (pastLast ts) = omega arith in more))
+    (λ some. rw (gone, some, gone) (let more : 1 + lost + (0 + here) ≡ suc (length (toLast ts)) = omega arith in more)))
+    (λ stays. rw (stays, stays) (let more : 0 + lost + (1 + here) ≡ suc (length (toLast ts)) = omega arith in more))
 
 lost-inside : (ts : List Trip)
-    → countOf (λ t. isLost (t .fate)) (toLast (fromFirst ts)) + countOf isUnaltered ts ≡ pastLast (fromFirst ts)
+    → countOf (λ t. isLost (t .fate)) (toLast (fromFirst ts)) + countOf isUnaltered ts ≡ length (toLast (fromFirst ts))
 unfolding totalOf fromFirst
 lost-inside [] = lost-to-last []
 lost-inside (t ∷ ts) =
@@ -217,7 +216,7 @@ lost-inside (t ∷ ts) =
     (λ gone.
     let lost = countOf (λ t. isLost (t .fate)) (toLast (fromFirst ts)) in
     let here = countOf isUnaltered ts in
-    rw gone (let same : lost + (0 + here) ≡ pastLast (fromFirst ts) = omega (arith, lost-inside ts) in same))
+    rw gone (let same : lost + (0 + here) ≡ length (toLast (fromFirst ts)) = omega (arith, lost-inside ts) in same))
     (λ stays. rw stays (rw stays at (lost-to-last (t ∷ ts))))
 
 -- the records that are kept

@@ -127,11 +127,6 @@ unfoldable pub toLast : List Trip → List Trip
 toLast [] = []
 toLast (t ∷ ts) = cond (allLost (t ∷ ts)) [] (t ∷ toLast ts)
 
--- a place among cells is counted from 0: "the last unaltered cell's place .., plus 1, or 0 where no cell came unaltered"
-unfoldable pub pastLast : List Trip → ℕ
-pastLast [] = 0
-pastLast (t ∷ ts) = cond (allLost (t ∷ ts)) 0 (suc (pastLast ts))
-
 -- the state that calls in a row leave
 unfoldable pub leftBy : Receiver → List ReceiveCall → Receiver
 leftBy st [] = st
@@ -155,10 +150,10 @@ OverTheLine most row cells SendBox ReceiveBox Holds =
     → Holds (R.openState (st .format) (st .channels) (st .order)) trips receives
 
 -- what demand 3 says of it. Request 5: "this number is the last unaltered cell's place counted from the first unaltered one, plus
--- 1, or 0 where no cell came unaltered"
+-- 1, or 0 where no cell came unaltered"; places are counted from 0, so it is how many cells there are from the first to the last
 pub record ComesOut (fresh : Receiver) (trips : List Trip) (receives : List ReceiveCall) : Type 0 where
   pub handed-out : handed receives ≡ flatMap placesOf (toLast (fromFirst trips))
-  pub counted : leftBy fresh receives .count ≡ pastLast (fromFirst trips)
+  pub counted : leftBy fresh receives .count ≡ length (toLast (fromFirst trips))
 
 -- Demand 3 of two boxes
 unfoldable pub Demand3 : ℕ → ℕ → ℕ → (SendCall → Type 0) → (ReceiveCall → Type 0) → Type 0
