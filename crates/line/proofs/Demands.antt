@@ -1,4 +1,4 @@
--- The demands on one page: each statement beside the minutes' sentence, each proof a citation.
+-- The demands on one page: each statement beside its sentence, each proof a citation.
 -- Assumes nothing.
 use mathlib.Core.Bool.{Bool, false, cond, _||_}
 use mathlib.Core.List.{List, [], _∷_, flatMap}
