@@ -24,7 +24,7 @@ help:
 	@echo '  make test             the gate: prove all from nothing, try the must-fail edits, run every test; 14 to 23 minutes'
 	@echo '  make mutants          try the wrong programs of tests/mutants; CRATES="sender log" for some crates'
 	@echo '  make fuzz             compare N=1000000 calls with another implementation, from SEED=2; memory checks'
-	@echo '  make sheet-19         one sheet over 626 MB, which is refused 19, and over one record less, which is given'
+	@echo '  make sheet-19         one sheet over 626 MB, by the call and by the program: refused 19; a record less is given'
 	@echo '  make desk-fuzz        spoiled logs through the desk tool, with memory checks'
 	@echo '  make desk-hour        a reading of one hour through the desk tool: time and memory'
 	@echo '  make bench            speed beside plain C: instructions and nanoseconds; ROWS=56-C2 for some rows'
@@ -44,6 +44,9 @@ programs: $(PROGRAMS:%=target/bin/%)
 $(PROGRAMS:%=target/bin/%) &: $(SOURCES)
 	@echo 'Proves and builds $(PROGRAMS): up to 8 minutes from nothing, on two cores.'
 	@bash tools/prove.sh check $(PROGRAMS)
+
+# These run the programs as well as the library.
+fuzz fuzz-list sheet-19 bench bench-list bench-anything bench-salvage: $(PROGRAMS:%=target/bin/%)
 
 lib: $(ARCHIVE) $(MANAGEMENT) $(SHARED) $(SHARED_MANAGEMENT)
 	@echo 'library: $(^:$(CURDIR)/%=%)'

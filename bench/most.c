@@ -1,7 +1,8 @@
 /*
  * Refusal 19 met by one call. In 52 hex with 24 channels C x T is 24, and each record after a gap of 14 hands out 15 x 24
  * entries, 336 of them marked 2. After the first record 12,782,640 of those make 4,294,967,040 such marks, which a sheet can
- * still say; one record more is refused, with the rows untouched.
+ * still say; one record more is refused, with the rows untouched. With an argument the log is written to standard output instead,
+ * after its length, as the program sheet takes it.
  */
 #include <stdint.h>
 #include <stdio.h>
@@ -35,7 +36,8 @@ static void expect(const char *what, uint64_t is, uint64_t expected) {
     exit(1);
 }
 
-int main(void) {
+int main(int argc, char **argv) {
+    (void)argv;
     uint64_t records = 1 + MOST_AFTER_GAPS + 1;
     uint64_t length = 3 + records * RECORD_OCTETS;
     uint8_t *octets = malloc(length);
@@ -48,6 +50,10 @@ int main(void) {
     memcpy(octets, (uint8_t[]){0x52, 24, 0}, 3);
     for (uint64_t record = 0; record < records; record++) {
         memcpy(octets + 3 + record * RECORD_OCTETS, round + record % 16 * RECORD_OCTETS, RECORD_OCTETS);
+    }
+    if (argc > 1) {
+        printf("%llu\n", (unsigned long long)length);
+        return fwrite(octets, 1, length, stdout) == length ? 0 : 2;
     }
 
     uint32_t rows[RIME_SHEET_ROW], totals[RIME_SHEET_ROW];

@@ -193,6 +193,8 @@ target/bench/most: bench/most.c include/rimesatchel.h $(ARCHIVE)
 sheet-19: face-archive
 	$(MAKE) --no-print-directory -f tests/face.mk target/bench/most
 	target/bench/most
+	[ "$$(target/bench/most written | target/bin/sheet)" = 'sheet refused 19' ]
+	@echo "sheet: 19 of the same log"
 
 bench-count: bench-build
 	python3 bench/run.py --count target/bench/bench '$(ROWS)'

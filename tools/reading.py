@@ -33,7 +33,7 @@ START = ROOT / "line/proofs/Demands.antt"
 BEYOND = ROOT / "line/proofs/Beyond.antt"
 CODE = {"Adding", "Code", "Packing", "Unpacking", "Marks", "Settings", "Sound", "Steps", "Stretch", "Taken", "Taking"}
 CONTRACTS = ("line", "Contracts")
-MOST = 1327
+MOST = 1306
 
 NAME = r"[^\s(){}\[\],;.:λ∷→«»\"]+"
 DECLARES = re.compile(rf"^(?:unfoldable |abbrev )?(?:pub )?(?:record |data )?({NAME})\s*(?:[:({{]|$)")

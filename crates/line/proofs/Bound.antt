@@ -10,8 +10,9 @@ use borrow.Author.Tests.{eq-eqb, le-ltb}
 use lib.ListN.{length, replicate}
 use Rattle.sender.specs.declared.Sender.{Sender}
 use Rattle.sender.specs.Sender as S
+use Rattle.reading.specs.Totals.{Each}
 use Rattle.line.specs.Contracts.{SendCall, MeetsSend, MeetsReceive}
-use Rattle.line.specs.Line.{Fate, unaltered, Each, Fair, longest, wrote, arrivals, fromFirst, allLost, pastLast, leftBy, Demand3}
+use Rattle.line.specs.Line.{Fate, unaltered, Fair, longest, wrote, arrivals, fromFirst, allLost, toLast, leftBy, Demand3}
 use Rattle.line.proofs.Counts.{count-within}
 use Rattle.line.proofs.Examples.{studio, fresh, sending, trips, sends, receives, receives-in-a-row, honest-plays}
 use Rattle.line.proofs.Opened.{opened}
@@ -63,8 +64,8 @@ unfolding trips longest
 none-lost zero st = omega arith
 none-lost (suc n) st = let rest = none-lost n (sending st 1 .answer .state) in omega arith
 
-past-all : (n : ℕ) (st : Sender) → pastLast (trips st (allUnaltered n)) ≡ n
-unfolding trips pastLast allLost
+past-all : (n : ℕ) (st : Sender) → length (toLast (trips st (allUnaltered n))) ≡ n
+unfolding trips toLast allLost
 past-all zero st = refl
 past-all (suc n) st = ap (λ (m : ℕ). suc m) (past-all n (sending st 1 .answer .state))
 
@@ -79,7 +80,7 @@ at-most-so-many n meets =
     let kept = honest-plays 3 14 n meets (allUnaltered n) (all-written n false 0 (omega arith))
     (subst (λ (m : ℕ). m ≤ n) (sym (as-many n studio)) (le-refl n)) (all-fair n studio) (none-lost n studio) in
     let counts : leftBy fresh calls .count ≡ n
-    = kept .counted ∙ ap pastLast (from-first n studio) ∙ past-all n studio in
+    = kept .counted ∙ ap (λ ts. length (toLast ts)) (from-first n studio) ∙ past-all n studio in
     let low : leftBy fresh calls .count ≤ 4294967295 = count-within fresh calls (omega arith) (receives-in-a-row fresh _) in
     subst (λ (m : ℕ). m ≤ 4294967295) counts low
 

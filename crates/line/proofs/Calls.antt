@@ -10,7 +10,7 @@ use Rattle.numbers.specs.Numbers.{valueOf}
 use Rattle.sender.specs.Sender as S
 use Rattle.receiver.specs.Receiver as R
 use Rattle.line.specs.Contracts.{SendCall, MeetsSend, ReceiveCall, MeetsReceive}
-use Rattle.line.specs.Demands.{sendTable, receiveTable, Refuses, SentNothing, ReceivedNothing, InSettings, formatIn, GivesBack, Tells}
+use Rattle.line.specs.Demands.{sendTable, receiveTable, Refuses, SentNothing, ReceivedNothing, InSettings, GivesBack, Tells}
 use Rattle.line.proofs.Cells.{
   sent-refusal,
   received-refusal,
@@ -42,14 +42,17 @@ receives-or-nothing r meets =
           λ some.
           let refused = ne-eqb _ 0 (λ e. some (received-refusal r meets ∙ e)) in
           record {
-            state-as-given = ap (λ x. x .state) (meets .answered) ∙ rw refused;
+            nothing-answered =
+                record {
+                  state-as-given = ap (λ x. x .state) (meets .answered) ∙ rw refused;
+                  none-missing = ap (λ x. x .missing) (meets .answered) ∙ rw refused;
+                  no-number = ap (λ x. x .number) (meets .answered) ∙ rw refused;
+                  no-second = ap (λ x. x .second) (meets .answered) ∙ rw refused;
+                  no-indication = ap (λ x. x .indication) (meets .answered) ∙ rw refused;
+                };
             samples-as-lent = meets .samples-after ∙ rw refused;
             ancillary-as-lent = meets .ancillary-after ∙ rw refused;
             marks-as-lent = meets .marks-after ∙ rw refused;
-            none-missing = ap (λ x. x .missing) (meets .answered) ∙ rw refused;
-            no-number = ap (λ x. x .number) (meets .answered) ∙ rw refused;
-            no-second = ap (λ x. x .second) (meets .answered) ∙ rw refused;
-            no-indication = ap (λ x. x .indication) (meets .answered) ∙ rw refused;
           };
     }
 
@@ -89,7 +92,7 @@ module _ (s : SendCall) (r : ReceiveCall) (sends : MeetsSend s) (sent : s .answe
     unfolding R.receivedOf
     second-told = ap (λ x. x .second) (receives .answered) ∙ rw taken
 
-    pub tells : (formatIn s .«overhead_bits» ≡ 0 → ⊥) → Tells s r
+    pub tells : (S.formatNow (s .state) .«overhead_bits» ≡ 0 → ⊥) → Tells s r
     unfolding R.receivedOf valueOf
     tells with-overhead =
         record {

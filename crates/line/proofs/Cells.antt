@@ -27,7 +27,7 @@ use Rattle.sender.proofs.Laws as SL
 use Rattle.receiver.specs.declared.Receiver.{Receiver}
 use Rattle.receiver.specs.Receiver as R
 use Rattle.line.specs.Contracts.{SendCall, MeetsSend, ReceiveCall, MeetsReceive}
-use Rattle.line.specs.Demands.{sendTable, receiveTable, InSettings, formatIn, IsDocument01's}
+use Rattle.line.specs.Demands.{sendTable, receiveTable, InSettings, IsDocument01's}
 
 -- the refusal of an answer is the refusal of the table
 pub sent-refusal : (s : SendCall) → MeetsSend s → s .answer .refusal ≡ sendTable s
@@ -103,25 +103,26 @@ module _ (s : SendCall) (meets : MeetsSend s) (sent : s .answer .refusal ≡ 0) 
       either false hx hy = hy
 
   -- with overhead
-  module _ (with-overhead : formatIn s .«overhead_bits» ≡ 0 → ⊥) where
-    pub eight-sent : eightIn (formatIn s) (s .written) ≡ entryOf (s .state .number)
+  module _ (with-overhead : S.formatNow (s .state) .«overhead_bits» ≡ 0 → ⊥) where
+    pub eight-sent : eightIn (S.formatNow (s .state)) (s .written) ≡ entryOf (s .state .number)
     unfolding S.cellNow
     eight-sent =
-        ap (eightIn (formatIn s)) written-is
+        ap (eightIn (S.formatNow (s .state))) written-is
         ∙ eight-in-back (fits .limits .sound) _ (s .state .channels) (S.timesNow (s .state)) _ _ (s .samples) (s .ancillary)
         (fits .small) (fits .few) with-overhead (entry-lt number-lt)
 
-    second-sent : 12 ≤ formatIn s .slots → secondIn (formatIn s) (s .written) ≡ S.secondNow (s .state) (s .indication)
+    second-sent : 12 ≤ S.formatNow (s .state) .slots
+        → secondIn (S.formatNow (s .state)) (s .written) ≡ S.secondNow (s .state) (s .indication)
     unfolding S.cellNow
     second-sent enough =
-        ap (secondIn (formatIn s)) written-is
+        ap (secondIn (S.formatNow (s .state))) written-is
         ∙ second-in-back (fits .limits .sound) _ (s .state .channels) (S.timesNow (s .state)) _ _ (s .samples) (s .ancillary)
         (fits .small) (fits .few) with-overhead enough second-small
 
-    no-second-sent : formatIn s .slots < 12 → secondIn (formatIn s) (s .written) ≡ 0
+    no-second-sent : S.formatNow (s .state) .slots < 12 → secondIn (S.formatNow (s .state)) (s .written) ≡ 0
     unfolding S.cellNow
     no-second-sent less =
-        ap (secondIn (formatIn s)) written-is
+        ap (secondIn (S.formatNow (s .state))) written-is
         ∙ second-in-none (fits .limits .sound) _ (s .state .channels) (S.timesNow (s .state)) _ _ (s .samples) (s .ancillary)
         (fits .small) (fits .few) with-overhead less
 
@@ -138,16 +139,16 @@ module _ (s : SendCall) (meets : MeetsSend s) (sent : s .answer .refusal ≡ 0) 
       unfolding valueOf
       rightly-there indicated = ap₂ indicationRefused (ap valueOf found-there) indicated ∙ rightly-indicated
 
-      second-here : R.secondNow (r .state) (r .cell) ≡ secondIn (formatIn s) (s .written)
+      second-here : R.secondNow (r .state) (r .cell) ≡ secondIn (S.formatNow (s .state)) (s .written)
       unfolding R.secondNow
       second-here =
           (λ i. cond (eqb (formatOf (same .format i) .«overhead_bits») 0) 0 (secondIn (formatOf (same .format i)) (arrived i)))
           ∙ rw (ne-eqb _ 0 with-overhead)
 
-      pub second-there : 12 ≤ formatIn s .slots → R.secondNow (r .state) (r .cell) ≡ S.secondNow (s .state) (s .indication)
+      pub second-there : 12 ≤ S.formatNow (s .state) .slots → R.secondNow (r .state) (r .cell) ≡ S.secondNow (s .state) (s .indication)
       second-there enough = second-here ∙ second-sent enough
 
-      pub no-second-there : formatIn s .slots < 12 → R.secondNow (r .state) (r .cell) ≡ 0
+      pub no-second-there : S.formatNow (s .state) .slots < 12 → R.secondNow (r .state) (r .cell) ≡ 0
       no-second-there less = second-here ∙ no-second-sent less
 
   -- at a receiver in the sender's settings
@@ -157,7 +158,9 @@ module _ (s : SendCall) (meets : MeetsSend s) (sent : s .answer .refusal ≡ 0) 
 
     -- what is read off the cell's own slots, after the entries of d - 1 missing cells
     entries : (read : Format → ℕ → ℕ) (missing : ℕ) {own : List ℕ}
-        → entriesOf (read (formatIn s)) (formatIn s) (eqb (s .state .order) 1) (s .state .channels) (S.timesNow (s .state)) cell ≡ own
+        → entriesOf (read (S.formatNow (s .state))) (S.formatNow (s .state)) (eqb (s .state .order) 1) (s .state .channels)
+        (S.timesNow (s .state)) cell
+        ≡ own
         → R.entriesNow (read (formatOf (r .state .format))) missing (r .state) (r .cell)
         ≡ replicate ((R.gapOf (r .state) (r .cell) - 1) * S.usedNow (s .state)) missing ++ own
     unfolding R.entriesNow

@@ -11,9 +11,10 @@ use Rattle.runs.specs.Runs.{over}
 use Rattle.receiver.specs.declared.Receiver.{Receiver}
 use Rattle.receiver.specs.declared.Received.{Received}
 use Rattle.receiver.specs.Receiver as R
+use Rattle.reading.specs.Records.{Whole as Arrival}
 use Rattle.line.specs.Contracts.{MeetsSend, ReceiveCall, MeetsReceive}
 use Rattle.line.specs.Demands.{receiveTable}
-use Rattle.line.specs.Line.{Fate, unaltered, Arrival, handed, Demand3}
+use Rattle.line.specs.Line.{Fate, unaltered, handed, Demand3}
 use Rattle.line.proofs.Examples.{always-room, studio, studioAt, fresh, sent, trips, call, receiving, promised, receives, plays}
 use Rattle.line.proofs.Opened.{opened}
 

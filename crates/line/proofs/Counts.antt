@@ -10,9 +10,17 @@ use Rattle.runs.proofs.Laws.{split}
 use Rattle.receiver.specs.declared.Receiver.{Receiver}
 use Rattle.receiver.specs.declared.Ready.{Ready}
 use Rattle.receiver.proofs.Count.{opened-count, refused-stays, taken-counts, taken-within}
+use Rattle.reading.specs.Totals.{totalOf, countOf}
 use Rattle.line.specs.Contracts.{ReceiveCall, MeetsReceive}
-use Rattle.line.specs.Line.{Row, Receiving, leftBy, total, soundBy, missingBy, CountsCells}
+use Rattle.line.specs.Line.{Row, Receiving, leftBy, CountsCells}
 use Rattle.line.proofs.Calls.{receives-or-nothing}
+
+-- cells that calls took, and those that they told missing
+abbrev pub soundBy : List ReceiveCall → ℕ
+soundBy calls = countOf (λ c. eqb (c .answer .refusal) 0) calls
+
+abbrev pub missingBy : List ReceiveCall → ℕ
+missingBy calls = totalOf (λ c. c .answer .missing) calls
 
 -- sums over one call more
 none-yet : (n : ℕ) → n ≡ n + (0 + 0)
@@ -27,28 +35,28 @@ one-refused : {left now before first missing : ℕ} (sound more : ℕ) → left 
 one-refused sound more rest here start none = omega arith
 
 pub counted-on : (st : Receiver) (calls : List ReceiveCall) → Receiving MeetsReceive st calls
-    → leftBy st calls .count ≡ st .count + (total soundBy calls + total missingBy calls)
-unfolding Row leftBy total
+    → leftBy st calls .count ≡ st .count + (soundBy calls + missingBy calls)
+unfolding Row leftBy totalOf
 counted-on st [] row = none-yet (st .count)
 counted-on st (c ∷ cs) row =
     let rest = counted-on (c .answer .state) cs (row .2) in
     let start : c .state .count ≡ st .count = ap (λ (x : Receiver). x .count) (row .0) in
     split (eqb (c .answer .refusal) 0)
     (λ e.
-    rw e (one-taken (c .answer .missing) (total soundBy cs) (total missingBy cs) rest (taken-counts (row .1) (eqb-true _ 0 e)) start))
+    rw e (one-taken (c .answer .missing) (soundBy cs) (missingBy cs) rest (taken-counts (row .1) (eqb-true _ 0 e)) start))
     (λ e.
     let refused = eqb-false _ 0 e in
     let stays : c .answer .state .count ≡ c .state .count = ap (λ (x : Receiver). x .count) (refused-stays (row .1) refused) in
     rw e
-    (one-refused (total soundBy cs) (total missingBy cs) rest stays start
-    (receives-or-nothing c (row .1) .then-nothing refused .none-missing)))
+    (one-refused (soundBy cs) (missingBy cs) rest stays start
+    (receives-or-nothing c (row .1) .then-nothing refused .nothing-answered .none-missing)))
 
 pub counts-cells : CountsCells MeetsReceive
 unfolding CountsCells
 counts-cells octet channels order opening calls opens row =
     let none : opening .state .count ≡ 0 = ap (λ (r : Ready). r .state .count) opens ∙ opened-count octet channels order in
     let all = counted-on (opening .state) calls row in
-    let from : opening .state .count + (total soundBy calls + total missingBy calls) ≡ total soundBy calls + total missingBy calls
+    let from : opening .state .count + (soundBy calls + missingBy calls) ≡ soundBy calls + missingBy calls
     = omega (arith, none) in
     all ∙ from
 

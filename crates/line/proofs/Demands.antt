@@ -1,4 +1,4 @@
--- The demands on one page: each statement beside the minutes' sentence, each proof a citation.
+-- The demands on one page: each statement beside its sentence, each proof a citation.
 -- Assumes nothing.
 use mathlib.Core.Bool.{Bool, false, cond, _||_}
 use mathlib.Core.List.{List, [], _∷_, flatMap}
@@ -80,7 +80,6 @@ use Rattle.line.specs.Demands.{
   ReadNothing,
   IsDocument01's,
   InSettings,
-  formatIn,
   GivesBack,
   Tells,
 }
@@ -230,7 +229,7 @@ demand-2 = gives-back
 
 -- Beside it, with overhead: the numbers that the cell carries are reported.
 pub demand-2-numbers : (s : SendCall) (r : ReceiveCall) → MeetsSend s → s .answer .refusal ≡ 0 → InSettings (s .state) (r .state)
-    → r .cell ≡ s .written → MeetsReceive r → r .answer .refusal ≡ 0 → (formatIn s .«overhead_bits» ≡ 0 → ⊥) → Tells s r
+    → r .cell ≡ s .written → MeetsReceive r → r .answer .refusal ≡ 0 → (S.formatNow (s .state) .«overhead_bits» ≡ 0 → ⊥) → Tells s r
 demand-2-numbers = tells
 
 -- 3. "A format with overhead, cells that one sender wrote in a row, a line that drops some and spoils others (one, two or three of the

@@ -16,6 +16,8 @@ use Rattle.receiver.specs.declared.Receiver.{Receiver}
 use Rattle.receiver.specs.declared.Received.{Received}
 use Rattle.receiver.specs.Receiver as R
 use Rattle.receiver.proofs.Room as Room
+use Rattle.reading.specs.Records.{Whole as Arrival}
+use Rattle.reading.specs.Totals.{Each}
 use Rattle.line.specs.Contracts.{SendCall, MeetsSend, ReceiveCall, MeetsReceive}
 use Rattle.line.specs.Line.{
   Row,
@@ -24,10 +26,8 @@ use Rattle.line.specs.Line.{
   wrote,
   Fate,
   Trip,
-  Each,
   Fair,
   longest,
-  Arrival,
   arrivals,
   taken,
   WithRoom,

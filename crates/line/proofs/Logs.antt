@@ -1,7 +1,7 @@
 -- A log that the library wrote is its header and its records, and is read back so.
 -- Assumes nothing.
 use mathlib.Core.List.{List, [], _∷_, _++_, map, append-assoc, append-nil}
-use mathlib.Core.Path.{_≡_, refl, sym, _∙_, ap, ap₂, subst}
+use mathlib.Core.Path.{_≡_, sym, _∙_, ap, ap₂, subst}
 use Prim.Native.Nat.{ℕ, _+_, _≤_}
 use native.Mathlib.Omega.{arith}
 use borrow.Author.Tests.{eq-eqb, le-leb}
@@ -21,18 +21,14 @@ use Rattle.receiver.specs.Receiver as R
 use Rattle.reading.specs.Heard.{heardFrom, soundIn, missingIn, refusedIn}
 use Rattle.reading.specs.Reading.{freshOf, behindHeader, readingOf}
 use Rattle.reading.specs.Records.{Whole, Framed, recordsIn, faultIn, walkIn, octetsIn}
-use Rattle.reading.specs.Totals as T
+use Rattle.reading.specs.Totals.{Each}
 use Rattle.reading.proofs.Reading.{header-of-three}
 use Rattle.reading.proofs.Records.{walk-written, walk-stop, not-whole}
 use Rattle.pieces.specs.Limit.{recordsTo, faultTo}
 use Rattle.listing.specs.Lines.{formatLine, endLine}
 use Rattle.listing.specs.List.{linesOf, endLines, heardTo, listTo, listOf}
-use Rattle.line.specs.Line.{Row, Arrival}
+use Rattle.line.specs.Line.{Row}
 use Rattle.line.specs.Tools.{KeepCall, Keeping, writtenBy, LogOf}
-
--- what arrives, as a record
-abbrev pub wholeOf : Arrival → Whole
-wholeOf a = record { indication = a .indication; cell = a .cell }
 
 -- octets that were kept at a place: they stand behind what stood before it
 module _ {refusal place : ℕ} {octets log after : List ℕ} {answer : Kept} (keeps : Keeps refusal place octets log answer after)
@@ -65,12 +61,12 @@ module _ {refusal place : ℕ} {octets log after : List ℕ} {answer : Kept} (ke
         ) (omega arith)
 
 pub record Written (log : List ℕ) (place : ℕ) (calls : List KeepCall) : Type 0 where
-  pub octets : writtenBy log place calls ≡ take place log ++ octetsIn (map (λ c. wholeOf (c .came)) calls)
-  pub framed : T.Each Framed (map (λ c. wholeOf (c .came)) calls)
+  pub octets : writtenBy log place calls ≡ take place log ++ octetsIn (map (λ c. c .came) calls)
+  pub framed : Each Framed (map (λ c. c .came) calls)
 
 records-kept : (log : List ℕ) (place : ℕ) (calls : List KeepCall) → place ≤ length log → Keeping log place calls
     → Written log place calls
-unfolding Row writtenBy octetsIn T.Each
+unfolding Row writtenBy octetsIn Each
 records-kept log place [] here row = record { octets = sym (append-nil (take place log)); framed = tt }
 records-kept log place (c ∷ cs) here row =
     let log-is : c .log ≡ log = ap (λ (x : List ℕ × ℕ). x .0) (row .0) in
@@ -83,22 +79,15 @@ records-kept log place (c ∷ cs) here row =
     record {
       octets =
           on .octets
-          ∙ ap (λ (l : List ℕ). l ++ octetsIn (map (λ c. wholeOf (c .came)) cs))
+          ∙ ap (λ (l : List ℕ). l ++ octetsIn (map (λ c. c .came) cs))
           (kept-octets meets taken within
           ∙ ap₂ (λ (n : ℕ) (l : List ℕ). take n l ++ recordOctets (c .came .indication) (c .came .cell)) place-is log-is)
           ∙ append-assoc (take place log) (recordOctets (c .came .indication) (c .came .cell)) _;
       framed = (fits .0, on .framed);
     }
 
-map-twice : {A B C : Type 0} (f : B → C) (g : A → B) (xs : List A) → map (λ x. f (g x)) xs ≡ map f (map g xs)
-map-twice f g [] = refl
-map-twice {C = C} f g (x ∷ xs) = ap (λ (l : List C). f (g x) ∷ l) (map-twice f g xs)
-
 -- the whole log, and how it is read
-module _ {st : Sender} {came : List Arrival} {log : List ℕ} (is : LogOf st came log) where
-  abbrev records : List Whole
-  records = map wholeOf came
-
+module _ {st : Sender} {records : List Whole} {log : List ℕ} (is : LogOf st records log) where
   fits : (settingsRefusal (st .format) (st .channels) (st .order) ≡ 0) × (3 ≤ length (is .lent))
   fits = header-fits (is .lent) (st .format) (st .channels) (st .order) (sym (keeps-refusal (is .header)) ∙ is .taken)
 
@@ -109,11 +98,8 @@ module _ {st : Sender} {came : List Arrival} {log : List ℕ} (is : LogOf st cam
   all-kept =
       records-kept (is .headed) (is .opening .next) (is .calls) (kept-within (is .header) (is .taken) none-before) (is .in-a-row)
 
-  these-records : map (λ c. wholeOf (c .came)) (is .calls) ≡ records
-  these-records = map-twice wholeOf (λ c. c .came) (is .calls) ∙ ap (map wholeOf) (is .these)
-
-  pub framed : T.Each Framed records
-  framed = subst (T.Each Framed) these-records (all-kept .framed)
+  pub framed : Each Framed records
+  framed = subst (Each Framed) (is .these) (all-kept .framed)
 
   log-is : log ≡ st .format ∷ st .channels ∷ st .order ∷ octetsIn records
   log-is =
@@ -121,7 +107,7 @@ module _ {st : Sender} {came : List Arrival} {log : List ℕ} (is : LogOf st cam
       ∙ all-kept .octets
       ∙ ap₂ (λ (a b : List ℕ). a ++ b)
       (kept-octets (is .header) (is .taken) none-before ∙ header-octets (st .format) (st .channels) (st .order) (fits .0))
-      (ap octetsIn these-records)
+      (ap octetsIn (is .these))
 
   pub header-is : headerOf log
       ≡ record { refusal = 0; place = 3; format = st .format; channels = st .channels; order = st .order }

@@ -10,9 +10,9 @@ use lib.ListN.{length, take, drop, replicate, length-append, length-replicate}
 use lib.Seq.{take-at, drop-at}
 use Rattle.runs.proofs.Laws.{split}
 use Rattle.sender.specs.Sender as S
-use Rattle.reading.specs.Totals.{totalOf, those}
+use Rattle.reading.specs.Totals.{totalOf, those, Each}
 use Rattle.line.specs.Contracts.{MeetsSend, MeetsReceive}
-use Rattle.line.specs.Line.{Sending, isLost, Trip, Each, Place, handed, placesOf}
+use Rattle.line.specs.Line.{Sending, isLost, Trip, Place, handed, placesOf}
 use Rattle.line.specs.Losses.{
   Since,
   never,

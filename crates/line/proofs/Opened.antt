@@ -12,7 +12,7 @@ use Rattle.cells.specs.Cells as C
 use Rattle.cells.specs.Placement.{slotOf, slotOfEntry, entryOfSlot, carried}
 use Rattle.sender.specs.Sender as S
 use Rattle.receiver.specs.Receiver as R
-use Rattle.reading.specs.Totals.{totalOf, those}
+use Rattle.reading.specs.Totals.{totalOf, those, Each}
 use Rattle.line.specs.Line as L
 use Rattle.line.specs.Losses.{storyFrom, pastPlace, SlipBack, AnyLoss}
 
@@ -55,11 +55,11 @@ unfolding R.openedOf R.lastRefused R.countRefused R.stateRefusal R.lengthsRefuse
 receiver = tt
 
 line : Unit {0}
-unfolding L.Row L.wrote L.Each L.longest L.placesOf L.fromFirst L.allLost L.toLast L.pastLast L.leftBy L.total L.CountsCells L.Demand3
+unfolding L.Row L.wrote L.longest L.placesOf L.fromFirst L.allLost L.toLast L.leftBy L.CountsCells L.Demand3
 line = tt
 
 losses : Unit {0}
-unfolding totalOf those storyFrom pastPlace SlipBack AnyLoss
+unfolding totalOf those Each storyFrom pastPlace SlipBack AnyLoss
 losses = tt
 
 unfoldable pub opened : Unit {0}

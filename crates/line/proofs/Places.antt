@@ -14,7 +14,7 @@ use Rattle.sender.specs.declared.Sender.{Sender}
 use Rattle.sender.specs.Sender as S
 use Rattle.receiver.specs.declared.Receiver.{Receiver}
 use Rattle.receiver.specs.Receiver as R
-use Rattle.reading.specs.Totals.{totalOf, those}
+use Rattle.reading.specs.Totals.{totalOf, those, Each}
 use Rattle.line.specs.Contracts.{MeetsSend, ReceiveCall, MeetsReceive}
 use Rattle.line.specs.Line.{
   Row,
@@ -25,14 +25,12 @@ use Rattle.line.specs.Line.{
   unaltered,
   isLost,
   Trip,
-  Each,
   longest,
   Place,
   placesOf,
   fromFirst,
   allLost,
   toLast,
-  pastLast,
   OverTheLine,
   ComesOut,
   refusals,
@@ -144,21 +142,16 @@ shown-places used place (t ∷ ts) alike between =
     = ap (λ (n : ℕ). replicate n missing) (zero-mul (S.usedNow (t .sent .state))) in
     rw (here, here) (ap₂ (λ (x y : List Place). (x ++ placesOf t) ++ y) front rest))
 
--- the count is the place past the last unaltered cell
-none-past : (ts : List Trip) → allLost ts ≡ true → pastLast ts ≡ 0
-unfolding allLost pastLast
-none-past [] e = refl
-none-past (t ∷ ts) e = rw e
-
-count-past : (ts : List Trip) → cond (allLost ts) 0 (0 + pastLast ts) ≡ pastLast ts
+-- the count is how many cells there are from the first unaltered one to the last
+count-past : (ts : List Trip) → cond (allLost ts) 0 (0 + length (toLast ts)) ≡ length (toLast ts)
 count-past ts =
     split (allLost ts)
-    (λ all. rw (all, none-past ts all))
-    (λ some. rw some (let same : 0 + pastLast ts ≡ pastLast ts = omega arith in same))
+    (λ all. rw (all, none-to-last ts all))
+    (λ some. rw some (let same : 0 + length (toLast ts) ≡ length (toLast ts) = omega arith in same))
 
 count-after : (place k : ℕ) (ts : List Trip) → Between 14 (after k) ts
-    → totalOf cellsWith (takenFrom place (after k) ts) ≡ cond (allLost ts) 0 (k + pastLast ts)
-unfolding storyFrom those totalOf Between allLost pastLast
+    → totalOf cellsWith (takenFrom place (after k) ts) ≡ cond (allLost ts) 0 (k + length (toLast ts))
+unfolding storyFrom those totalOf Between allLost toLast
 count-after place k [] between = refl
 count-after place k (t ∷ ts) between =
     split (isLost (t .fate))
@@ -167,26 +160,26 @@ count-after place k (t ∷ ts) between =
     split (allLost ts)
     (λ all. rw (lost, all) (on ∙ rw all))
     (λ some.
-    let next : suc k + pastLast ts ≡ k + suc (pastLast ts) = omega arith in
+    let next : suc k + length (toLast ts) ≡ k + suc (length (toLast ts)) = omega arith in
     rw (lost, some) (on ∙ rw some next)))
     (λ here.
     let few = between .1 here in
-    let rest : totalOf cellsWith (takenFrom (suc place) (after 0) ts) ≡ pastLast ts
+    let rest : totalOf cellsWith (takenFrom (suc place) (after 0) ts) ≡ length (toLast ts)
     = count-after (suc place) 0 ts (few .1) ∙ count-past ts in
-    let next : suc k + pastLast ts ≡ k + suc (pastLast ts) = omega arith in
+    let next : suc k + length (toLast ts) ≡ k + suc (length (toLast ts)) = omega arith in
     rw (here, not-round (after k) (few .0)) (ap₂ (λ (a b : ℕ). suc a + b) (all-shown (few .0)) rest ∙ next))
 
 count-places : (place : ℕ) (ts : List Trip) → Between 14 never ts
-    → totalOf cellsWith (takenFrom place never ts) ≡ pastLast (fromFirst ts)
-unfolding storyFrom those totalOf Between fromFirst pastLast allLost
+    → totalOf cellsWith (takenFrom place never ts) ≡ length (toLast (fromFirst ts))
+unfolding storyFrom those totalOf Between fromFirst toLast allLost
 count-places place [] between = refl
 count-places place (t ∷ ts) between =
     split (isLost (t .fate))
     (λ lost. rw lost (count-places (suc place) ts (between .0 lost)))
     (λ here.
-    let rest : totalOf cellsWith (takenFrom (suc place) (after 0) ts) ≡ pastLast ts
+    let rest : totalOf cellsWith (takenFrom (suc place) (after 0) ts) ≡ length (toLast ts)
     = count-after (suc place) 0 ts (between .1 here .1) ∙ count-past ts in
-    let next : 1 + pastLast ts ≡ suc (pastLast ts) = omega arith in
+    let next : 1 + length (toLast ts) ≡ suc (length (toLast ts)) = omega arith in
     rw (here, here) (ap (λ (n : ℕ). 1 + n) rest ∙ next))
 
 -- each cell's deliveries get the refusals that demand 3 has

@@ -20,15 +20,13 @@ use Rattle.receiver.proofs.Laws.{answer-refusal, answer-missing}
 use Rattle.receiver.proofs.Room.{room-in-720}
 use Rattle.reading.specs.Heard.{heardBy, given, hear, onward, heardFrom, soundIn, missingIn, markedWith}
 use Rattle.reading.specs.Records.{Whole}
-use Rattle.reading.specs.Totals.{totalOf, countOf}
+use Rattle.reading.specs.Totals.{totalOf, countOf, Each}
 use Rattle.reading.proofs.Heard.{refused-gives}
 use Rattle.reading.proofs.Totals.{total-joined}
 use Rattle.line.specs.Contracts.{ReceiveCall, MeetsReceive}
 use Rattle.line.specs.Line.{
   Row,
   Receiving,
-  Each,
-  Arrival,
   taken,
   WithRoom,
   Place,
@@ -36,12 +34,9 @@ use Rattle.line.specs.Line.{
   handedBy,
   handed,
   refusals,
-  total,
-  soundBy,
-  missingBy,
 }
 use Rattle.line.specs.Tools.{placesHeard, hasMark}
-use Rattle.line.proofs.Logs.{wholeOf}
+use Rattle.line.proofs.Counts.{soundBy, missingBy}
 use Rattle.line.proofs.Steps.{take-zip}
 
 -- a call on three runs of 720 zeros, which is the room that a record is heard with; and such calls in a row
@@ -81,10 +76,10 @@ unfolding Row callsFor
 calls-in-a-row st [] = tt
 calls-in-a-row st (r ∷ rs) = (refl, meets-receive st r, calls-in-a-row (onward (hear st r)) rs)
 
-pub calls-take : (st : Receiver) (came : List Arrival) → map taken (callsFor st (map wholeOf came)) ≡ came
+pub calls-take : (st : Receiver) (records : List Whole) → map taken (callsFor st records) ≡ records
 unfolding callsFor
 calls-take st [] = refl
-calls-take st (a ∷ came) = ap (λ (l : List Arrival). a ∷ l) (calls-take (onward (hear st (wholeOf a))) came)
+calls-take st (r ∷ rs) = ap (λ (l : List Whole). r ∷ l) (calls-take (onward (hear st r)) rs)
 
 pub calls-room : (st : Receiver) (records : List Whole) → Each WithRoom (callsFor st records)
 unfolding Each callsFor
@@ -99,14 +94,14 @@ calls-refuse st [] = refl
 calls-refuse st (r ∷ rs) = ap (λ (l : List ℕ). hear st r .answer .refusal ∷ l) (calls-refuse (onward (hear st r)) rs)
 
 pub calls-take-cells : (st : Receiver) (records : List Whole)
-    → total soundBy (callsFor st records) ≡ soundIn (heardFrom st records)
-unfolding callsFor heardBy total totalOf
+    → soundBy (callsFor st records) ≡ soundIn (heardFrom st records)
+unfolding callsFor heardBy totalOf
 calls-take-cells st [] = refl
 calls-take-cells st (r ∷ rs) =
     ap (λ (n : ℕ). cond (eqb (hear st r .answer .refusal) 0) 1 0 + n) (calls-take-cells (onward (hear st r)) rs)
 
-pub calls-miss : (st : Receiver) (records : List Whole) → total missingBy (callsFor st records) ≡ missingIn (heardFrom st records)
-unfolding callsFor heardBy total totalOf
+pub calls-miss : (st : Receiver) (records : List Whole) → missingBy (callsFor st records) ≡ missingIn (heardFrom st records)
+unfolding callsFor heardBy totalOf
 calls-miss st [] = refl
 calls-miss st (r ∷ rs) = ap (λ (n : ℕ). hear st r .answer .missing + n) (calls-miss (onward (hear st r)) rs)
 

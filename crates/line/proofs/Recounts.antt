@@ -11,8 +11,9 @@ use Rattle.runs.specs.Runs.{over}
 use Rattle.receiver.specs.declared.Receiver.{Receiver}
 use Rattle.receiver.specs.declared.Received.{Received}
 use Rattle.receiver.specs.Receiver as R
+use Rattle.reading.specs.Records.{Whole as Arrival}
 use Rattle.line.specs.Contracts.{MeetsSend, ReceiveCall}
-use Rattle.line.specs.Line.{Fate, dropped, unaltered, Arrival, Receiving, Demand3, CountsCells}
+use Rattle.line.specs.Line.{Fate, dropped, unaltered, Receiving, Demand3, CountsCells}
 use Rattle.line.proofs.Examples.{always-room, studio, studioAt, fresh, sent, trips, call, answered, plays}
 use Rattle.line.proofs.Opened.{opened}
 

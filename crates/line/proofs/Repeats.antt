@@ -1,22 +1,21 @@
 -- The same cell once more: what a receiver says to it that has just taken it.
 -- Assumes nothing.
-use mathlib.Core.Bool.{Bool, true, false, cond, not, _&&_, _||_}
+use mathlib.Core.Bool.{Bool, cond}
 use mathlib.Core.List.{List, [], _∷_}
-use mathlib.Core.Path.{_≡_, refl, sym, _∙_, ap, subst}
-use Prim.Native.Nat.{ℕ, _+_, _*_, _%_, _-_, _≤_, _<_}
+use mathlib.Core.Path.{_≡_, refl, sym, _∙_, ap}
+use Prim.Native.Nat.{ℕ, _+_, _*_, _%_, _-_, _<_}
 use native.Mathlib.Nat.{mod-eq-of-lt, suc-ne-zero}
 use native.Mathlib.Omega.{arith}
-use borrow.Author.Tests.{ne-eqb, eq-eqb, le-ltb}
+use borrow.Author.Tests.{ne-eqb, eq-eqb}
 use lib.Dec.{eqb, ltb}
 use lib.ListN.{length}
 use Rattle.runs.proofs.Laws.{then-later, past}
 use Rattle.formats.specs.Formats.{formatOf}
-use Rattle.numbers.specs.Numbers.{refusalOf, valueOf, differenceOf, indicationRefused}
-use Rattle.numbers.proofs.Laws.{value-lt}
-use Rattle.cells.specs.Cells.{eightIn}
+use Rattle.numbers.specs.Numbers.{refusalOf, differenceOf, indicationRefused}
 use Rattle.receiver.specs.declared.Receiver.{Receiver}
 use Rattle.receiver.specs.Receiver as R
 use Rattle.receiver.proofs.Laws as RL
+use Rattle.receiver.proofs.Onward.{number-to, after-passes}
 use Rattle.line.specs.Contracts.{SendCall, ReceiveCall, MeetsReceive}
 use Rattle.line.specs.Demands.{receiveTable}
 use Rattle.line.specs.Line.{unaltered, spoiled, arrivalOf, taken}
@@ -50,38 +49,24 @@ no-difference {n} low =
 
 -- a state after a cell with overhead was taken
 module _ (st : Receiver) (cell : List ℕ) (with-overhead : formatOf (st .format) .«overhead_bits» ≡ 0 → ⊥) where
-  number-lt : R.numberNow st cell < 16
-  number-lt =
-      subst (λ found. valueOf found < 16) (sym (RL.found-over st cell refl with-overhead))
-      (value-lt (eightIn (formatOf (st .format)) cell))
-
-  and-false : (b : Bool) → b && false ≡ false
-  and-false true = refl
-  and-false false = refl
-
-  fourth-passes : R.lastRefused (R.after st cell) || R.countRefused (R.after st cell) ≡ false
-  unfolding R.lastRefused R.countRefused R.after
-  fourth-passes =
-      let low : R.numberNow st cell ≤ 15 = omega (arith, number-lt) in
-      rw (le-ltb 15 _ low, ne-eqb _ 0 with-overhead)
-      (ap (λ (b : Bool). b || false) (and-false (not (eqb (R.numberNow st cell) 0))))
-
   no-gap : R.gapOf (R.after st cell) cell ≡ 0
   unfolding R.after R.foundNow
-  no-gap = RL.gap-by (R.after st cell) cell refl (ne-eqb _ 0 with-overhead) refl ∙ no-difference number-lt
+  no-gap =
+      let low : R.numberNow st cell < 16 = omega (arith, number-to st cell) in
+      RL.gap-by (R.after st cell) cell refl (ne-eqb _ 0 with-overhead) refl ∙ no-difference low
 
   -- it refuses that cell, with the indication that it had, by 9
   again-9 : (indication : Bool) (samples ancillary marks room : ℕ)
       → R.receiveRefusal st cell indication samples ancillary marks ≡ 0
       → R.receiveRefusal (R.after st cell) cell indication room room room ≡ 9
-  unfolding R.after R.foundNow R.stateRefusal
+  unfolding R.after R.foundNow
   again-9 indication samples ancillary marks room none =
       let passed = RL.passes st cell indication samples ancillary marks none in
       let early = passed .early in
       let here = late st cell indication samples ancillary marks (early .state-none) (early .whole) (early .ancillary-length)
       (early .marks-length) (passed .found) in
       let rightly = past (indicationRefused (R.numberNow st cell) indication) 14 _ (sym here ∙ none) .0 in
-      let state : R.stateRefusal (R.after st cell) ≡ 0 = then-later _ (early .settings) ∙ rw fourth-passes in
+      let state = after-passes st cell (early .state-none) in
       late (R.after st cell) cell indication room room room state (early .whole) refl refl (passed .found)
       ∙ rw (rightly, eq-eqb _ 0 no-gap)
 
@@ -101,4 +86,4 @@ repeat-gets-9 c d takes none with-overhead next same ancillary-equal marks-equal
     ∙ (λ i.
     R.receiveRefusal ((next ∙ state) i) (same i .cell) (same i .indication) (length (d .samples)) (ancillary-equal i) (marks-equal i))
     ∙ again-9 (c .state) (c .cell) with-overhead (c .indication) _ _ _ (length (d .samples)) table in
-    (nine, receives-or-nothing d receives .then-nothing (λ e. suc-ne-zero 8 (sym nine ∙ e)) .state-as-given ∙ next)
+    (nine, receives-or-nothing d receives .then-nothing (λ e. suc-ne-zero 8 (sym nine ∙ e)) .nothing-answered .state-as-given ∙ next)

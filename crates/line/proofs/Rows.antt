@@ -18,9 +18,10 @@ use Rattle.sender.specs.declared.Sender.{Sender}
 use Rattle.sender.specs.Sender as S
 use Rattle.receiver.specs.declared.Receiver.{Receiver}
 use Rattle.receiver.specs.Receiver as R
-use Rattle.reading.specs.Totals.{totalOf, those}
+use Rattle.reading.specs.Records.{Whole as Arrival}
+use Rattle.reading.specs.Totals.{totalOf, those, Each}
 use Rattle.line.specs.Contracts.{SendCall, MeetsSend, ReceiveCall, MeetsReceive}
-use Rattle.line.specs.Demands.{InSettings, formatIn}
+use Rattle.line.specs.Demands.{InSettings}
 use Rattle.line.specs.Line.{
   Row,
   Sending,
@@ -32,9 +33,7 @@ use Rattle.line.specs.Line.{
   unaltered,
   isLost,
   Trip,
-  Each,
   Fair,
-  Arrival,
   arrivalOf,
   arrivals,
   taken,
@@ -134,7 +133,7 @@ module _ {refusal : ℕ} (some : refusal ≡ 0 → ⊥) {a : Arrival} {came : Li
     skip (suc again) (c ∷ cs) takes =
         let is = each c (takes .meets .1) (takes .meets .0) (head-eq-of-cons-eq (takes .these)) (takes .room .0) in
         let refused : c .answer .refusal ≡ 0 → ⊥ = λ e. some (sym is ∙ e) in
-        let stays = receives-or-nothing c (takes .meets .1) .then-nothing refused .state-as-given ∙ takes .meets .0 in
+        let stays = receives-or-nothing c (takes .meets .1) .then-nothing refused .nothing-answered .state-as-given ∙ takes .meets .0 in
         let later = skip again cs
         (subst (λ (x : Receiver). Takes x cs (replicate again a ++ came)) stays
         (record { meets = takes .meets .2; these = tail-eq-of-cons-eq (takes .these); room = takes .room .1 })) in
@@ -220,7 +219,7 @@ module _ (t : Trip) (ts : List Trip) (sends : MeetsSend (t .sent)) (sent : t .se
     s = t .sent
 
     -- the sender goes on in its settings
-    next-overhead : (formatIn s .«overhead_bits» ≡ 0 → ⊥) → formatOf (s .answer .state .format) .«overhead_bits» ≡ 0 → ⊥
+    next-overhead : (S.formatNow (s .state) .«overhead_bits» ≡ 0 → ⊥) → formatOf (s .answer .state .format) .«overhead_bits» ≡ 0 → ⊥
     unfolding S.after
     next-overhead some e = some (ap (λ x. formatOf (x .format) .«overhead_bits») (sym (next-state s sends sent)) ∙ e)
 

@@ -13,6 +13,8 @@ use Rattle.runs.specs.Runs.{over}
 use Rattle.receiver.specs.declared.Receiver.{Receiver}
 use Rattle.receiver.specs.declared.Received.{Received}
 use Rattle.receiver.specs.Receiver as R
+use Rattle.reading.specs.Records.{Whole as Arrival}
+use Rattle.reading.specs.Totals.{Each}
 use Rattle.line.specs.Contracts.{MeetsSend, ReceiveCall, MeetsReceive}
 use Rattle.line.specs.Line.{
   Receiving,
@@ -21,17 +23,15 @@ use Rattle.line.specs.Line.{
   dropped,
   unaltered,
   Trip,
-  Each,
   Fair,
   longest,
-  Arrival,
   arrivals,
   taken,
   WithRoom,
   Place,
   handed,
   fromFirst,
-  pastLast,
+  toLast,
   leftBy,
   Demand3,
   refusals,
@@ -65,7 +65,7 @@ plays xs = receives fresh (arrivals (trips studio xs))
 -- what is shown of a row of cells: how many cells it was, from the first unaltered one to the last, what the calls answered, how
 -- many cells they placed, and the marks
 pub record Shown (sent placed : ℕ) (answers marks : List ℕ) (these : List Trip) (calls : List ReceiveCall) : Type 0 where
-  pub were : pastLast (fromFirst these) ≡ sent
+  pub were : length (toLast (fromFirst these)) ≡ sent
   pub placed-so : leftBy fresh calls .count ≡ placed
   pub answered-so : refusals calls ≡ answers
   pub marked-so : map (λ p. p .1 .1) (handed calls) ≡ marks

@@ -25,7 +25,7 @@ use Rattle.sender.specs.Sender as S
 use Rattle.receiver.specs.Receiver as R
 use Rattle.receiver.proofs.Indication.{never-15, bare-never-15}
 use Rattle.line.specs.Contracts.{SendCall, MeetsSend, ReceiveCall, MeetsReceive}
-use Rattle.line.specs.Demands.{receiveTable, InSettings, formatIn, GivesBack}
+use Rattle.line.specs.Demands.{receiveTable, InSettings, GivesBack}
 use Rattle.line.specs.Line.{alteredIn, WithRoom, Place, places, handedBy}
 use Rattle.line.proofs.Calls.{gives-back}
 use Rattle.line.proofs.Repeats.{late}
@@ -91,7 +91,7 @@ pub honest-never-15 : (s : SendCall) (r : ReceiveCall) → MeetsSend s → s .an
     → r .cell ≡ s .written → r .indication ≡ s .indication → MeetsReceive r → r .answer .refusal ≡ 15 → ⊥
 honest-never-15 s r sends sent same arrived indicated receives fifteen =
     let table : receiveTable r ≡ 15 = sym (received-refusal r receives) ∙ fifteen in
-    split (eqb (formatIn s .«overhead_bits») 0)
+    split (eqb (S.formatNow (s .state) .«overhead_bits») 0)
     (λ e.
     bare-never-15 (r .state) (r .cell) (r .indication) _ _ _
     (ap (λ (x : ℕ). formatOf x .«overhead_bits») (same .format) ∙ eqb-true _ 0 e) table)
@@ -103,11 +103,12 @@ by-length true later e = first-refuses _ (λ none. suc-ne-zero 7 (sym e ∙ none
 by-length false later e = refl
 
 -- a cell with overhead that a call wrote
-module _ (s : SendCall) (sends : MeetsSend s) (sent : s .answer .refusal ≡ 0) (with-overhead : formatIn s .«overhead_bits» ≡ 0 → ⊥) where
+module _ (s : SendCall) (sends : MeetsSend s) (sent : s .answer .refusal ≡ 0) (with-overhead : S.formatNow (s .state) .«overhead_bits» ≡ 0 → ⊥) where
   -- one, two or three altered bits lead off the table
-  off-table : (came : List ℕ) → 1 ≤ alteredIn s came → alteredIn s came ≤ 3 → refusalOf (foundOf (eightIn (formatIn s) came)) ≡ 8
+  off-table : (came : List ℕ) → 1 ≤ alteredIn s came → alteredIn s came ≤ 3
+      → refusalOf (foundOf (eightIn (S.formatNow (s .state)) came)) ≡ 8
   unfolding ones onesIn
-  off-table came some few = no-entry-refused (eightIn (formatIn s) came) not-there
+  off-table came some few = no-entry-refused (eightIn (S.formatNow (s .state)) came) not-there
     where
       same : alteredIn s came ≡ ones (bitXor (entryOf (s .state .number)) (entryOf (s .state .number))) → ⊥
       same e =
@@ -115,7 +116,7 @@ module _ (s : SendCall) (sends : MeetsSend s) (sent : s .answer .refusal ≡ 0) 
           = ap ones (xor-self (entryOf (s .state .number))) in
           omega arith
 
-      not-there : (number : ℕ) → number < 16 → entryOf number ≡ eightIn (formatIn s) came → ⊥
+      not-there : (number : ℕ) → number < 16 → entryOf number ≡ eightIn (S.formatNow (s .state)) came → ⊥
       not-there number low entry =
           let altered : alteredIn s came ≡ ones (bitXor (entryOf (s .state .number)) (entryOf number))
           = ap₂ (λ (a b : ℕ). ones (bitXor a b)) (eight-sent s sends sent with-overhead) (sym entry) in
@@ -143,7 +144,7 @@ module _ (s : SendCall) (sends : MeetsSend s) (sent : s .answer .refusal ≡ 0) 
           (λ i.
           refusalOf
           (cond (eqb (formatOf (same .format i) .«overhead_bits») 0) (Number 0) (foundOf (eightIn (formatOf (same .format i)) (arrived i)))))
-          ∙ (rw (ne-eqb (formatIn s .«overhead_bits») 0 with-overhead))
+          ∙ (rw (ne-eqb (S.formatNow (s .state) .«overhead_bits») 0 with-overhead))
           ∙ off-table came some few
 
       -- it is refused 8, or 5 where it came with another number of octets, where check 4 passes and the runs have room

@@ -15,10 +15,10 @@ use Rattle.receiver.specs.declared.Received.{Received}
 use Rattle.receiver.specs.Receiver as R
 use Rattle.reading.specs.Heard.{Heard, heardBy, given, hear, heardFrom, soundIn, missingIn, refusedIn}
 use Rattle.reading.specs.Reading.{readingOf}
-use Rattle.line.specs.Line.{Fate, dropped, spoiled, unaltered, Trip, Arrival, arrivals}
+use Rattle.reading.specs.Records.{Whole as Arrival}
+use Rattle.line.specs.Line.{Fate, dropped, spoiled, unaltered, Trip, arrivals}
 use Rattle.line.specs.Tools.{KeepCall, writtenBy, LogOf, TellsStory, ToldBy, ToolsTell}
 use Rattle.line.proofs.Examples.{studio, fresh, sends, sends-in-a-row, trips}
-use Rattle.line.proofs.Logs.{wholeOf}
 use Rattle.line.proofs.Opened.{opened}
 use Rattle.line.proofs.Sharp.{altered}
 use Rattle.line.proofs.Tools.{tools-tell}
@@ -48,7 +48,7 @@ miscounted h =
 abbrev pub copied : List Trip
 copied = trips studio ((1, unaltered 1) ∷ [])
 
-pub copy-not-missing : TellsStory copied (map miscounted (heardFrom fresh (map wholeOf (arrivals copied)))) → ⊥
+pub copy-not-missing : TellsStory copied (map miscounted (heardFrom fresh (arrivals copied))) → ⊥
 unfolding opened trips heardBy hear given R.judgedOf
 copy-not-missing story = let missing : _≡_ {A = ℕ} 1 0 = story .missing in omega arith
 

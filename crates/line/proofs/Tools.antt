@@ -16,8 +16,7 @@ use Rattle.receiver.specs.Receiver as R
 use Rattle.reading.specs.Heard.{Heard, hear, onward, heardFrom, isSound, keptOf}
 use Rattle.reading.specs.Reading.{readingOf}
 use Rattle.reading.specs.Records.{Whole, Framed, octetsIn}
-use Rattle.reading.specs.Totals as T
-use Rattle.reading.specs.Totals.{totalOf, countOf, those}
+use Rattle.reading.specs.Totals.{totalOf, countOf, those, Each}
 use Rattle.reading.proofs.Heard.{all-arrived, arrived-is}
 use Rattle.reading.proofs.Totals.{total-joined}
 use Rattle.listing.specs.Lines.{formatLine, endLine}
@@ -32,8 +31,6 @@ use Rattle.line.specs.Line.{
   unaltered,
   isLost,
   Trip,
-  Each,
-  Arrival,
   arrivalOf,
   arrivals,
   Place,
@@ -41,7 +38,6 @@ use Rattle.line.specs.Line.{
   fromFirst,
   allLost,
   toLast,
-  pastLast,
   refusalsOf,
 }
 use Rattle.line.specs.Tools.{
@@ -58,7 +54,7 @@ use Rattle.line.specs.Tools.{
 }
 use Rattle.line.proofs.Cells.{fits}
 use Rattle.line.proofs.Counts.{counted-on}
-use Rattle.line.proofs.Logs.{wholeOf, framed, read-header, read-fault, read-heard, list-is}
+use Rattle.line.proofs.Logs.{framed, read-header, read-fault, read-heard, list-is}
 use Rattle.line.proofs.Places.{Inside, longest-inside, demand-3-inside}
 use Rattle.line.proofs.Played.{
   callsFor,
@@ -125,19 +121,18 @@ FramedFate dropped = Unit {0}
 FramedFate (spoiled came indication again) = length came ≡ 48
 FramedFate (unaltered again) = Unit {0}
 
-framed-later : (first more : List Arrival) → T.Each Framed (map wholeOf (first ++ more)) → T.Each Framed (map wholeOf more)
-unfolding T.Each
+framed-later : (first more : List Whole) → Each Framed (first ++ more) → Each Framed more
+unfolding Each
 framed-later [] more each = each
 framed-later (a ∷ first) more each = framed-later first more (each .1)
 
-framed-fate : (s : SendCall) (fate : Fate) (more : List Arrival) → T.Each Framed (map wholeOf (arrivalOf s fate ++ more))
-    → FramedFate fate
-unfolding T.Each
+framed-fate : (s : SendCall) (fate : Fate) (more : List Whole) → Each Framed (arrivalOf s fate ++ more) → FramedFate fate
+unfolding Each
 framed-fate s dropped more each = tt
 framed-fate s (spoiled came indication again) more each = each .0
 framed-fate s (unaltered again) more each = tt
 
-framed-trips : (ts : List Trip) → T.Each Framed (map wholeOf (arrivals ts)) → Each (λ t. FramedFate (t .fate)) ts
+framed-trips : (ts : List Trip) → Each Framed (arrivals ts) → Each (λ t. FramedFate (t .fate)) ts
 unfolding Each flatMap
 framed-trips [] each = tt
 framed-trips (t ∷ ts) each = (
@@ -198,22 +193,22 @@ none-unaltered (t ∷ ts) e =
     let both = both-true (isLost (t .fate)) (allLost ts) e in
     rw (both .0) (ap (λ (n : ℕ). 0 + n) (none-unaltered ts (both .1)))
 
-lost-to-last : (ts : List Trip) → countOf (λ t. isLost (t .fate)) (toLast ts) + countOf isUnaltered ts ≡ pastLast ts
-unfolding totalOf allLost toLast pastLast
+lost-to-last : (ts : List Trip) → countOf (λ t. isLost (t .fate)) (toLast ts) + countOf isUnaltered ts ≡ length (toLast ts)
+unfolding totalOf allLost toLast
 lost-to-last [] = refl
 lost-to-last (t ∷ ts) =
     let lost = countOf (λ t. isLost (t .fate)) (toLast ts) in
     let here = countOf isUnaltered ts in
-    let on : lost + here ≡ pastLast ts = lost-to-last ts in
+    let on : lost + here ≡ length (toLast ts) = lost-to-last ts in
     split (isLost (t .fate))
     (λ gone.
     split (allLost ts)
     (λ all. rw (gone, all) (let none : 0 + (0 + here) ≡ 0 = omega (arith, none-unaltered ts all) in none))
-    (λ some. rw (gone, some, gone) (let more : 1 + lost + (0 + here) ≡ suc (pastLast ts) = omega arith in more)))
-    (λ stays. rw (stays, stays) (let more : 0 + lost + (1 + here) ≡ suc (pastLast ts) = omega arith in more))
+    (λ some. rw (gone, some, gone) (let more : 1 + lost + (0 + here) ≡ suc (length (toLast ts)) = omega arith in more)))
+    (λ stays. rw (stays, stays) (let more : 0 + lost + (1 + here) ≡ suc (length (toLast ts)) = omega arith in more))
 
 lost-inside : (ts : List Trip)
-    → countOf (λ t. isLost (t .fate)) (toLast (fromFirst ts)) + countOf isUnaltered ts ≡ pastLast (fromFirst ts)
+    → countOf (λ t. isLost (t .fate)) (toLast (fromFirst ts)) + countOf isUnaltered ts ≡ length (toLast (fromFirst ts))
 unfolding totalOf fromFirst
 lost-inside [] = lost-to-last []
 lost-inside (t ∷ ts) =
@@ -221,7 +216,7 @@ lost-inside (t ∷ ts) =
     (λ gone.
     let lost = countOf (λ t. isLost (t .fate)) (toLast (fromFirst ts)) in
     let here = countOf isUnaltered ts in
-    rw gone (let same : lost + (0 + here) ≡ pastLast (fromFirst ts) = omega (arith, lost-inside ts) in same))
+    rw gone (let same : lost + (0 + here) ≡ length (toLast (fromFirst ts)) = omega (arith, lost-inside ts) in same))
     (λ stays. rw stays (rw stays at (lost-to-last (t ∷ ts))))
 
 -- the records that are kept
@@ -236,16 +231,15 @@ kept-by [] = refl
 kept-by (h ∷ hs) =
     split (isSound h) (λ e. rw e (ap (λ (l : List Whole). h .arrived ∷ l) (kept-by hs))) (λ e. rw e (kept-by hs))
 
-kept-none : {refusal : ℕ} → (refusal ≡ 0 → ⊥) → (n : ℕ) (a : Arrival) (ns : List ℕ) (more : List Arrival)
-    → keptBy (replicate n refusal ++ ns) (map wholeOf (replicate n a ++ more)) ≡ keptBy ns (map wholeOf more)
+kept-none : {refusal : ℕ} → (refusal ≡ 0 → ⊥) → (n : ℕ) (a : Whole) (ns : List ℕ) (more : List Whole)
+    → keptBy (replicate n refusal ++ ns) (replicate n a ++ more) ≡ keptBy ns more
 unfolding keptBy
 kept-none some zero a ns more = refl
 kept-none some (suc n) a ns more = rw (ne-eqb _ 0 some) (kept-none some n a ns more)
 
-kept-fate : (s : SendCall) (fate : Fate) (ns : List ℕ) (more : List Arrival)
-    → keptBy (refusalsOf fate ++ ns) (map wholeOf (arrivalOf s fate ++ more))
-    ≡ cond (not (isLost fate)) (record { indication = s .indication; cell = s .written } ∷ keptBy ns (map wholeOf more))
-    (keptBy ns (map wholeOf more))
+kept-fate : (s : SendCall) (fate : Fate) (ns : List ℕ) (more : List Whole)
+    → keptBy (refusalsOf fate ++ ns) (arrivalOf s fate ++ more)
+    ≡ cond (not (isLost fate)) (record { indication = s .indication; cell = s .written } ∷ keptBy ns more) (keptBy ns more)
 unfolding keptBy
 kept-fate s dropped ns more = refl
 kept-fate s (spoiled came indication again) ns more = kept-none (refused-so (eqb (length came) 48)) (suc again) _ ns more
@@ -253,8 +247,7 @@ kept-fate s (unaltered again) ns more =
     ap (λ (l : List Whole). record { indication = s .indication; cell = s .written } ∷ l)
     (kept-none (suc-ne-zero 8) again _ ns more)
 
-kept-trips : (ts : List Trip)
-    → keptBy (flatMap (λ t. refusalsOf (t .fate)) ts) (map wholeOf (arrivals ts)) ≡ map firstDelivery (those isUnaltered ts)
+kept-trips : (ts : List Trip) → keptBy (flatMap (λ t. refusalsOf (t .fate)) ts) (arrivals ts) ≡ map firstDelivery (those isUnaltered ts)
 unfolding keptBy those flatMap
 kept-trips [] = refl
 kept-trips (t ∷ ts) =
@@ -342,11 +335,11 @@ there-inside ts each =
 
 -- what a fresh receiver makes of what arrives
 module _ (st : Receiver) (trips : List Trip) (none : st .count ≡ 0)
-    (inside : Inside st trips (callsFor st (map wholeOf (arrivals trips))))
-    (framed : T.Each Framed (map wholeOf (arrivals trips))) (sent : Each (λ t. Wrote (t .sent)) trips)
+    (inside : Inside st trips (callsFor st (arrivals trips))) (framed : Each Framed (arrivals trips))
+    (sent : Each (λ t. Wrote (t .sent)) trips)
   where
     abbrev records : List Whole
-    records = map wholeOf (arrivals trips)
+    records = arrivals trips
 
     abbrev heard : List Heard
     heard = heardFrom st records
@@ -408,10 +401,9 @@ pub tools-tell : ToolsTell 3 14 4294967295 MeetsSend
 unfolding ToolsTell newLog
 tools-tell st sends trips log with-overhead row these within fair few is =
     let fresh = R.openState (st .format) (st .channels) (st .order) in
-    let came = arrivals trips in
-    let records = map wholeOf came in
+    let records = arrivals trips in
     let inside = demand-3-inside 14 st sends trips (callsFor fresh records) with-overhead row these within fair few
-    (calls-in-a-row fresh records) (calls-take fresh came) (calls-room fresh records) (le-trans (longest-inside trips) few) in
+    (calls-in-a-row fresh records) (calls-take fresh records) (calls-room fresh records) (le-trans (longest-inside trips) few) in
     let in-a-row = subst (Sending Wrote st) (sym these) (only-written sends st row) in
     let story = subst (TellsStory trips) (sym (read-heard is))
     (tells-story fresh trips refl inside (framed is) (each-wrote st trips in-a-row)) in

@@ -23,7 +23,7 @@ use Rattle.units.proofs.Laws.{export-taken}
 use Rattle.units.proofs.Demand1.{export-refusal}
 use Rattle.units.proofs.Back.{back-whole}
 use Rattle.line.specs.Contracts.{SendCall, MeetsSend, ReceiveCall, MeetsReceive}
-use Rattle.line.specs.Demands.{receiveTable, InSettings, formatIn}
+use Rattle.line.specs.Demands.{receiveTable, InSettings}
 use Rattle.line.specs.Units.{ExportsReceived, ComesBack}
 use Rattle.line.proofs.Cells.{sent-refusal, received-refusal, settings-none, used-in, fits}
 use Rattle.line.proofs.Calls.{gives-back}
@@ -50,7 +50,8 @@ unfolding over
 at-start new run e = take-at new (drop (length new) run) _ e
 
 module _ (s : SendCall) (r : ReceiveCall) (sends : MeetsSend s) (sent : s .answer .refusal ≡ 0) (same : InSettings (s .state) (r .state))
-    (arrived : r .cell ≡ s .written) (receives : MeetsReceive r) (received : r .answer .refusal ≡ 0) (bare : formatIn s .«overhead_bits» ≡ 0)
+    (arrived : r .cell ≡ s .written) (receives : MeetsReceive r) (received : r .answer .refusal ≡ 0)
+    (bare : S.formatNow (s .state) .«overhead_bits» ≡ 0)
   where
     none-missing : r .answer .missing ≡ 0
     unfolding R.receivedOf
@@ -72,7 +73,7 @@ module _ (s : SendCall) (r : ReceiveCall) (sends : MeetsSend s) (sent : s .answe
         ap₂ take many (left ∙ ap (λ (n : ℕ). over (replicate n 0 ++ sent-run) run) none) ∙ at-start sent-run run long
 
     -- the sender took the values, and so does the export
-    small : valuesRefused (formatIn s) (s .samples) (s .ancillary) ≡ false
+    small : valuesRefused (S.formatNow (s .state)) (s .samples) (s .ancillary) ≡ false
     unfolding S.sendRefusal S.valuesRefused valuesRefused
     small =
         let later = past-both _ _ (sym (sent-refusal s sends) ∙ sent) .1 in

@@ -7,8 +7,6 @@ use Prim.Native.Nat.{ℕ, _+_, _*_, _≤_, _<_}
 use lib.Dec.{eqb, leb, ltb}
 use lib.ListN.{length, getD, replicate}
 use Rattle.runs.specs.Runs.{over}
-use Rattle.formats.specs.declared.Format.{Format}
-use Rattle.formats.specs.Formats.{formatOf}
 use Rattle.cells.specs.Sent.{SentCell}
 use Rattle.sender.specs.declared.Sender.{Sender}
 use Rattle.sender.specs.Sender as S
@@ -39,22 +37,18 @@ pub record SentNothing (c : SendCall) : Type 0 where
   pub state-as-given : c .answer .state ≡ c .state
   pub cell-as-lent : c .written ≡ c .cell
 
-pub record ReceivedNothing (c : ReceiveCall) : Type 0 where
-  pub state-as-given : c .answer .state ≡ c .state
-  pub samples-as-lent : c .samples-after ≡ c .samples
-  pub ancillary-as-lent : c .ancillary-after ≡ c .ancillary
-  pub marks-as-lent : c .marks-after ≡ c .marks
-  pub none-missing : c .answer .missing ≡ 0
-  pub no-number : c .answer .number ≡ 0
-  pub no-second : c .answer .second ≡ 0
-  pub no-indication : c .answer .indication ≡ false
-
 pub record JudgedNothing (state : Receiver) (r : Received) : Type 0 where
   pub state-as-given : r .state ≡ state
   pub none-missing : r .missing ≡ 0
   pub no-number : r .number ≡ 0
   pub no-second : r .second ≡ 0
   pub no-indication : r .indication ≡ false
+
+pub record ReceivedNothing (c : ReceiveCall) : Type 0 where
+  pub nothing-answered : JudgedNothing (c .state) (c .answer)
+  pub samples-as-lent : c .samples-after ≡ c .samples
+  pub ancillary-as-lent : c .ancillary-after ≡ c .ancillary
+  pub marks-as-lent : c .marks-after ≡ c .marks
 
 -- "A mark above 2, .. is refused": the block is as it was lent, and 24 zeros go out with neither yes nor no
 pub record SteppedNothing (block : Block) (r : Stepped) : Type 0 where
@@ -73,14 +67,10 @@ pub record ReadNothing (r : Record) : Type 0 where
   pub no-start : r .start ≡ 0
   pub no-next : r .next ≡ 0
 
--- the format of a sent cell
-abbrev pub formatIn : SendCall → Format
-formatIn s = formatOf (s .state .format)
-
 -- "Cells, number protection, data protection and placement are document 01's"
 abbrev pub IsDocument01's : SendCall → Type 0
 IsDocument01's s =
-    SentCell (formatIn s) (eqb (s .state .order) 1) (s .state .channels) (S.timesNow (s .state)) (s .state .number)
+    SentCell (S.formatNow (s .state)) (eqb (s .state .order) 1) (s .state .channels) (S.timesNow (s .state)) (s .state .number)
     (S.secondNow (s .state) (s .indication)) (s .samples) (s .ancillary) (s .written)
 
 -- "a receiver in the sender's settings"
@@ -99,5 +89,5 @@ pub record GivesBack (s : SendCall) (r : ReceiveCall) : Type 0 where
 -- beside it, of a format with overhead: the receiver reports the cell's number and its second number
 pub record Tells (s : SendCall) (r : ReceiveCall) : Type 0 where
   pub number-told : r .answer .number ≡ s .state .number
-  pub second-told : 12 ≤ formatIn s .slots → r .answer .second ≡ S.secondNow (s .state) (s .indication)
-  pub no-second-told : formatIn s .slots < 12 → r .answer .second ≡ 0
+  pub second-told : 12 ≤ S.formatNow (s .state) .slots → r .answer .second ≡ S.secondNow (s .state) (s .indication)
+  pub no-second-told : S.formatNow (s .state) .slots < 12 → r .answer .second ≡ 0

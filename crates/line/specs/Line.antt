@@ -15,8 +15,10 @@ use Rattle.sender.specs.Sender as S
 use Rattle.receiver.specs.declared.Receiver.{Receiver}
 use Rattle.receiver.specs.declared.Ready.{Ready}
 use Rattle.receiver.specs.Receiver as R
+use Rattle.reading.specs.Records.{Whole as Arrival}
+use Rattle.reading.specs.Totals.{totalOf, countOf, Each}
 use Rattle.line.specs.Contracts.{SendCall, ReceiveCall, MeetsOpenReceiver}
-use Rattle.line.specs.Demands.{receiveTable, formatIn}
+use Rattle.line.specs.Demands.{receiveTable}
 
 -- calls in a row: the first starts in this state, each later one in the state that the one before it answered, and each is as the
 -- box promises
@@ -53,14 +55,9 @@ pub record Trip : Type 0 where
   pub sent : SendCall
   pub fate : Fate
 
--- something holds of each in a list
-unfoldable pub Each : {A : Type 0} → (A → Type 0) → List A → Type 0
-Each Holds [] = Unit {0}
-Each Holds (x ∷ xs) = Holds x × Each Holds xs
-
 -- how many of the first eight sequencing bits of a sent cell differ in the octets that came
 abbrev pub alteredIn : SendCall → List ℕ → ℕ
-alteredIn s came = ones (bitXor (eightIn (formatIn s) (s .written)) (eightIn (formatIn s) came))
+alteredIn s came = ones (bitXor (eightIn (S.formatNow (s .state)) (s .written)) (eightIn (S.formatNow (s .state)) came))
 
 -- "one, two or three of the first eight sequencing bits and perhaps anything else"; `most` is the three
 abbrev pub Fair : ℕ → SendCall → Fate → Type 0
@@ -73,11 +70,7 @@ unfoldable pub longest : ℕ → List Trip → ℕ
 longest k [] = k
 longest k (t ∷ ts) = cond (isLost (t .fate)) (longest (suc k) ts) (max k (longest 0 ts))
 
--- what arrives: octets and an indication
-pub record Arrival : Type 0 where
-  pub cell : List ℕ
-  pub indication : Bool
-
+-- what arrives: an indication and octets, as a record of a log has them; a spoiled cell may come with any number of octets
 abbrev pub arrivalOf : SendCall → Fate → List Arrival
 arrivalOf s dropped = []
 arrivalOf s (spoiled came indication again) = replicate (suc again) (record { cell = came; indication = indication })
@@ -134,11 +127,6 @@ unfoldable pub toLast : List Trip → List Trip
 toLast [] = []
 toLast (t ∷ ts) = cond (allLost (t ∷ ts)) [] (t ∷ toLast ts)
 
--- a place among cells is counted from 0: "the last unaltered cell's place .., plus 1, or 0 where no cell came unaltered"
-unfoldable pub pastLast : List Trip → ℕ
-pastLast [] = 0
-pastLast (t ∷ ts) = cond (allLost (t ∷ ts)) 0 (suc (pastLast ts))
-
 -- the state that calls in a row leave
 unfoldable pub leftBy : Receiver → List ReceiveCall → Receiver
 leftBy st [] = st
@@ -162,10 +150,10 @@ OverTheLine most row cells SendBox ReceiveBox Holds =
     → Holds (R.openState (st .format) (st .channels) (st .order)) trips receives
 
 -- what demand 3 says of it. Request 5: "this number is the last unaltered cell's place counted from the first unaltered one, plus
--- 1, or 0 where no cell came unaltered"
+-- 1, or 0 where no cell came unaltered"; places are counted from 0, so it is how many cells there are from the first to the last
 pub record ComesOut (fresh : Receiver) (trips : List Trip) (receives : List ReceiveCall) : Type 0 where
   pub handed-out : handed receives ≡ flatMap placesOf (toLast (fromFirst trips))
-  pub counted : leftBy fresh receives .count ≡ pastLast (fromFirst trips)
+  pub counted : leftBy fresh receives .count ≡ length (toLast (fromFirst trips))
 
 -- Demand 3 of two boxes
 unfoldable pub Demand3 : ℕ → ℕ → ℕ → (SendCall → Type 0) → (ReceiveCall → Type 0) → Type 0
@@ -182,21 +170,11 @@ refusalsOf dropped = []
 refusalsOf (spoiled came indication again) = replicate (suc again) (cond (eqb (length came) 48) 8 5)
 refusalsOf (unaltered again) = 0 ∷ replicate again 9
 
--- Request 5 of a receiver: "it equals the sound cells plus the missing counts of the calls made since the state was opened". A sum
--- over calls, 1 for a call that took its cell, and the missing count that a call answered:
-unfoldable pub total : (ReceiveCall → ℕ) → List ReceiveCall → ℕ
-total number [] = 0
-total number (c ∷ cs) = number c + total number cs
-
-abbrev pub soundBy : ReceiveCall → ℕ
-soundBy c = cond (eqb (c .answer .refusal) 0) 1 0
-
-abbrev pub missingBy : ReceiveCall → ℕ
-missingBy c = c .answer .missing
-
+-- Request 5 of a receiver: "it equals the sound cells plus the missing counts of the calls made since the state was opened"; a call
+-- that isn't refused took a sound cell
 unfoldable pub CountsCells : (ReceiveCall → Type 0) → Type 0
 CountsCells Box =
     (octet channels order : ℕ) (opening : Ready) (calls : List ReceiveCall)
     → MeetsOpenReceiver octet channels order opening
     → Receiving Box (opening .state) calls
-    → leftBy (opening .state) calls .count ≡ total soundBy calls + total missingBy calls
+    → leftBy (opening .state) calls .count ≡ countOf (λ c. eqb (c .answer .refusal) 0) calls + totalOf (λ c. c .answer .missing) calls

@@ -11,8 +11,8 @@ use Rattle.sender.specs.declared.Sender.{Sender}
 use Rattle.log.specs.declared.keep.Kept.{Kept}
 use Rattle.reading.specs.Heard.{Heard, soundIn, missingIn, refusedIn, refusedWith, markedWith, keptOf}
 use Rattle.reading.specs.Reading.{readingOf}
-use Rattle.reading.specs.Records.{Whole, octetsIn}
-use Rattle.reading.specs.Totals.{totalOf, countOf, those}
+use Rattle.reading.specs.Records.{Whole as Arrival, octetsIn}
+use Rattle.reading.specs.Totals.{totalOf, countOf, those, Each}
 use Rattle.listing.specs.Lines.{formatLine, endLine}
 use Rattle.listing.specs.List.{linesOf, listOf}
 use Rattle.saving.specs.Salvage.{newLog}
@@ -27,10 +27,8 @@ use Rattle.line.specs.Line.{
   unaltered,
   isLost,
   Trip,
-  Each,
   Fair,
   longest,
-  Arrival,
   arrivals,
   Place,
   places,
@@ -78,7 +76,7 @@ pub record LogOf (st : Sender) (came : List Arrival) (log : List ℕ) : Type 0 w
 abbrev pub isUnaltered : Trip → Bool
 isUnaltered t = not (isLost (t .fate))
 
-abbrev pub firstDelivery : Trip → Whole
+abbrev pub firstDelivery : Trip → Arrival
 firstDelivery t = record { indication = t .sent .indication; cell = t .sent .written }
 
 -- how often a spoiled cell was delivered, and how many copies of an unaltered one beside the first
