@@ -21,7 +21,7 @@ help:
 	@echo '  make clean            remove all that was built'
 	@echo 'to work on it'
 	@echo '  make                  prove every crate that changed, and build the programs'
-	@echo '  make test             the gate: prove all from nothing, try the must-fail edits, run every test; 14 to 23 minutes'
+	@echo '  make test             the gate: prove all from nothing, try the must-fail edits, run every test; 14 to 34 minutes'
 	@echo '  make mutants          try the wrong programs of tests/mutants; CRATES="sender log" for some crates'
 	@echo '  make fuzz             compare N=1000000 calls with another implementation, from SEED=2; memory checks'
 	@echo '  make sheet-19         one sheet over 626 MB, by the call and by the program: refused 19; a record less is given'
@@ -71,7 +71,7 @@ install:
 	done
 
 test:
-	@echo 'The gate: 14 to 23 minutes on two cores with nothing beside it.'
+	@echo 'The gate: 14 to 34 minutes on two cores with nothing beside it.'
 	.ci/run
 
 mutants:
