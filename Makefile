@@ -7,7 +7,7 @@ PROGRAMS := $(filter $(notdir $(wildcard crates/*)),linelist anything salvage sh
 .PHONY: all help programs demo lib examples install test mutants tables reading clean
 
 all:
-	@echo 'Proves every crate that changed and builds the programs: some 7 minutes from nothing, on two cores. `make help` has more.'
+	@echo 'Proves every crate that changed and builds the programs: up to 13 minutes from nothing, on two cores. `make help` has more.'
 	@bash tools/prove.sh check
 
 help:
