@@ -15,7 +15,7 @@ help:
 	@echo '  make demo             a reading made on the spot into a log, some cells lost, and back; without the proof: seconds'
 	@echo '  make desk             build the desk tool over the proved library: target/desk/rimesatchel'
 	@echo '  make programs         prove and build the programs: $(PROGRAMS); up to 8 minutes from nothing, on two cores'
-	@echo '  make lib              prove and build the archive and the shared library: up to 11 minutes from nothing'
+	@echo '  make lib              prove and build the archive and the shared library: up to 15 minutes from nothing'
 	@echo '  make examples         build and run the examples in C, Rust and Python'
 	@echo '  make install          header, archive, shared library, programs, pkg-config file, man pages; PREFIX=/usr/local'
 	@echo '  make clean            remove all that was built'

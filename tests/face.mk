@@ -40,7 +40,7 @@ BENCH_FLAGS := -O3 -std=gnu11 $(WARNINGS) -falign-functions=64 -falign-loops=32
 SOURCES := $(shell find crates -name '*.rt' -o -name '*.antt') crates.txt
 ifeq ($(RIME_LIB),$(CURDIR)/target/staticlib)
 $(ARCHIVE) $(MANAGEMENT): $(RIME_LIB)/lib%.a: $(SOURCES)
-	@echo 'Proves $* and what it needs, and writes its archive: up to 11 minutes from nothing, on two cores.'
+	@echo 'Proves $* and what it needs, and writes its archive: up to 15 minutes from nothing, on two cores.'
 	@bash tools/prove.sh staticlib $*
 endif
 
