@@ -75,9 +75,8 @@ static void measure(const struct format *format, uint8_t *octets, size_t records
         take_least(&floor, by_floor(octets, length));
     }
     compare(format);
-    const char *judged = ours / plain > MOST_OF_PLAIN ? "  above" : "";
-    printf("%02X hex  %8.4f s  %8.4f s  %8.4f s  %5.2f%s\n", format->octet, ours, plain, floor, ours / plain,
-           format->overhead ? judged : "  no marks to count");
+    printf("%02X hex  %8.4f s  %8.4f s  %8.4f s  %5.2f%s%s\n", format->octet, ours, plain, floor, ours / plain,
+           ours / plain > MOST_OF_PLAIN ? "  above" : "", format->overhead ? "" : "  (no marks to count)");
 }
 
 int main(void) {
@@ -87,8 +86,7 @@ int main(void) {
         fputs("sheet: no memory for a log of 64 MiB\n", stderr);
         return 1;
     }
-    puts("a sheet over 64 MiB; ratio: rime_sheet / plain C");
-    printf("asked: at most %.2f, where there are marks to count\n", MOST_OF_PLAIN);
+    printf("a sheet over 64 MiB; ratio: rime_sheet / plain C (asked: at most %.2f)\n", MOST_OF_PLAIN);
     printf("        rime_sheet     plain C       floor  ratio\n");
     for (size_t at = 0; at < FORMATS; at++) measure(&formats[at], octets, records);
     free(octets);
