@@ -39,7 +39,8 @@ BENCH_FLAGS := -O3 -std=gnu11 $(WARNINGS) -falign-functions=64 -falign-loops=32
 
 .PHONY: face-build face-test face-compare face-near face-examples face-bindings face-archive fuzz
 .NOTPARALLEL:
-.PHONY: bench-needs bench-build bench bench-count bench-table bench-keep bench-guard bench-list bench-anything bench-salvage bench-sheet fuzz-list sheet-19
+.PHONY: bench-build bench bench-count bench-table bench-keep bench-guard bench-list bench-anything bench-salvage bench-sheet fuzz-list sheet-19
+.PHONY: bench-needs
 
 # The archives of this repository are made anew where a source is newer, so that nothing is measured or compared that isn't in the
 # crates. Those of another folder are taken as they are.

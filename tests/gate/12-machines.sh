@@ -31,7 +31,8 @@ done
 refused riscv64 make --no-print-directory lib TARGET=riscv64
 refused '32' make --no-print-directory lib TARGET=armv7l
 if setarch i686 true 2> /dev/null; then # a machine that is neither
-    for command in 'make demo' 'make lib' .ci/run 'python3 tools/quick_face.py' 'bash tools/quick.sh linelist' 'bash bench/trial.sh'; do
+    for command in 'make demo' 'make lib' .ci/run 'python3 tools/quick_face.py' 'bash tools/quick.sh linelist' \
+        'bash bench/trial.sh'; do
         # shellcheck disable=SC2086
         refused 'needs Linux on x86_64 or aarch64' setarch i686 $command
     done

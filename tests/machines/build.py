@@ -45,8 +45,9 @@ def near(number, name, types, answer):
             words.append(f'{{n{place}, 0, 0}}')
             lent.append('NULL')
     assert len(words) <= 16, f'{name} takes more words than far.c passes on'
-    return (f'{TYPES[answer][0]} {name}({", ".join(takes)})\n{{\n    struct word words[] = {{{", ".join(words)}}};\n'
-            f'    void *lent[] = {{{", ".join(lent)}}};\n    return ({TYPES[answer][0]})call({number}, words, lent, {len(words)});\n}}\n')
+    given = TYPES[answer][0]
+    return (f'{given} {name}({", ".join(takes)})\n{{\n    struct word words[] = {{{", ".join(words)}}};\n'
+            f'    void *lent[] = {{{", ".join(lent)}}};\n    return ({given})call({number}, words, lent, {len(words)});\n}}\n')
 
 
 def build_near(folder):
@@ -73,8 +74,8 @@ def build_far(machine, folder, program):
         table, far, listed = (pathlib.Path(room) / name for name in ('table.c', 'far.o', 'table.o'))
         table.write_text('\n'.join(f'void {name}(void);' for name in names)
                          + f'\nvoid (*const functions[])(void) = {{{", ".join(names)}}};\n', encoding='utf-8')
-        clang = [tools / 'clang', f'--target={machine}-unknown-linux-gnu', '--no-default-config', '-std=c11', '-O2', '-fno-builtin',
-                 '-ffreestanding', '-fno-stack-protector', '-Wall', '-Wextra', '-Werror', '-c']
+        clang = [tools / 'clang', f'--target={machine}-unknown-linux-gnu', '--no-default-config', '-std=c11', '-O2',
+                 '-ffreestanding', '-fno-builtin', '-fno-stack-protector', '-Wall', '-Wextra', '-Werror', '-c']
         subprocess.run(clang + [HERE / 'far.c', '-o', far], check=True)
         subprocess.run(clang + [table, '-o', listed], check=True)
         program.parent.mkdir(parents=True, exist_ok=True)

@@ -61,14 +61,14 @@ struct word {
     word number, lent, written;
 };
 enum { WORDS = 16 };
-typedef word any_function(word, word, word, word, word, word, word, word, word, word, word, word, word, word, word, word);
-extern any_function *const functions[];
+typedef word any(word, word, word, word, word, word, word, word, word, word, word, word, word, word, word, word);
+extern any *const functions[];
 static char room[1 << 28] __attribute__((aligned(16)));
 
 /* Each word goes over whole, whatever the function's own type has of it: so what stands above a narrow number gets there too. */
-static word call(word function, const word *a)
+static word call(any *function, const word *a)
 {
-    return functions[function](a[0], a[1], a[2], a[3], a[4], a[5], a[6], a[7], a[8], a[9], a[10], a[11], a[12], a[13], a[14], a[15]);
+    return function(a[0], a[1], a[2], a[3], a[4], a[5], a[6], a[7], a[8], a[9], a[10], a[11], a[12], a[13], a[14], a[15]);
 }
 
 __attribute__((used, noreturn)) static void begin(void)
@@ -87,7 +87,7 @@ __attribute__((used, noreturn)) static void begin(void)
             move(READ, room + place, words[i].number);
             place = (place + words[i].number + 15) & ~(word)15;
         }
-        word answer = call(head[0], given);
+        word answer = call(functions[head[0]], given);
         move(WRITE, &answer, sizeof answer);
         for (word i = 0; i < head[1]; i++)
             if (words[i].written) move(WRITE, (void *)given[i], words[i].number);

@@ -1,5 +1,5 @@
-/* The library's functions for the comparison, each of which has the call made elsewhere: by the program far.c, which the command in
- * the environment's RIME_FAR starts, on this machine or on another one's emulator. build.py writes the functions below this.
+/* The library's functions for the comparison, each of which has the call made elsewhere: by the program far.c, which the command
+ * in the environment's RIME_FAR starts, on this machine or on the other one's emulator. build.py writes the functions below this.
  *
  * Above each narrow number stands dirt: no caller has to clear it, by the rules of both machines. */
 #include <stdbool.h>
@@ -35,7 +35,8 @@ static int far_end(void)
 static void move(bool out, void *at, size_t octets)
 {
     for (size_t done = 0; done < octets;) {
-        ssize_t count = out ? write(far_end(), (char *)at + done, octets - done) : read(far_end(), (char *)at + done, octets - done);
+        char *next = (char *)at + done;
+        ssize_t count = out ? write(far_end(), next, octets - done) : read(far_end(), next, octets - done);
         if (count <= 0) {
             fprintf(stderr, "near: %s ended\n", getenv("RIME_FAR"));
             exit(2);
