@@ -4,7 +4,7 @@ PREFIX ?= /usr/local
 DESTDIR ?=
 PROGRAMS := $(filter $(notdir $(wildcard crates/*)),linelist anything salvage sheet)
 
-.PHONY: all help programs demo lib examples install test mutants tables reading clean
+.PHONY: all help programs demo lib module examples install test mutants tables reading clean
 
 all:
 	@echo 'Proves every crate that changed and builds the programs: up to 13 minutes from nothing, on two cores. `make help` has more.'
@@ -16,11 +16,13 @@ help:
 	@echo '  make desk             build the desk tool over the proved library: target/desk/rimesatchel'
 	@echo '  make programs         prove and build the programs: $(PROGRAMS); up to 8 minutes from nothing, on two cores'
 	@echo '  make lib              prove and build the archive and the shared library: up to 15 minutes from nothing'
+	@echo '  make lib TARGET=..    the archives for the other machine, x86_64 or aarch64, of the same proved modules: target/TARGET'
 	@echo '  make examples         build and run the examples in C, Rust and Python'
 	@echo '  make install          header, archive, shared library, programs, pkg-config file, man pages; PREFIX=/usr/local'
 	@echo '  make clean            remove all that was built'
 	@echo 'to work on it'
 	@echo '  make                  prove every crate that changed, and build the programs'
+	@echo '  make module           the LLVM modules that the archives were compiled from: target/module/NAME.bc'
 	@echo '  make test             the gate: prove all from nothing, try the must-fail edits, run every test; 14 to 34 minutes'
 	@echo '  make mutants          try the wrong programs of tests/mutants; CRATES="sender log" for some crates'
 	@echo '  make fuzz             compare N=1000000 calls with another implementation, from SEED=2; memory checks'
@@ -30,13 +32,28 @@ help:
 	@echo '  make bench            speed beside plain C: instructions and nanoseconds; ROWS=56-C2 for some rows'
 	@echo '  make bench-count      the same, instructions alone'
 	@echo '  make bench-table      write the tables of docs/SPEED.md anew: instructions'
-	@echo '  make bench-keep       write the guarded rows of bench/instructions.txt anew'
+	@echo '  make bench-keep       write the guarded rows of bench/instructions-MACHINE.txt anew'
 	@echo '  bash bench/trial.sh   instructions of the crates as they stand, without proving them'
 	@echo '  make tables           write the tables of crates/tables and crates/guards anew'
 	@echo '  make reading          count the lines that must be read to trust the demands'
 
 include tests/face.mk
 include desk/desk.mk
+
+# rt builds for x86-64. Elsewhere what an rt by hand left in target/ isn't taken for built (tools/native.py).
+ifneq ($(MACHINE),x86_64)
+$(shell python3 tools/native.py >&2)
+endif
+
+# The machine that `make lib` builds for.
+TARGET ?= $(MACHINE)
+LIBRARIES := rimesatchel management
+ifneq ($(filter lib,$(MAKECMDGOALS)),)
+REFUSED := $(filter-out $(TARGET),$(shell python3 tools/native.py machine '$(TARGET)' 2>&1))
+ifneq ($(REFUSED),)
+$(error $(REFUSED))
+endif
+endif
 
 programs: $(PROGRAMS:%=target/bin/%)
 	@echo 'programs: $^'
@@ -48,8 +65,21 @@ $(PROGRAMS:%=target/bin/%) &: $(SOURCES)
 # These run the programs as well as the library.
 fuzz fuzz-list sheet-19 bench bench-list bench-anything bench-salvage: $(PROGRAMS:%=target/bin/%)
 
+ifeq ($(TARGET),$(MACHINE))
 lib: $(ARCHIVE) $(MANAGEMENT) $(SHARED) $(SHARED_MANAGEMENT)
+else
+lib: $(LIBRARIES:%=target/$(TARGET)/lib%.a)
+endif
 	@echo 'library: $(^:$(CURDIR)/%=%)'
+
+target/$(TARGET)/lib%.a: target/module/%.bc tools/native.py
+	@python3 tools/native.py archive $* $(TARGET)
+
+module: $(LIBRARIES:%=target/module/%.bc)
+	@echo 'module: $^'
+
+target/module/%.bc: $(CURDIR)/target/staticlib/lib%.a
+	@python3 tools/native.py module $*
 
 examples: face-examples
 

@@ -16,6 +16,7 @@
 #include <string.h>
 #include <time.h>
 
+#include "counting.h"
 #include "formats.h"
 #include "frames.h"
 #include "plain.h"
@@ -197,7 +198,7 @@ static void measure(const struct row *row) {
     printf("%s %.1f %.1f %.1f\n", name, proved_ns, plain_ns, copy_ns);
 }
 
-/* What callgrind counts: it starts and stops at this function, by its name. */
+/* What callgrind counts. */
 __attribute__((noipa)) static uint8_t counted(struct bench *bench, const struct who *who, size_t calls) {
     return call_many(bench, who, calls);
 }
@@ -209,8 +210,8 @@ static void count(const struct row *row) {
     for (size_t which = 0; which < 2; which++) {
         prepare(&bench, row);
         uint8_t refusals = call_many(&bench, both[which], CELLS);
-        refusals |= counted(&bench, both[which], CELLS);
-        refusals |= counted(&bench, both[which], 2 * CELLS);
+        COUNTED(refusals |= counted(&bench, both[which], CELLS));
+        COUNTED(refusals |= counted(&bench, both[which], 2 * CELLS));
         insist(refusals == RIME_DONE, row, "a counted call was refused");
     }
     name_row(row);

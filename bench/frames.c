@@ -6,6 +6,7 @@
 #include <string.h>
 #include <time.h>
 
+#include "counting.h"
 #include "plain.h"
 #include "rimesatchel.h"
 
@@ -124,7 +125,7 @@ static void measure(size_t row) {
     printf("%s %.1f %.1f %.1f\n", names[row], proved_ns, plain_ns, copy_ns);
 }
 
-/* What callgrind counts: it starts and stops at this function, by its name. */
+/* What callgrind counts. */
 __attribute__((noipa)) static uint8_t counted(struct frame *frames, const struct who *who, size_t row, size_t calls) {
     return call_many(frames, who, row, calls);
 }
@@ -135,8 +136,8 @@ static void count(size_t row) {
     for (size_t which = 0; which < 2; which++) {
         prepare(frames);
         uint8_t refusals = call_many(frames, both[which], row, FRAMES);
-        refusals |= counted(frames, both[which], row, FRAMES);
-        refusals |= counted(frames, both[which], row, 2 * FRAMES);
+        COUNTED(refusals |= counted(frames, both[which], row, FRAMES));
+        COUNTED(refusals |= counted(frames, both[which], row, 2 * FRAMES));
         if (refusals != RIME_DONE) abort();
     }
     puts(names[row]);

@@ -4,20 +4,24 @@
   run.py BENCH [ROWS]               the table, then the rows that are above what is asked
   run.py --count BENCH [ROWS]       instructions alone: a few seconds, and the same at every run
   run.py --page FILE BENCH          write the tables of instructions into FILE, which is docs/SPEED.md
-  run.py --guard FILE BENCH         hold the rows that FILE names to its numbers: fails where one is more than 3 % above
+  run.py --guard FILE BENCH         hold the rows that FILE names to its numbers: fails where one is more than 3 % above, or 10 %
+                                    where FILE was measured over other sources of the crates
   run.py --keep FILE BENCH          write today's numbers into FILE
 
 BENCH is the program of bench.c. ROWS is a pattern that picks rows by name. It makes some calls of each row, all in one
 process under callgrind, which writes one count for each batch of calls.
 """
 import argparse
+import hashlib
 import os
+import pathlib
 import re
 import shutil
 import subprocess
 import sys
 import tempfile
 
+ROOT = pathlib.Path(__file__).resolve().parent.parent
 CELLS = 16  # calls in a batch, as in bench.c
 RECORDS = 1024  # records of a log, as in walks.c
 WALKS = ('sheet', 'anything', 'list', 'salvage')  # calls that go through a log: told for one record
@@ -33,12 +37,14 @@ PART_OF_PLAIN_UNITS = 0.55  # rows of data units: export and read
 # Rows of calls that go through a log. Of plain C's time 0.40 is asked of a sheet (sheet.c). Of a salvage nothing is asked.
 PART_OF_PLAIN_WALKS = {'sheet': 0.70, 'anything': 1.0, 'list': 1.0, 'salvage': float('inf')}
 
-# How far a guarded row may be from its number.
+# How far a guarded row may be from its number; and where the number was measured over other sources, as after a change that was
+# measured on the other machine alone.
 MARGIN = 0.03
+MARGIN_ELSEWHERE = 0.10
 
-# callgrind counts each octet of the processor's own repeated store. glibc uses it for long gaps; this number says from
-# how many octets on.
-NO_REPEATED_STORE = 'glibc.cpu.x86_rep_stosb_threshold=1048576'
+# callgrind counts each octet of x86-64's own repeated store. glibc uses it for long gaps; this number says from how many octets
+# on. On AArch64 glibc chooses its stores by the processor's name.
+SAME_EVERYWHERE = 'glibc.cpu.x86_rep_stosb_threshold=1048576:glibc.cpu.name=generic'
 
 
 class Row:
@@ -75,9 +81,9 @@ def counted(bench, pattern):
         sys.exit('bench: valgrind is missing (apt-get install valgrind)')
     with tempfile.TemporaryDirectory() as folder:
         out = os.path.join(folder, 'counts')
-        names = printed_by(['valgrind', '--quiet', '--tool=callgrind', '--collect-atstart=no', '--toggle-collect=counted',
-                            '--dump-after=counted', '--combine-dumps=yes', f'--callgrind-out-file={out}', bench, 'count',
-                            pattern], env=dict(os.environ, GLIBC_TUNABLES=NO_REPEATED_STORE)).split()
+        names = printed_by(['valgrind', '--quiet', '--tool=callgrind', '--collect-atstart=no', '--combine-dumps=yes',
+                            f'--callgrind-out-file={out}', bench, 'count', pattern],
+                           env=dict(os.environ, GLIBC_TUNABLES=SAME_EVERYWHERE)).split()
         if not names:
             sys.exit(f'bench: no row is named like {pattern}')
         with open(out, encoding='utf-8') as file:
@@ -157,12 +163,25 @@ def print_summary(rows):
         print(f'  {row.name:26} {row.proved:.0f} instructions, {row.ratio:.3f} of plain C; asked at most {row.asked:.0f}')
 
 
+def sources():
+    """A checksum of what the library is compiled from."""
+    sys.path.insert(0, str(ROOT / 'tools'))
+    from quick_face import crates_of
+    paths = [path for crate in crates_of('rimesatchel') for path in (ROOT / 'crates' / crate / 'src').rglob('*.rt')]
+    total = hashlib.sha256()
+    for path in sorted(paths):
+        total.update(f'{path.relative_to(ROOT)} {path.stat().st_size}\n'.encode() + path.read_bytes())
+    return total.hexdigest()
+
+
 def read_kept(path):
-    """What FILE keeps: the lines of its head, and a number for each row."""
+    """What FILE keeps: the lines of its head, the checksum of the sources that it was measured over, and a number for each row."""
     with open(path, encoding='utf-8') as file:
         lines = file.read().splitlines()
     head = [line for line in lines if line.startswith('#')]
-    return head, {line.split()[0]: float(line.split()[1]) for line in lines if line and not line.startswith('#')}
+    kept = {line.split()[0]: line.split()[1] for line in lines if line and not line.startswith('#')}
+    measured = kept.pop('sources', '')
+    return head, measured, {name: float(number) for name, number in kept.items()}
 
 
 def counted_like(kept, bench):
@@ -174,16 +193,20 @@ def counted_like(kept, bench):
 
 
 def guard(path, bench):
-    _, kept = read_kept(path)
+    _, measured, kept = read_kept(path)
     rows = counted_like(kept, bench)
-    above = False
+    above, margin = False, MARGIN
+    if measured != sources():
+        margin = MARGIN_ELSEWHERE
+        print(f'{path} was measured over other sources than the crates have now: {100 * margin:.0f} % more are let pass. '
+              '`make bench-keep` measures anew')
     for name, number in kept.items():
         change = rows[name].proved / number - 1
         line = f'{name:26} {rows[name].proved:6.0f} instructions per cell, kept {number:.0f}: {100 * change:+.1f} %'
-        if change > MARGIN:
+        if change > margin:
             above = True
-            line += f'  SLOWER by more than {100 * MARGIN:.0f} %'
-        elif change < -MARGIN:
+            line += f'  SLOWER by more than {100 * margin:.0f} %'
+        elif change < -margin:
             line += f'  faster: `make bench-keep` writes the new number to {path}'
         print(line)
     if above:
@@ -192,10 +215,11 @@ def guard(path, bench):
 
 
 def keep(path, bench):
-    head, kept = read_kept(path)
+    head, _, kept = read_kept(path)
     rows = counted_like(kept, bench)
     with open(path, 'w', encoding='utf-8') as file:
-        file.write('\n'.join(head + [f'{name:26} {rows[name].proved:.0f}' for name in kept]) + '\n')
+        lines = [f'{"sources":26} {sources()}'] + [f'{name:26} {rows[name].proved:.0f}' for name in kept]
+        file.write('\n'.join(head + lines) + '\n')
 
 
 def main():

@@ -8,6 +8,7 @@ set -eu -o pipefail
 export LC_ALL=C
 cd "$(dirname "$0")/.."
 python3 tools/quick_face.py
+bash tests/need.sh valgrind
 mkdir -p target/trial
 gcc -O3 -std=gnu11 -Wall -Wextra -falign-functions=64 -falign-loops=32 -Iinclude -Ibench \
     bench/{bench,formats,frames,logs,plain,plainsheet,plainwalks,units,walks}.c target/quick/lib/librimesatchel.a -o target/trial/bench

@@ -7,6 +7,7 @@
 #include <string.h>
 #include <time.h>
 
+#include "counting.h"
 #include "plain.h"
 #include "rimesatchel.h"
 
@@ -150,7 +151,7 @@ static void measure(const struct row *row, const char *name) {
     printf("%s %.1f %.1f %.1f\n", name, proved_ns, plain_ns, copy_ns);
 }
 
-/* What callgrind counts: it starts and stops at this function, by its name. */
+/* What callgrind counts. */
 __attribute__((noipa)) static uint8_t counted(struct bench *bench, const struct who *who, size_t calls) {
     return call_many(bench, who, calls);
 }
@@ -161,8 +162,8 @@ static void count(const struct row *row, const char *name) {
     for (size_t which = 0; which < 2; which++) {
         prepare(&bench, row);
         uint8_t refusals = call_many(&bench, both[which], CALLS);
-        refusals |= counted(&bench, both[which], CALLS);
-        refusals |= counted(&bench, both[which], 2 * CALLS);
+        COUNTED(refusals |= counted(&bench, both[which], CALLS));
+        COUNTED(refusals |= counted(&bench, both[which], 2 * CALLS));
         insist(refusals == RIME_DONE, row, "a counted call was refused");
     }
     puts(name);

@@ -12,6 +12,7 @@
 #include <string.h>
 #include <time.h>
 
+#include "counting.h"
 #include "formats.h"
 #include "logs.h"
 #include "plainsheet.h"
@@ -150,7 +151,7 @@ static void measure(const struct row *row, const char *name) {
     printf("%s %.1f %.1f %.1f\n", name, proved_ns, plain_ns, copy_ns);
 }
 
-/* What callgrind counts: it starts and stops at this function, by its name. */
+/* What callgrind counts. */
 __attribute__((noipa)) static void counted(walk_function *function, size_t calls) {
     static struct left left;
     for (size_t call = 0; call < calls; call++) function(&left);
@@ -159,8 +160,8 @@ __attribute__((noipa)) static void counted(walk_function *function, size_t calls
 static void count(const struct row *row, const char *name) {
     walk_function *both[] = {row->kind->by_library, row->kind->by_plain};
     for (size_t which = 0; which < 2; which++) {
-        counted(both[which], CALLS);
-        counted(both[which], 2 * CALLS);
+        COUNTED(counted(both[which], CALLS));
+        COUNTED(counted(both[which], 2 * CALLS));
     }
     puts(name);
 }

@@ -14,6 +14,7 @@ ROWS ?= .
 
 ARCHIVE := $(RIME_LIB)/librimesatchel.a
 MANAGEMENT := $(RIME_LIB)/libmanagement.a
+COMPARE_DIR := target/compare
 COMPARE := target/compare/release/compare
 LINELIST := target/bin/linelist
 ANYTHING := target/bin/anything
@@ -21,6 +22,11 @@ EXAMPLES := target/examples
 SHARED := target/lib/librimesatchel.so
 SHARED_MANAGEMENT := target/lib/libmanagement.so
 VERSION := $(shell sed -n 's/^.define RIME_VERSION "\(.*\)"/\1/p' include/rimesatchel.h)
+MACHINE := $(shell python3 tools/native.py machine 2>&1)
+ifneq ($(words $(MACHINE)),1)
+$(error $(MACHINE))
+endif
+INSTRUCTIONS := bench/instructions-$(MACHINE).txt
 GATE_CALLS := 400000
 GATE_SEED := 1
 # Fewer than N: memcheck is slow.
@@ -31,9 +37,10 @@ WARNINGS := -Wall -Wextra
 # Aligned, the baseline doesn't change by where the linker happens to place its loops.
 BENCH_FLAGS := -O3 -std=gnu11 $(WARNINGS) -falign-functions=64 -falign-loops=32
 
-.PHONY: face-build face-test face-compare face-examples face-bindings face-archive fuzz
+.PHONY: face-build face-test face-compare face-near face-examples face-bindings face-archive fuzz
 .NOTPARALLEL:
 .PHONY: bench-build bench bench-count bench-table bench-keep bench-guard bench-list bench-anything bench-salvage bench-sheet fuzz-list sheet-19
+.PHONY: bench-needs
 
 # The archives of this repository are made anew where a source is newer, so that nothing is measured or compared that isn't in the
 # crates. Those of another folder are taken as they are.
@@ -48,7 +55,12 @@ face-archive: $(ARCHIVE) $(MANAGEMENT)
 
 face-compare:
 	RIMESATCHEL_LIB=$(RIME_LIB) cargo build --quiet --offline --locked --release --no-default-features \
-	    --features "$(RIME_PARTS)" --manifest-path tests/compare/Cargo.toml --target-dir target/compare
+	    --features "$(RIME_PARTS)" --manifest-path tests/compare/Cargo.toml --target-dir $(COMPARE_DIR)
+
+# The same comparison, but its calls are made by another program, for this machine or for the other one: tests/gate/12-machines.sh.
+face-near:
+	python3 tests/machines/build.py near target/machines
+	$(MAKE) --no-print-directory -f tests/face.mk face-compare RIME_LIB=$(CURDIR)/target/machines COMPARE_DIR=target/machines/compare
 
 $(EXAMPLES)/handover-c: examples/c/handover.c include/rimesatchel.h $(ARCHIVE)
 	mkdir -p $(EXAMPLES)
@@ -113,7 +125,7 @@ face-bindings: $(ARCHIVE) $(SHARED) $(SHARED_MANAGEMENT)
 	@echo "bindings: the pages of the Rust crate and of the Python module say what is so"
 
 # Everything that links the archive. The gate builds it while `rt ci` goes on.
-face-build: face-compare $(EXAMPLES)/handover-c $(EXAMPLES)/handover-rust $(SHARED) $(SHARED_MANAGEMENT) \
+face-build: face-compare face-near $(EXAMPLES)/handover-c $(EXAMPLES)/handover-rust $(SHARED) $(SHARED_MANAGEMENT) \
     $(EXAMPLES)/cast-c $(EXAMPLES)/management-c target/bench/bench
 
 face-test: face-compare face-examples face-bindings
@@ -143,9 +155,13 @@ fuzz-list:
 	@echo "linelist: a log of $(LONG_OCTETS) octets is listed alike"
 
 BENCH_SOURCES := $(addprefix bench/,bench.c formats.c frames.c logs.c plain.c plainsheet.c plainwalks.c units.c walks.c)
-BENCH_HEADERS := $(addprefix bench/,formats.h frames.h logs.h plain.h plainlog.h plainsheet.h plainwalks.h units.h walks.h)
+BENCH_HEADERS := $(wildcard bench/*.h)
 
-target/bench/bench: $(BENCH_SOURCES) $(BENCH_HEADERS) include/rimesatchel.h $(ARCHIVE)
+# bench/counting.h includes its header.
+bench-needs:
+	@bash tests/need.sh valgrind
+
+target/bench/bench: $(BENCH_SOURCES) $(BENCH_HEADERS) include/rimesatchel.h $(ARCHIVE) | bench-needs
 	mkdir -p target/bench
 	gcc $(BENCH_FLAGS) -Iinclude -Ibench $(BENCH_SOURCES) $(ARCHIVE) -o $@
 
@@ -200,10 +216,11 @@ bench-count: bench-build
 	python3 bench/run.py --count target/bench/bench '$(ROWS)'
 
 bench-table: bench-build
+	@[ $(MACHINE) = x86_64 ] || { echo 'docs/SPEED.md has the tables of x86-64' >&2; exit 1; }
 	python3 bench/run.py --page docs/SPEED.md target/bench/bench
 
 bench-keep: bench-build
-	python3 bench/run.py --keep bench/instructions.txt target/bench/bench
+	python3 bench/run.py --keep $(INSTRUCTIONS) target/bench/bench
 
 bench-guard: target/bench/bench
-	python3 bench/run.py --guard bench/instructions.txt target/bench/bench
+	python3 bench/run.py --guard $(INSTRUCTIONS) target/bench/bench

@@ -9,7 +9,7 @@ cd "$(dirname "$0")/.." || exit 2
 log=target/prove.log
 mkdir -p target
 echo "what the prover says goes to $log; a line for each crate:"
-rt "$@" 2>&1 | tee "$log" | grep --line-buffered '^rt: ' | sed -u 's/^rt: /  /'
+python3 tools/native.py rt "$@" 2>&1 | tee "$log" | grep --line-buffered '^rt: ' | sed -u 's/^rt: /  /'
 status=${PIPESTATUS[0]}
 [ "$status" = 0 ] || {
     echo "not proved; the first errors of $log:" >&2

@@ -9,8 +9,9 @@ set -eu -o pipefail
 export LC_ALL=C
 program=$1
 here=$(cd "$(dirname "$0")/.." && pwd)
+machine=$(python3 "$here/tools/native.py" machine)
 home=$(dirname "$(dirname "$(rt doc)")")
-kit=$home/on/$(uname -m)
+kit=$home/on/$machine
 out=$here/target/quick
 rm -rf "$out"
 mkdir -p "$out/tools/bin"
@@ -29,11 +30,18 @@ exit 0
 SH
 cat > "$out/tools/bin/clang" <<SH
 #!/usr/bin/env bash
-case " \$* " in *' -O3 '*) touch "$out/at-O3" ;; esac
+case " \$* " in
+    *' -O3 '*)
+        touch "$out/at-O3"
+        for word in "\$@"; do case \$word in *.bc) cp "\$word" "$out/module.bc" ;; esac; done
+        ;;
+esac
 exec "$kit/toolchain/bin/clang" "\$@"
 SH
 chmod +x "$out/tools/bin/clang" "$out/tools/bin/ld.lld"
-ln -s "$kit/toolchain/bin/llvm-ar" "$out/tools/bin/llvm-ar"
+for tool in "$kit"/toolchain/bin/*; do
+    [ -e "$out/tools/bin/${tool##*/}" ] || ln -s "$tool" "$out/tools/bin/"
+done
 ln -s "$(readlink -f "$kit/toolchain/lib")" "$out/tools/lib"
 
 libraries=(--lib "std=$home/libs/std/src/lib.rt")
@@ -55,4 +63,6 @@ for stream in stdin stdout; do
 done
 "$kit/bin/rattle-cases" --toolchain "$out/tools" "${also[@]}" "$here/crates/$program/src/main.rt" --crate-name "$program" \
     "${libraries[@]}" > "$out/$program.log" 2>&1 || { cat "$out/$program.log" >&2; exit 1; }
-rm -rf "$out/tools" "$out/at-O3"
+# Elsewhere than on x86-64 the linked program isn't for this machine.
+[ "$machine" = x86_64 ] || python3 "$here/tools/native.py" build "$out/module.bc" "$out/$program"
+rm -rf "$out/tools" "$out/at-O3" "$out/module.bc"

@@ -1,36 +1,44 @@
 #!/usr/bin/env python3
 """Builds the library for C without any proof, in seconds: for a first look. `make lib` proves it.
 
-usage: quick_face.py      writes target/quick/lib/librimesatchel.a
+usage: quick_face.py [CRATE]      writes target/quick/lib/libCRATE.a; without a name librimesatchel.a
 
 The toolchain compiles only a program without proof, and a program exports nothing. So the face's functions become a program that
 calls each once, its LLVM module is taken from the compiler's hands, and functions for C are added to it.
 """
 import pathlib
-import platform
 import re
 import shutil
 import subprocess
+import sys
+
+import native
 
 HERE = pathlib.Path(__file__).resolve().parent.parent
-HOME = pathlib.Path(subprocess.run(['rt', 'doc'], capture_output=True, text=True, check=True).stdout.strip()).parent.parent
-KIT = HOME / 'on' / platform.machine()
+MACHINE = native.known_here()
+HOME = native.kit()
+KIT = HOME / 'on' / MACHINE
 OUT = HERE / 'target' / 'quick' / 'face'
 LIB = HERE / 'target' / 'quick' / 'lib'
-SCALARS = {'u8': 'i8 zeroext', 'u32': 'i32', 'u64': 'i64', 'usize': 'i64', 'bool': 'i1 zeroext'}
+SCALARS = {'u8': 'i8', 'u32': 'i32', 'u64': 'i64', 'usize': 'i64', 'bool': 'i1'}
 
 
-def functions():
-    """Of each function: its module, its name, its parameters' types, its answer's type."""
-    for path in sorted((HERE / 'crates' / 'rimesatchel' / 'src').glob('*.rt')):
+def sources(crate):
+    """The crate's modules. Its lib.rt only names them."""
+    return [path for path in sorted((HERE / 'crates' / crate / 'src').glob('*.rt')) if path.name != 'lib.rt']
+
+
+def functions(crate):
+    """Of each function for C: its module, its name, its parameters' types, its answer's type."""
+    for path in sources(crate):
         text = path.read_text(encoding='utf-8')
         for name, parameters, answer in re.findall(r'pub extern "C" fn (\w+)\(([^)]*)\) -> (\w+)', text):
             yield path.stem, name, [part.split(':', 1)[1].strip() for part in parameters.split(',') if ':' in part], answer
 
 
-def program(faces):
+def program(crate, faces):
     """A program that calls each function once."""
-    lines = [f'mod {module};' for module in sorted({face[0] for face in faces})] + ['', 'fn main() {']
+    lines = [f'mod {path.stem};' for path in sources(crate)] + ['', 'fn main() {']
     for number, (module, name, types, _) in enumerate(faces):
         words = []
         for place, kind in enumerate(types):
@@ -61,13 +69,13 @@ def for_c(module, name, types, answer):
         else:
             takes.append(f'ptr %a{place}')
             gives.append(takes[-1])
-    kind = SCALARS[answer].split()[0]
-    return (f'define zeroext {kind} @{name}({", ".join(takes)}) {{\n{made}'
+    kind = SCALARS[answer]
+    return (f'define {kind} @{name}({", ".join(takes)}) {{\n{made}'
             f'  %r = call {kind} @"face::{module}::{name}"({", ".join(gives)})\n  ret {kind} %r\n}}\n')
 
 
-def libraries():
-    """The crates that the face needs, each after those that it needs itself."""
+def crates_of(face):
+    """The crates that a face is made of, each after those that it needs itself."""
     needs = {}
     for line in (HERE / 'crates.txt').read_text(encoding='utf-8').splitlines():
         if ':' in line and not line.startswith('#'):
@@ -81,9 +89,13 @@ def libraries():
         if crate not in found:
             found.append(crate)
 
-    visit('rimesatchel')
+    visit(face)
+    return found
+
+
+def libraries(face):
     words = ['--lib', f'std={HOME}/libs/std/src/lib.rt']
-    for crate in found[:-1]:
+    for crate in crates_of(face)[:-1]:
         words += ['--lib', f'{crate}={HERE}/crates/{crate}/src/lib.rt']
     return words
 
@@ -99,25 +111,28 @@ done
 exec "{KIT}/toolchain/bin/clang" "$@"
 ''', encoding='utf-8')
     clang.chmod(0o755)
-    for name in ('ld.lld', 'llvm-ar'):
-        (OUT / 'tools' / 'bin' / name).symlink_to(KIT / 'toolchain' / 'bin' / 'clang')
+    for path in (KIT / 'toolchain' / 'bin').iterdir():
+        if path.name != 'clang':
+            (OUT / 'tools' / 'bin' / path.name).symlink_to(path)
     (OUT / 'tools' / 'lib').symlink_to((KIT / 'toolchain' / 'lib').resolve())
 
 
-def main():
+def main(crate):
+    if crate not in {path.name for path in (HERE / 'crates').iterdir()} or not list(functions(crate)):
+        raise SystemExit(f'quick_face: no crate is named {crate}, or it has no function for C')
     shutil.rmtree(OUT, ignore_errors=True)
     (OUT / 'src').mkdir(parents=True)
     LIB.mkdir(parents=True, exist_ok=True)
     tools()
-    faces = list(functions())
-    for module in {face[0] for face in faces}:
-        shutil.copy(HERE / 'crates' / 'rimesatchel' / 'src' / f'{module}.rt', OUT / 'src')
-    (OUT / 'src' / 'main.rt').write_text(program(faces), encoding='utf-8')
+    faces = list(functions(crate))
+    for path in sources(crate):
+        shutil.copy(path, OUT / 'src')
+    (OUT / 'src' / 'main.rt').write_text(program(crate, faces), encoding='utf-8')
     compiled = [KIT / 'bin' / 'rattle-cases', '--toolchain', OUT / 'tools', OUT / 'src' / 'main.rt', '--crate-name', 'face']
     with open(OUT / 'log', 'wb') as log:
-        if subprocess.run(compiled + libraries(), stdout=log, stderr=log, check=False).returncode != 0:
+        if subprocess.run(compiled + libraries(crate), stdout=log, stderr=log, check=False).returncode != 0:
             raise SystemExit((OUT / 'log').read_text(errors='replace')[-3000:])
-    target = f'--target={platform.machine()}-unknown-linux-gnu'
+    target = f'--target={MACHINE}-unknown-linux-gnu'
     clang = [KIT / 'toolchain' / 'bin' / 'clang', target, '--no-default-config', '-Wno-override-module', '-x', 'ir']
     subprocess.run(clang + [OUT / 'module.bc', '-S', '-emit-llvm', '-Xclang', '-disable-llvm-passes', '-o', OUT / 'module.ll'],
                    check=True)
@@ -125,11 +140,8 @@ def main():
     for name in ('main', '"face::main"'):
         text = re.sub(r'(?ms)^define [^\n]*@' + name + r'\(.*?^}\n', '', text)
     (OUT / 'face.ll').write_text(text + ''.join(for_c(*face) for face in faces), encoding='utf-8')
-    as_rt = ['-fPIC', '-O3', '-ffunction-sections', '-fdata-sections', '-Xclang', '-fmerge-functions', '-mllvm',
-             '-mergefunc-use-aliases']
-    subprocess.run(clang + as_rt + ['-c', OUT / 'face.ll', '-o', OUT / 'face.o'], check=True)
-    (LIB / 'librimesatchel.a').unlink(missing_ok=True)
-    subprocess.run(['ar', 'rcs', LIB / 'librimesatchel.a', OUT / 'face.o'], check=True)
+    native.build(OUT / 'face.ll', LIB / f'lib{crate}.a')
 
 
-main()
+if __name__ == '__main__':
+    main(*(sys.argv[1:] or ['rimesatchel']))

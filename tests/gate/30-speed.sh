@@ -1,6 +1,5 @@
 #!/usr/bin/env bash
-# The proved library is no slower than bench/instructions.txt has it, by callgrind's count, which is the same at every run.
+# The proved library is no slower than bench/instructions-MACHINE.txt has it, by callgrind's count, which is the same at every run.
 set -eu
 export LC_ALL=C
-bash tests/need.sh valgrind
 make --no-print-directory -f tests/face.mk bench-guard

@@ -13,7 +13,7 @@ export CARGO_HOME=${CARGO_HOME:-$HOME/.cargo} RUSTUP_HOME=${RUSTUP_HOME:-$HOME/.
 mkdir "$dir/home" "$dir/clone" "$dir/bin" "$dir/elsewhere"
 tar --exclude=./target --exclude=./.git -cf - . | tar -xf - -C "$dir/clone"
 mkdir "$dir/clone/target"
-for folder in bin log obj rlib stamp staticlib; do
+for folder in bin log module obj rlib stamp staticlib x86_64; do
     [ ! -e "target/$folder" ] || cp -a "target/$folder" "$dir/clone/target/"
 done
 for program in rt cargo rustc python3; do ln -s "$(command -v "$program")" "$dir/bin/$program"; done

@@ -122,7 +122,8 @@ def main():
     if not check_edits():
         return False
     # What is changed must be proved as it is: rt proves what isn't yet.
-    if subprocess.run(['rt', 'check', *crates], cwd=ROOT, stdout=subprocess.DEVNULL, check=False).returncode != 0:
+    prove = [sys.executable, ROOT / 'tools' / 'native.py', 'rt', 'check', *crates]
+    if subprocess.run(prove, cwd=ROOT, stdout=subprocess.DEVNULL, check=False).returncode != 0:
         print('mutants: a crate is not proved as it stands; see `rt check`', file=sys.stderr)
         return False
     prepare(crates)
