@@ -21,8 +21,11 @@
 #include <stddef.h>
 #include <stdint.h>
 
-/* What this header and its archive are, for a caller that asks: they belong together. */
-#define RIME_VERSION "1.0"
+/*
+ * What this header and its library are, for a caller that asks: they belong together. The shared library bears the first
+ * number; docs/LINKING.md says what stays while that number stays.
+ */
+#define RIME_VERSION "2.0.0"
 
 #ifdef __cplusplus
 extern "C" {
