@@ -73,7 +73,7 @@ fn main() {
     for name in names {
         if let Err(why) = link(name, &here) {
             eprintln!("rimesatchel: lib{name}.a can't be linked: {why}");
-            eprintln!("rimesatchel: `make install` puts it where pkg-config finds it, or RIMESATCHEL_LIB names its folder");
+            eprintln!("`make install` puts it where pkg-config finds it, or RIMESATCHEL_LIB names its folder");
             exit(1);
         }
     }
