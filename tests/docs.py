@@ -74,6 +74,12 @@ def headers():
 
 
 @functools.cache
+def calls():
+    """The calls that the headers declare, and the library that bears such a name."""
+    return set(re.findall(r'\b(rime_\w+)\(', re.sub(r'/\*.*?\*/', '', headers(), flags=re.S))) | {'rime_management'}
+
+
+@functools.cache
 def refusals():
     return {int(number) for number in re.findall(r'\bRIME_\w+ = (\d+)', ''.join(
         block for block in re.findall(r'/\* Refusal numbers\. \*/\s*enum \{(.*?)\};', headers(), re.S)))}
@@ -117,8 +123,9 @@ def quoted(text):
 
 
 def spans(text):
-    """What stands in backquotes, and the commands of sessions."""
-    return quoted(text) + re.findall(r'^    \$ (.*)', text, re.M)
+    """What stands in backquotes, and the commands of sessions, without a remark behind them."""
+    lines = re.findall(r'^    (?:\$ |(?=(?:make|rt|bash|python3|rimesatchel) ))(.*)', text, re.M)
+    return quoted(text) + [line.split(' #')[0] for line in lines]
 
 
 def there(path):
@@ -190,9 +197,8 @@ def wrong_options(text):
 
 
 def wrong_names(text):
-    for call in set(re.findall(r'\brime_\w*\w', text)):
-        if not re.search(rf'\b{call}\b', headers() + 'rime_management.h rime_') and not re.search(rf'\b{call}\(', headers()):
-            yield f'{call}: there is no such call'
+    for call in set(re.findall(r'\brime_\w+', text)) - calls():
+        yield f'{call}: there is no such call'
     for name in set(re.findall(r'\bRIME\w*_\w+', text)):
         if not re.search(rf'\b{name}\b', headers() + text_of(r'Makefile|.*\.mk|bindings/rust/build\.rs')):
             yield f'{name}: there is no such constant or variable'
@@ -237,7 +243,8 @@ def wrong_rooms(text):
 def wrong_languages(text):
     """docs/LINKING.md has a table of the Rust and Python names."""
     rust = text_of(r'bindings/rust/src/.*')
-    python = set(re.findall(r'"(\w+)"', text_of(r'bindings/python/rimesatchel/__init__\.py').split('__all__ = [')[1].split(']')[0]))
+    module = text_of(r'bindings/python/rimesatchel/__init__\.py')
+    python = set(re.findall(r'"(\w+)"', module.split('__all__ = [')[1].split(']')[0]))
     for _, _, ours, theirs in re.findall(r'^\| (.*?) \| (.*?) \| (.*?) \| (.*?) \|$', text.split('## What there is')[1], re.M):
         for name in re.findall(r'`(\w+)`', ours):
             if not re.search(rf'\bpub (?:fn|struct|enum|mod) {name}\b', rust):
@@ -263,7 +270,7 @@ def look(name, text):
 FAULTS = [
     ('README.md', 'See docs/NOSUCH.md.'), ('README.md', 'See crates/nosuch.'), ('README.md', 'It is in nosuch.py.'),
     ('README.md', 'See receiver/Nosuch.'), ('README.md', 'It writes target/nosuch/file.'), ('README.md', 'Run `make nosuch`.'),
-    ('README.md', 'Run `make install NOSUCH=1`.'), ('README.md', 'Run `rt nosuch`.'), ('docs/RULES.md', 'It is refused 31.'),
+    ('docs/DESK.md', '    make nosuch   # a remark'), ('README.md', 'Run `make install NOSUCH=1`.'), ('README.md', 'Run `rt nosuch`.'), ('docs/RULES.md', 'It is refused 31.'),
     ('docs/RULES.md', 'Refusals 1 to 5 and 40.'), ('docs/DESK.md', 'Use `rimesatchel nosuch in.log`.'),
     ('docs/DESK.md', 'Use `rimesatchel receive in.log out.wav --nosuch`.'),
     ('docs/DESK.md', 'Use `rimesatchel list in.log --labels x`.'), ('docs/DESK.md', 'Use --nosuch.'),
