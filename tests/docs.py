@@ -89,8 +89,15 @@ def refusals():
 def desk_help():
     """The help of the desk tool, and that of each subcommand by its name."""
     whole = run(DESK, '--help')
-    names = re.findall(r'^  ([a-z]+) [A-Z]', whole, re.M)
+    names = re.findall(r'^  ([a-z]+) [\[A-Z]', whole, re.M)
     return {'': whole} | {name: run(DESK, name, '--help') for name in names}
+
+
+@functools.cache
+def program_help():
+    """The help of each program that has a man page and is built."""
+    names = [path.stem for path in sorted((HERE / 'man').glob('*.1')) if (HERE / 'target' / 'bin' / path.stem).exists()]
+    return {name: run(f'target/bin/{name}', '--help') for name in names}
 
 
 def options(text):
@@ -107,13 +114,9 @@ def pages():
             text = re.sub(r'\\f.|\\&', '', (HERE / name).read_text(encoding='utf-8')).replace('\\-', '-')
             text = re.sub(r'^\.BR ([\w-]+) \((\d)\)', r'\1(\2)', text, flags=re.M)
             found[name] = re.sub(r'^\.(?:B|BR|I|IR|RI|RB|IB|BI) ', '', text, flags=re.M)
-    found['make help'] = run('make', 'help')
-    for name, text in desk_help().items():
-        found[f'{DESK} {name} --help'] = text
-    for path in sorted((HERE / 'target' / 'bin').glob('*')):
-        if (HERE / 'man' / f'{path.name}.1').exists():
-            found[f'{path.name} --help'] = run(str(path), '--help')
-    return found
+    found['make help'] = re.sub(r'^  (?=make )', '    ', run('make', 'help'), flags=re.M)
+    found |= {f'rimesatchel {name} --help': text for name, text in desk_help().items()}
+    return found | {f'{name} --help': text for name, text in program_help().items()}
 
 
 @functools.cache
@@ -180,14 +183,19 @@ def wrong_commands(text):
 
 def wrong_options(text):
     """An option belongs to the command in front of it; one that stands alone is the desk tool's, rt's or a script's."""
-    ours = options(''.join(desk_help().values()) + run('rt', '--help') + text_of(r'(?:tools|bench|tests)/.*\.py'))
+    helps = ''.join([*desk_help().values(), *program_help().values()])
+    ours = options(helps + run('rt', '--help') + text_of(r'(?:tools|bench|tests)/.*\.py'))
     for span in spans(text):
         used = re.match(r'(?:.*/)?rimesatchel ([a-z]+)', span)
+        program = re.match(r'(?:[^ ]*/)?([a-z]+) ', span)
         if used and used[1] not in desk_help():
             yield f'rimesatchel {used[1]}: there is no such subcommand'
         elif used:
             for option in options(span) - options(desk_help()[used[1]]):
                 yield f'rimesatchel {used[1]} {option}: there is no such option'
+        elif program and program[1] in program_help():
+            for option in options(span) - options(program_help()[program[1]]) - {'--help'}:
+                yield f'{program[1]} {option}: there is no such option'
         elif not span.startswith(NOT_OURS):
             for option in options(span) - ours:
                 yield f'{option}: there is no such option'
@@ -237,7 +245,7 @@ def wrong_rooms(text):
     """README's table has a row for each crate, and no other."""
     rows = set(re.findall(r'^\| `(\w+)` \|', text.split('## The rooms')[1].split('| elsewhere |')[0], re.M))
     for crate in sorted(rows ^ crates()):
-        yield f'the rooms: {crate} is', 'no crate' if crate in rows else 'missing'
+        yield f'the rooms: {crate} is {"no crate" if crate in rows else "missing"}'
 
 
 def wrong_languages(text):
@@ -260,7 +268,7 @@ CHECKS = [wrong_paths, wrong_commands, wrong_options, wrong_names, wrong_numbers
 def look(name, text):
     found = [line for check in CHECKS for line in check(text)]
     if name == 'README.md':
-        found += [' '.join(line) for line in wrong_rooms(text)]
+        found += list(wrong_rooms(text))
     if name == 'docs/LINKING.md':
         found += list(wrong_languages(text))
     return found
@@ -270,10 +278,12 @@ def look(name, text):
 FAULTS = [
     ('README.md', 'See docs/NOSUCH.md.'), ('README.md', 'See crates/nosuch.'), ('README.md', 'It is in nosuch.py.'),
     ('README.md', 'See receiver/Nosuch.'), ('README.md', 'It writes target/nosuch/file.'), ('README.md', 'Run `make nosuch`.'),
-    ('docs/DESK.md', '    make nosuch   # a remark'), ('README.md', 'Run `make install NOSUCH=1`.'), ('README.md', 'Run `rt nosuch`.'), ('docs/RULES.md', 'It is refused 31.'),
+    ('docs/DESK.md', '    make nosuch   # a remark'), ('README.md', 'Run `make install NOSUCH=1`.'),
+    ('README.md', 'Run `rt nosuch`.'), ('docs/RULES.md', 'It is refused 31.'),
     ('docs/RULES.md', 'Refusals 1 to 5 and 40.'), ('docs/DESK.md', 'Use `rimesatchel nosuch in.log`.'),
     ('docs/DESK.md', 'Use `rimesatchel receive in.log out.wav --nosuch`.'),
     ('docs/DESK.md', 'Use `rimesatchel list in.log --labels x`.'), ('docs/DESK.md', 'Use --nosuch.'),
+    ('README.md', 'Use `linelist --strict in.log`.'),
     ('docs/LINKING.md', 'Call rime_nosuch.'), ('docs/LINKING.md', 'RIME_NOSUCH is 1.'),
     ('docs/PROVING.md', 'By `sender::nosuch`.'), ('docs/PROVING.md', 'By `no_such_law`.'), ('man/linelist.1', 'See nosuch(1).'),
     ('docs/LINKING.md', 'See README, "No such section".'), ('docs/LINKING.md', 'See docs/RULES.md, chapter 99.'),

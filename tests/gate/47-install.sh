@@ -28,7 +28,6 @@ in_repository() { make --no-print-directory -s -C "$here" "$@"; }
 python=$dir/venv/bin/python
 mkdir "$dir/elsewhere"
 cp examples/c/*.c examples/python/*.py examples/rust/handover.rs examples/*.expected "$dir/elsewhere/"
-cp -R bindings/python "$dir/sources"
 cd "$dir/elsewhere"
 
 # pip: from the repository, and from a source archive that stands alone. The library isn't in the wheel.
@@ -93,8 +92,14 @@ find "$dir/venv" | sort | comm -13 "$dir/before" - | while read -r left; do
 done
 find "$dir/venv" | sort | comm -23 "$dir/before" - | diff /dev/null - || fail "something else was removed"
 
-# A packager's folder in front: nothing of it is in what is installed.
-in_repository install DESTDIR="$dir/stage" PREFIX=/usr PYTHON=/usr/bin/python3
-[ -e "$dir/stage/usr/lib/python3/dist-packages/rimesatchel/py.typed" ] || fail "Debian's Python doesn't look there"
-! grep -rqF "$dir" "$dir/stage/usr/lib/pkgconfig" || fail "DESTDIR stands in a pkg-config file"
+# A packager's folder in front: nothing of it is in what is installed. Debian's Python looks where the module is, under each prefix.
+for prefix in /usr /usr/local; do
+    stage=$dir/stage${prefix//\//-}
+    in_repository install DESTDIR="$stage" PREFIX=$prefix PYTHON=/usr/bin/python3
+    ! grep -rqF "$dir" "$stage$prefix/lib/pkgconfig" || fail "DESTDIR stands in a pkg-config file"
+    module=$(cd "$stage" && find . -name py.typed)
+    module=${module#.}
+    /usr/bin/python3 -c 'import site, sys; sys.exit(sys.argv[1] not in site.getsitepackages())' "${module%/rimesatchel/py.typed}" ||
+        fail "Debian's Python doesn't look for ${module%/py.typed}"
+done
 echo "install: version $version from C, Rust and Python elsewhere, by pip and cargo package too; uninstall leaves nothing"
