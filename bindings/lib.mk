@@ -1,11 +1,11 @@
 # Puts the libraries in place, under the names of bindings/names.mk; tests/face.mk includes this file. rt names an archive by its
-# crate, and its own stays where it is. Nothing but rime_* is visible in what is put in place, so that a program's own names, and
-# those of the two libraries, don't meet.
+# crate, and its own stays where it is. Nothing but rime_* is visible in any of them, so that a program's own names, and those of
+# the two libraries, don't meet: rt's archives have no other name, and bindings/rime.map hides what the compiler adds.
 $(LIB)/librimesatchel.a: $(ARCHIVE)
 $(LIB)/librime_management.a: $(MANAGEMENT)
 $(PLACED):
 	mkdir -p $(LIB)
-	objcopy --wildcard --keep-global-symbol='rime_*' $< $@
+	cp $< $@
 
 SHARED_FLAGS = -shared -Wl,-soname,$(@F) -Wl,--version-script=bindings/rime.map -Wl,--no-undefined
 
