@@ -53,7 +53,8 @@ def words():
     text = text_of(r'(?!docs/|man/)(?!.*\.(?:md|1|png|svg|log)$).*') + '\n'.join(tree())
     guides = pathlib.Path(run('rt', 'doc').strip()).parent
     text += ''.join(path.read_text(encoding='utf-8', errors='replace') for path in guides.glob('*.md')) + run('rt', '--help')
-    return set(re.findall(r"[\w\-']+", text)) | set(re.findall(r'\w+', text)) | OTHERS
+    whole = set(re.findall(r"[\w\-']+", text))
+    return whole | {part for word in whole for part in re.split(r"[-']", word)} | OTHERS
 
 
 @functools.cache

@@ -4,7 +4,7 @@
 # without a network. What make uninstall leaves is what was there before.
 set -eu -o pipefail
 export LC_ALL=C PYTHONDONTWRITEBYTECODE=1
-bash tests/need.sh pkg-config python3-venv mypy
+bash tests/need.sh pkg-config python3-pip mypy
 unset PYTHONPATH RIMESATCHEL_LIB
 here=$PWD
 dir=$(mktemp -d)
@@ -24,31 +24,38 @@ says() {
 in_repository() { make --no-print-directory -s -C "$here" "$@"; }
 
 [ -e target/lib/librime_management.so ] || in_repository lib
-/usr/bin/python3 -m venv "$dir/venv"
-python=$dir/venv/bin/python
 mkdir "$dir/elsewhere"
 cp examples/c/*.c examples/python/*.py examples/rust/handover.rs examples/*.expected "$dir/elsewhere/"
 cd "$dir/elsewhere"
 
-# pip: from the repository, and from a source archive that stands alone. The library isn't in the wheel.
-"$python" -m pip install --quiet --no-index --disable-pip-version-check "$here/bindings/python"
-says '`make install` puts it in place, or RIMESATCHEL_LIB names its folder' "$python" -c 'import rimesatchel'
+# pip, each time in a fresh venv: from the repository, and from a source archive that stands alone. The library isn't in the wheel.
+by_pip() { # NAME WHAT
+    /usr/bin/python3 -m venv --without-pip "$dir/$1"
+    python=$dir/$1/bin/python
+    /usr/bin/python3 -m pip --python "$python" install --quiet --no-index --disable-pip-version-check "$2"
+    version=$("$python" -c 'import importlib.metadata as installed; print(installed.version("rimesatchel"))')
+}
+by_pip pip "$here/bindings/python"
+if ! /sbin/ldconfig -p | grep -qF librimesatchel; then # this machine has none of its own
+    says '`make install` puts it in place, or RIMESATCHEL_LIB names its folder' "$python" -c 'import rimesatchel'
+fi
 says "isn't in $dir, the folder that RIMESATCHEL_LIB names" env RIMESATCHEL_LIB="$dir" "$python" -c 'import rimesatchel'
 RIMESATCHEL_LIB=$here/target/lib "$python" handover.py | diff handover.expected -
 (cd "$here/bindings/python" && "$python" -c 'import backend, sys; backend.build_sdist(sys.argv[1])' "$dir/elsewhere")
-"$python" -m pip uninstall --quiet --yes --disable-pip-version-check rimesatchel
-"$python" -m pip install --quiet --no-index --disable-pip-version-check rimesatchel-*.tar.gz
-version=$("$python" -m pip list --disable-pip-version-check | sed -n 's/^rimesatchel *//p')
-"$python" -m pip uninstall --quiet --yes --disable-pip-version-check rimesatchel
+by_pip sdist "rimesatchel-$version.tar.gz"
+RIMESATCHEL_LIB=$here/target/lib "$python" cast.py | diff cast.expected -
 
 # Python: the module is found by the venv's own Python alone, and its types by mypy.
+/usr/bin/python3 -m venv --without-pip "$dir/venv"
+python=$dir/venv/bin/python
 find "$dir/venv" | sort > "$dir/before"
 in_repository install PREFIX="$dir/venv" PYTHON="$python"
 for example in handover cast; do "$python" $example.py | diff $example.expected -; done
 "$python" -c 'import doctest, rimesatchel, sys; sys.exit(doctest.testmod(rimesatchel).failed != 0)'
 [ "$("$python" -c 'import rimesatchel; print(rimesatchel.VERSION)')" = "$version" ] || fail "the wheel is $version"
-mypy --strict --cache-dir "$dir/mypy" --python-executable "$python" handover.py cast.py > "$dir/said" || { cat "$dir/said"; fail "mypy"; }
-mypy --strict --cache-dir "$dir/mypy" "$here"/bindings/python/*.py > "$dir/said" || { cat "$dir/said"; fail "mypy"; }
+typed() { mypy --strict --cache-dir "$dir/mypy" "$@" > "$dir/said" || { cat "$dir/said"; fail "mypy $*"; }; }
+typed --python-executable "$python" handover.py cast.py
+typed "$here"/bindings/python/*.py "$here/bindings/python/rimesatchel"
 
 # C: pkg-config names the archive; the shared library is found by its soname.
 export PKG_CONFIG_PATH=$dir/venv/lib/pkgconfig
@@ -83,7 +90,7 @@ path = "handover.rs"
 rimesatchel = { path = "$package", features = ["management"] }
 TOML
 cargo run --quiet --offline --target-dir "$dir/cargo" | diff handover.expected -
-says "RIMESATCHEL_LIB names its folder" env PKG_CONFIG_PATH="$dir" cargo build --quiet --offline --target-dir "$dir/cargo"
+says "RIMESATCHEL_LIB names its folder" env -u PKG_CONFIG_PATH PKG_CONFIG_LIBDIR="$dir" cargo build --quiet --offline --target-dir "$dir/cargo"
 says "librimesatchel.a isn't there" env RIMESATCHEL_LIB="$dir" cargo build --quiet --offline --target-dir "$dir/cargo"
 
 in_repository uninstall PREFIX="$dir/venv" PYTHON="$python"
