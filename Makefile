@@ -1,10 +1,8 @@
 export LC_ALL := C
 
-PREFIX ?= /usr/local
-DESTDIR ?=
 PROGRAMS := $(filter $(notdir $(wildcard crates/*)),linelist anything salvage sheet)
 
-.PHONY: all help programs demo lib module examples install test mutants tables reading clean
+.PHONY: all help programs demo lib module examples test mutants tables reading clean
 
 all:
 	@echo 'Proves every crate that changed and builds the programs: up to 13 minutes from nothing, on two cores. `make help` has more.'
@@ -18,12 +16,15 @@ help:
 	@echo '  make lib              prove and build the archive and the shared library: up to 15 minutes from nothing'
 	@echo '  make lib TARGET=..    the archives for the other machine, x86_64 or aarch64, of the same proved modules: target/TARGET'
 	@echo '  make examples         build and run the examples in C, Rust and Python'
-	@echo '  make install          header, archive, shared library, programs, pkg-config file, man pages; PREFIX=/usr/local'
+	@echo '  make install          headers, libraries, programs, Python module, pkg-config files, man pages; PREFIX=/usr/local'
+	@echo '  make uninstall        remove what make install with the same PREFIX put there'
+	@echo '  make dist             a tarball of the last commit and its checksum, in target/dist'
 	@echo '  make clean            remove all that was built'
 	@echo 'to work on it'
 	@echo '  make                  prove every crate that changed, and build the programs'
 	@echo '  make module           the LLVM modules that the archives were compiled from: target/module/NAME.bc'
 	@echo '  make test             the gate: prove all from nothing, try the must-fail edits, run every test; 14 to 34 minutes'
+	@echo '  make dist-test        unpack that tarball elsewhere and run the gate there'
 	@echo '  make mutants          try the wrong programs of tests/mutants; CRATES="sender log" for some crates'
 	@echo '  make fuzz             compare N=1000000 calls with another implementation, from SEED=2; memory checks'
 	@echo '  make sheet-19         one sheet over 626 MB, by the call and by the program: refused 19; a record less is given'
@@ -66,14 +67,17 @@ $(PROGRAMS:%=target/bin/%) &: $(SOURCES)
 fuzz fuzz-list sheet-19 bench bench-list bench-anything bench-salvage: $(PROGRAMS:%=target/bin/%)
 
 ifeq ($(TARGET),$(MACHINE))
-lib: $(ARCHIVE) $(MANAGEMENT) $(SHARED) $(SHARED_MANAGEMENT)
+lib: $(PLACED) $(SHARED) $(SHARED_MANAGEMENT)
 else
-lib: $(LIBRARIES:%=target/$(TARGET)/lib%.a)
+lib: target/$(TARGET)/librimesatchel.a target/$(TARGET)/librime_management.a
 endif
 	@echo 'library: $(^:$(CURDIR)/%=%)'
 
 target/$(TARGET)/lib%.a: target/module/%.bc tools/native.py
 	@python3 tools/native.py archive $* $(TARGET)
+
+target/$(TARGET)/librime_management.a: target/$(TARGET)/libmanagement.a
+	@cp $< $@
 
 module: $(LIBRARIES:%=target/module/%.bc)
 	@echo 'module: $^'
@@ -83,22 +87,7 @@ target/module/%.bc: $(CURDIR)/target/staticlib/lib%.a
 
 examples: face-examples
 
-# Only what stands in target/ is copied: an install as root proves and builds nothing.
-install:
-	@for file in $(ARCHIVE) $(MANAGEMENT) $(SHARED) $(SHARED_MANAGEMENT) $(PROGRAMS:%=target/bin/%); do \
-	    [ -e $$file ] || { echo "install: $$file isn't there: make lib programs" >&2; exit 1; }; \
-	done
-	install -d $(DESTDIR)$(PREFIX)/bin $(DESTDIR)$(PREFIX)/include $(DESTDIR)$(PREFIX)/lib/pkgconfig \
-	    $(DESTDIR)$(PREFIX)/lib/python3/dist-packages $(DESTDIR)$(PREFIX)/share/man/man1
-	install -m 644 include/rimesatchel.h include/rime_management.h $(DESTDIR)$(PREFIX)/include
-	install -m 644 $(ARCHIVE) $(MANAGEMENT) $(DESTDIR)$(PREFIX)/lib
-	install -m 755 $(SHARED) $(SHARED_MANAGEMENT) $(DESTDIR)$(PREFIX)/lib
-	install -m 755 $(PROGRAMS:%=target/bin/%) $(wildcard target/desk/rimesatchel) $(DESTDIR)$(PREFIX)/bin
-	install -m 644 bindings/python/rimesatchel.py $(DESTDIR)$(PREFIX)/lib/python3/dist-packages
-	install -m 644 $(PROGRAMS:%=man/%.1) $(wildcard desk/*.1) $(DESTDIR)$(PREFIX)/share/man/man1
-	for name in rimesatchel rime_management; do \
-	    sed 's,@PREFIX@,$(PREFIX),; s,@VERSION@,$(VERSION),' bindings/$$name.pc.in > $(DESTDIR)$(PREFIX)/lib/pkgconfig/$$name.pc; \
-	done
+include bindings/install.mk
 
 test:
 	@echo 'The gate: 14 to 34 minutes on two cores with nothing beside it.'
@@ -114,4 +103,4 @@ reading:
 	python3 tools/reading.py
 
 clean:
-	rm -rf target bindings/python/__pycache__
+	rm -rf target bindings/python/__pycache__ bindings/python/rimesatchel/__pycache__

@@ -17,7 +17,7 @@ sox -R -n -r 48000 -b 24 -c 2 hour.wav synth 3600 pinknoise whitenoise vol 0.9
 tried() { # NAME COMMAND..
     printf '%-18s' "$1"
     shift
-    ./peak "$@" 2>&1 > out
+    { ./peak "$@" > out; } 2>&1
 }
 tried "send" "$desk" send -q hour.wav hour.log
 tried "receive" "$desk" receive -q hour.log back.wav

@@ -1,6 +1,6 @@
 /*
  * Rimesatchel's management port (IEC 62365, clause 8), for the studio desk box. It has an archive of its own,
- * libmanagement.a, which may be linked beside librimesatchel.a.
+ * librime_management.a, which may be linked beside librimesatchel.a.
  *
  * A message is the content of one AAL-SDU on a management connection, from its message type on. The desk box is the
  * equipment: it hands each message to rime_equipment, sends back what then stands in `answer`, and sends the network

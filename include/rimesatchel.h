@@ -7,7 +7,7 @@
  *
  * Every call but rime_check_character and rime_receiver_placed returns a refusal number, RIME_DONE (0) where there is none.
  * A call never does half of its work. A refusal leaves every lent run and the state as they were, and fills `report`,
- * `out` of rime_status_step, `header`, `record`, `*next`, `counts`, `totals`, `units`, `*entries`, `answer` or the two
+ * `out` of rime_status_step, `header`, `*next`, `counts`, `totals`, `units`, `*entries`, `answer` or the two
  * entries or halves of a frame with zeros; an opening that is refused fills `state` with zeros, which is itself refused 1.
  * Where several refusals apply, the first in the order of the list at each function is given.
  *
@@ -21,8 +21,11 @@
 #include <stddef.h>
 #include <stdint.h>
 
-/* What this header and its archive are, for a caller that asks: they belong together. */
-#define RIME_VERSION "1.0"
+/*
+ * What this header and its library are, for a caller that asks: they belong together. The shared library bears the first
+ * number; docs/LINKING.md says what stays while that number stays.
+ */
+#define RIME_VERSION "2.0.0"
 
 #ifdef __cplusplus
 extern "C" {
@@ -277,12 +280,12 @@ uint8_t rime_check_character(const uint8_t block[RIME_STATUS_OCTETS]);
 uint8_t rime_log_header(const uint8_t *log, size_t log_len, uint32_t header[RIME_HEADER]);
 
 /*
- * Reads the record at `place` of a log: an indication, then a cell. Leaves in `record` that it is a cell, its
+ * Reads the record at `place` of a log: an indication, then a cell. Leaves in `answer` that it is a cell, its
  * indication, the place where its 48 octets start in `log`, and the next place. A place at the log's end or past it,
  * however large, leaves the end: 0, 0, 0 and `place` as given.
- * Refused, with `record` zeros: 11, the octet of the indication is above 1; 12, the log ends before the 48 octets do.
+ * Refused, with `answer` zeros: 11, the octet of the indication is above 1; 12, the log ends before the 48 octets do.
  */
-uint8_t rime_log_record(const uint8_t *log, size_t log_len, size_t place, uint64_t record[RIME_RECORD]);
+uint8_t rime_log_record(const uint8_t *log, size_t log_len, size_t place, uint64_t answer[RIME_RECORD]);
 
 /*
  * Writes a log's header at the start of `log`: three octets, the rest stays. Leaves in `*next` the place after it, where

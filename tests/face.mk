@@ -1,7 +1,7 @@
 # The proved library in other languages: the comparison, the examples, the benchmark. The Makefile includes this file;
 # the gate runs it alone by `make -f tests/face.mk face-test`.
 #
-# RIME_LIB     the folder of librimesatchel.a and libmanagement.a
+# RIME_LIB     the folder of rt's own librimesatchel.a and libmanagement.a
 # RIME_PARTS   the parts of the library that the comparison links
 # N, SEED      how many calls `make fuzz` compares, and from which seed
 # ROWS         a pattern that picks the benchmark's rows
@@ -19,9 +19,7 @@ COMPARE := target/compare/release/compare
 LINELIST := target/bin/linelist
 ANYTHING := target/bin/anything
 EXAMPLES := target/examples
-SHARED := target/lib/librimesatchel.so
-SHARED_MANAGEMENT := target/lib/libmanagement.so
-VERSION := $(shell sed -n 's/^.define RIME_VERSION "\(.*\)"/\1/p' include/rimesatchel.h)
+include bindings/names.mk
 MACHINE := $(shell python3 tools/native.py machine 2>&1)
 ifneq ($(words $(MACHINE)),1)
 $(error $(MACHINE))
@@ -53,8 +51,8 @@ endif
 
 face-archive: $(ARCHIVE) $(MANAGEMENT)
 
-face-compare:
-	RIMESATCHEL_LIB=$(RIME_LIB) cargo build --quiet --offline --locked --release --no-default-features \
+face-compare: $(filter-out $(if $(findstring management,$(RIME_PARTS)),,%management.a),$(PLACED))
+	cargo build --quiet --offline --locked --release --no-default-features \
 	    --features "$(RIME_PARTS)" --manifest-path tests/compare/Cargo.toml --target-dir $(COMPARE_DIR)
 
 # The same comparison, but its calls are made by another program, for this machine or for the other one: tests/gate/12-machines.sh.
@@ -72,9 +70,9 @@ $(EXAMPLES)/handover-c-asan: examples/c/handover.c include/rimesatchel.h $(ARCHI
 
 RUST_SOURCES := $(wildcard bindings/rust/src/*.rs) bindings/rust/build.rs bindings/rust/Cargo.toml include/rimesatchel.h
 
-$(EXAMPLES)/handover-rust: examples/rust/handover.rs examples/rust/Cargo.toml $(RUST_SOURCES) $(ARCHIVE)
+$(EXAMPLES)/handover-rust: examples/rust/handover.rs examples/rust/Cargo.toml $(RUST_SOURCES) $(LIB)/librimesatchel.a
 	mkdir -p $(EXAMPLES)
-	RIMESATCHEL_LIB=$(RIME_LIB) cargo build --quiet --offline --locked --release --manifest-path examples/rust/Cargo.toml \
+	cargo build --quiet --offline --locked --release --manifest-path examples/rust/Cargo.toml \
 	    --target-dir target/compare
 	cp target/compare/release/handover $@
 
@@ -82,15 +80,7 @@ $(EXAMPLES)/cast-c: examples/c/cast.c include/rimesatchel.h $(ARCHIVE)
 	mkdir -p $(EXAMPLES)
 	gcc -O2 -std=c99 $(WARNINGS) -pedantic -Iinclude $< $(ARCHIVE) -o $@
 
-# Beside the archive the shared library has the header's words, for callers that can't read a header.
-$(SHARED): $(ARCHIVE) bindings/words.c include/rimesatchel.h
-	mkdir -p target/lib
-	gcc -O2 -std=c99 $(WARNINGS) -shared -fPIC -Iinclude bindings/words.c -Wl,--whole-archive $(ARCHIVE) \
-	    -Wl,--no-whole-archive -o $@
-
-$(SHARED_MANAGEMENT): $(MANAGEMENT)
-	mkdir -p target/lib
-	gcc -shared -Wl,--whole-archive $(MANAGEMENT) -Wl,--no-whole-archive -o $@
+include bindings/lib.mk
 
 $(EXAMPLES)/management-c: examples/c/management.c include/rimesatchel.h include/rime_management.h $(ARCHIVE) $(MANAGEMENT)
 	mkdir -p $(EXAMPLES)
@@ -118,10 +108,10 @@ face-examples: $(EXAMPLES)/handover-c $(EXAMPLES)/handover-rust $(SHARED) $(EXAM
 	@echo "examples: C, Rust and Python print what is expected"
 
 # The pages of the bindings, as tests.
-face-bindings: $(ARCHIVE) $(SHARED) $(SHARED_MANAGEMENT)
-	RIMESATCHEL_LIB=$(RIME_LIB) cargo test --quiet --offline --locked --doc --manifest-path bindings/rust/Cargo.toml \
+face-bindings: $(LIB)/librimesatchel.a $(SHARED) $(SHARED_MANAGEMENT)
+	cargo test --quiet --offline --locked --doc --manifest-path bindings/rust/Cargo.toml \
 	    --target-dir target/compare > $(EXAMPLES)/doc-tests 2>&1 || { cat $(EXAMPLES)/doc-tests; exit 1; }
-	cd bindings/python && python3 -m doctest rimesatchel.py
+	cd bindings/python && python3 -c 'import doctest, rimesatchel, sys; sys.exit(doctest.testmod(rimesatchel).failed != 0)'
 	@echo "bindings: the pages of the Rust crate and of the Python module say what is so"
 
 # Everything that links the archive. The gate builds it while `rt ci` goes on.

@@ -16,7 +16,7 @@ FORMAT, CAST, FREQUENCY = 0x56, 60, 48000
 ANSWERS = {"yes": "yes", "share": "no, the share of circuit", "allowance": "no, the allowance of circuit", "sum": "no, the sum"}
 
 
-def planned_over(circuits):
+def planned_over(circuits: int) -> tuple[int, list[int]]:
     """The refusal's number, and the shares."""
     try:
         return 0, plan(FORMAT, CAST, circuits)
@@ -24,18 +24,18 @@ def planned_over(circuits):
         return refused.number, []
 
 
-def check(shares, allowances):
+def check(shares: list[int], allowances: list[int]) -> None:
     print("shares", *shares)
     print("allowances", *allowances)
     try:
         verdict = check_plan(FORMAT, CAST, FREQUENCY, shares, allowances)
-        said = [ANSWERS[verdict.answer]] + [verdict.circuit] * (verdict.circuit is not None)
+        said = [ANSWERS[verdict.answer], *([] if verdict.circuit is None else [str(verdict.circuit)])]
     except Refused as refused:
-        said = ["refused", refused.number]
+        said = ["refused", str(refused.number)]
     print("the checker:", *said, end="\n\n")
 
 
-def main():
+def main() -> None:
     print("planned over four circuits: refused", planned_over(4)[0])
     refusal, planned = planned_over(6)
     print("planned over six circuits: refused", refusal)

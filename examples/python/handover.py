@@ -20,7 +20,7 @@ ON_THE_LINE = {LOST: " The line loses it.", SPOILED: " The line turns over its f
 SAID = {Fit.DOES_NOT_FIT: "doesn't fit", Fit.FITS: "fits", Fit.NONE_CARRIED: "none carried"}
 
 
-def receive(receiver, octets):
+def receive(receiver: Receiver, octets: bytes) -> None:
     try:
         handed = receiver.receive(octets)
     except Refused as refused:
@@ -31,11 +31,11 @@ def receive(receiver, octets):
         print("  " + ", ".join(f"{entry.sample} {entry.mark.name.lower()}" for entry in handed.entries[at:at + CHANNELS]))
 
 
-def samples_of(cell):
+def samples_of(cell: int) -> list[int]:
     return [1000 * cell + 10 * time + channel for time in range(TIMES) for channel in range(CHANNELS)]
 
 
-def reading():
+def reading() -> None:
     sender, receiver = Sender(SETUP), Receiver(SETUP)
     for cell in range(CELLS):
         octets = sender.send(samples_of(cell))
@@ -50,14 +50,14 @@ def reading():
     print(f"Cells placed since the opening: {receiver.placed}.")
 
 
-def consumer_block():
+def consumer_block() -> str:
     """What is said of a block of zeros, which a home recorder sends: B in its first entry, and no C bit."""
     status = Status()
-    blocks = [status.step(8 if bit == 0 else 0) for bit in range(192)]
+    blocks = [block for bit in range(192) if (block := status.step(8 if bit == 0 else 0))]
     return SAID[blocks[-1].fit]
 
 
-def main():
+def main() -> None:
     try:
         Sender(Setup(0x56, 13))
     except Refused as refused:

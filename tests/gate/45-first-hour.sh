@@ -1,9 +1,11 @@
 #!/usr/bin/env bash
-# A user's first hour: the commands of README.md, "Use it" and "Link it", and of docs/LINKING.md are run as they stand there, in a
-# copy of the repository, with a home of its own and nothing else on the path; what they print is what the pages say. Then a C
-# program elsewhere is built by pkg-config alone, and each rule of docs/RULES.md is cited in docs/PROMISES.md.
+# A user's first hour: the commands of README.md, "Use it" and "Link it", and of docs/LINKING.md are run as they stand there, in the
+# unpacked tarball of `make dist`, with a home of its own and nothing else on the path; what they print is what the pages say. Then
+# a C program elsewhere is built by pkg-config alone, and each rule of docs/RULES.md is cited in docs/PROMISES.md.
 #
-# The copy gets target/ as the gate has it: what was proved is found there, and not proved once more.
+# The tarball is of the tracked files as they stand. Where there is no git, as in a tarball itself, it is a copy of the folder.
+# `make demo` is run there with nothing built, so over the library without its proof; behind it comes target/ as the gate has it:
+# what was proved is found there, and not proved once more.
 set -eu -o pipefail
 export LC_ALL=C
 bash tests/need.sh pkg-config
@@ -11,11 +13,22 @@ dir=$(mktemp -d)
 trap 'rm -rf "$dir"' EXIT
 export CARGO_HOME=${CARGO_HOME:-$HOME/.cargo} RUSTUP_HOME=${RUSTUP_HOME:-$HOME/.rustup}
 mkdir "$dir/home" "$dir/clone" "$dir/bin" "$dir/elsewhere"
-tar --exclude=./target --exclude=./.git -cf - . | tar -xf - -C "$dir/clone"
-mkdir "$dir/clone/target"
+if [ -e .git ] && standing=$(git -c user.name=gate -c user.email=gate@localhost stash create); then
+    tarball=$(bash tools/dist.sh ${standing:-HEAD})
+    (cd target/dist && sha256sum --check --quiet "${tarball##*/}.sha256")
+    tar -xzf "$tarball" -C "$dir/clone" --strip-components=1
+    rm "$tarball" "$tarball.sha256"
+    echo "dist: ${tarball##*/}"
+else
+    tar --exclude=./target --exclude=./.git -cf - . | tar -xf - -C "$dir/clone"
+fi
+cat > "$dir/proved" << SH
+mkdir -p target
 for folder in bin log module obj rlib stamp staticlib x86_64; do
-    [ ! -e "target/$folder" ] || cp -a "target/$folder" "$dir/clone/target/"
+    [ ! -e "$PWD/target/\$folder" ] || cp -a "$PWD/target/\$folder" target/
 done
+touch target/bin/* target/staticlib/* # the files of a tarball may be newer than what was proved of them
+SH
 for program in rt cargo rustc python3; do ln -s "$(command -v "$program")" "$dir/bin/$program"; done
 export HOME=$dir/home PATH=$dir/bin:/usr/bin:/bin
 
@@ -26,7 +39,7 @@ import re
 import subprocess
 import sys
 
-page, *wanted = sys.argv[1:]
+page, proved, *wanted = sys.argv[1:]
 commands, section, printed_here = [], None, False
 for line in pathlib.Path(page).read_text(encoding='utf-8').split('\n'):
     if line.startswith('## '):
@@ -38,7 +51,11 @@ for line in pathlib.Path(page).read_text(encoding='utf-8').split('\n'):
         printed_here = False
     elif printed_here:
         commands[-1][1].append(line[4:])
-script = 'exec 2>&1\n' + ''.join(f'echo "@@"\n{command} || {{ echo "@@failed"; exit 1; }}\n' for command, _ in commands)
+script = 'exec 2>&1\n'
+for command, _ in commands:
+    script += f'echo "@@"\n{command} || {{ echo "@@failed"; exit 1; }}\n'
+    if command == 'make demo':
+        script += f'[ -e target/quick/desk/rimesatchel ] && bash {proved} || exit 1\n'
 ran = subprocess.run(['bash', '-c', script], stdout=subprocess.PIPE, stdin=subprocess.DEVNULL, text=True)
 parts = [part.rstrip('\n').split('\n') for part in re.split(r'^@@\n', ran.stdout, flags=re.M)[1:]]
 wrong = ran.returncode != 0 or len(parts) != len(commands)
@@ -55,8 +72,8 @@ print(f'{page}: {len(commands)} commands print what they should')
 PYTHON
 (
     cd "$dir/clone"
-    python3 "$dir/follow.py" README.md 'Use it' 'Link it'
-    python3 "$dir/follow.py" docs/LINKING.md C Rust Python
+    python3 "$dir/follow.py" README.md "$dir/proved" 'Use it' 'Link it'
+    python3 "$dir/follow.py" docs/LINKING.md "$dir/proved" C Rust Python
 )
 
 # What was installed, from a folder that has nothing else.
@@ -71,8 +88,8 @@ diff handover.expected printed
 "$HOME/.local/bin/linelist" reading.log > printed
 diff reading.expected printed
 version=$(pkg-config --modversion rimesatchel)
-export PYTHONPATH=$HOME/.local/lib/python3/dist-packages
 [ "$(python3 -c 'import rimesatchel; print(rimesatchel.VERSION)')" = "$version" ]
+[ -x "$HOME/.local/bin/rimesatchel" ]
 echo "install: a C program elsewhere is built by pkg-config alone; version $version"
 cd "$OLDPWD"
 

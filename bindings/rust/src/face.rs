@@ -58,7 +58,7 @@ mod raw {
         pub fn rime_status_step(block: *mut StatusBlock, ancillary: u8, mark: u8, out: *mut StatusOut) -> u8;
         pub fn rime_check_character(block: *const [u8; 24]) -> u8;
         pub fn rime_log_header(log: *const u8, log_len: usize, header: *mut [u32; 4]) -> u8;
-        pub fn rime_log_record(log: *const u8, log_len: usize, place: usize, record: *mut [u64; 4]) -> u8;
+        pub fn rime_log_record(log: *const u8, log_len: usize, place: usize, answer: *mut [u64; 4]) -> u8;
         pub fn rime_anything(log: *const u8, log_len: usize, answer: *mut [u64; 2]) -> u8;
         pub fn rime_salvage(
             log: *const u8,
@@ -211,8 +211,8 @@ pub fn log_header(log: &[u8], header: &mut [u32; 4]) -> u8 {
     unsafe { raw::rime_log_header(log.as_ptr(), log.len(), header) }
 }
 
-pub fn log_record(log: &[u8], place: usize, record: &mut [u64; 4]) -> u8 {
-    unsafe { raw::rime_log_record(log.as_ptr(), log.len(), place, record) }
+pub fn log_record(log: &[u8], place: usize, answer: &mut [u64; 4]) -> u8 {
+    unsafe { raw::rime_log_record(log.as_ptr(), log.len(), place, answer) }
 }
 
 pub fn anything(log: &[u8], answer: &mut [u64; 2]) -> u8 {

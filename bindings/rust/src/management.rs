@@ -3,7 +3,7 @@
 //! A slice carries its own length and two `&mut` never overlap, which is all that the header asks of a caller.
 
 mod raw {
-    #[link(name = "management", kind = "static")]
+    #[link(name = "rime_management", kind = "static")]
     extern "C" {
         pub fn rime_equipment(
             ports: *mut u8,

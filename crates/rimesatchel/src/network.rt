@@ -2,7 +2,7 @@
 // function into lent memory.
 ghost use Rattle.rimesatchel.specs.Network.{ExportedUnits, ReadUnit};
 
-// What the receiver wrote as data units: the refusal (0, or 1, 2, 5, 6, 26, 27, 28, and then nothing is written), and in `told` octets
+// What the receiver wrote as data units: the refusal (0, or 1, 2, 5, 6, 26, 27, 28, and then nothing is written), and in `units` octets
 // written, octets of a full unit, how many units; zeros where it is refused.
 #[no_mangle]
 pub extern "C" fn rime_units_export(
@@ -12,12 +12,12 @@ pub extern "C" fn rime_units_export(
     samples: &[u64],
     ancillary: &[u8],
     out: &mut [u8],
-    told: &mut [u64; 3],
+    units: &mut [u64; 3],
 ) -> u8
-    ensures { λ r. ⌜ ExportedUnits format channels size (now (samples .entry)) (now (ancillary .entry)) (now (out .entry)) r (now (out .exit)) (now (told .exit)) ⌝ }
+    ensures { λ r. ⌜ ExportedUnits format channels size (now (samples .entry)) (now (ancillary .entry)) (now (out .entry)) r (now (out .exit)) (now (units .exit)) ⌝ }
 {
     let left = units::export_units(format, channels, size, samples, ancillary, out);
-    *told = [left.octets as u64, left.full as u64, left.units as u64];
+    *units = [left.octets as u64, left.full as u64, left.units as u64];
     left.refusal
 }
 

@@ -7,7 +7,8 @@ use crate::case::{values, Case, Kind};
 use crate::random::Random;
 
 pub fn sheet(random: &mut Random, referee: &mut Referee) -> Played {
-    let logs: Vec<Vec<u8>> = (0..random.below(6)).map(|_| if random.one_in(8) { vec![] } else { log(random) }).collect();
+    let logs: Vec<Vec<u8>> =
+        (0..random.below(6)).map(|_| if random.one_in(8) { vec![] } else { log(random) }).collect();
     let octets = logs.concat();
     let mut lengths: Vec<u64> = logs.iter().map(|log| log.len() as u64).collect();
     if random.one_in(64) {

@@ -108,7 +108,12 @@ fn room(random: &mut Random) -> usize {
     random.pick(&[0, 1, 2, 8, 9, 9, 28, 29, 29, 29, 40])
 }
 
-fn equip(ports: &[u8], message: &[u8], random: &mut Random, referee: &mut Referee) -> Result<Answer, Box<super::Difference>> {
+fn equip(
+    ports: &[u8],
+    message: &[u8],
+    random: &mut Random,
+    referee: &mut Referee,
+) -> Result<Answer, Box<super::Difference>> {
     let room = room(random);
     let answer = random.octets(room);
     referee.call(Case::new(Kind::Equipment, values![ports, message, &answer[..]]))

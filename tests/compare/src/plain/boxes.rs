@@ -95,12 +95,7 @@ impl Receiver {
     }
 
     /// The state afterwards and what the cell brings, where the three runs have these lengths.
-    pub fn receive(
-        &self,
-        cell: &[u8],
-        indication: bool,
-        lengths: [usize; 3],
-    ) -> Result<(Receiver, Received), Refusal> {
+    pub fn receive(&self, cell: &[u8], indication: bool, lengths: [usize; 3]) -> Result<(Receiver, Received), Refusal> {
         let shape = self.shape()?;
         let [room, ancillary_len, marks_len] = lengths;
         refuse_if(cell.len() != CELL_OCTETS || room != ancillary_len || room != marks_len, 5)?;

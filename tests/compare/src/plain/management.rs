@@ -138,11 +138,9 @@ fn connected(ports: &[u8], message: &[u8]) -> Deed {
         Some((port, record)) if is_source(record) => {
             Deed { asked: Some((Network::AddParty, port, reference)), ..Deed::default() }
         }
-        Some((port, _)) => Deed {
-            asked: Some((Network::Setup, port, reference)),
-            stored: Some((port, reference)),
-            ..Deed::default()
-        },
+        Some((port, _)) => {
+            Deed { asked: Some((Network::Setup, port, reference)), stored: Some((port, reference)), ..Deed::default() }
+        }
     }
 }
 

@@ -1,8 +1,9 @@
 """The proved sender and receiver of spoken-book readings over ATM cells (IEC 62365), and what stands beside them.
 
-The library is librimesatchel.so, which `make lib` writes. It is looked for in the folder that RIMESATCHEL_LIB names, in the
-repository's target/lib, beside an installed copy of this module, and where the system looks for libraries. What is answered is
-the library's own answer. A call that is refused does nothing and raises Refused, which has the number and its words.
+The library isn't in this package: `make lib` proves and writes it, `make install` puts it in place. It is looked for in the
+folder that RIMESATCHEL_LIB names; where it names none, in the repository's target/lib, beside an installed copy of this module,
+and where the system looks for libraries. What is answered is the library's own answer. A call that is refused does nothing and
+raises Refused, which has the number and its words.
 
 56 hex is 24-bit samples; two channels in order 0 are six times two samples a cell:
 
@@ -42,55 +43,58 @@ __all__ = [
     "read_unit", "salvage", "sheet", "words",
 ]
 
-_OCTETS, _NUMBERS, _LONG = POINTER(c_uint8), POINTER(c_uint32), POINTER(c_uint64)
-_RUN8, _RUN32, _RUN64 = [_OCTETS, c_size_t], [_NUMBERS, c_size_t], [_LONG, c_size_t]
+_RUN8, _RUN32, _RUN64 = ([POINTER(kind), c_size_t] for kind in (c_uint8, c_uint32, c_uint64))
 _SETTINGS = [c_uint32, c_uint32, c_uint32]
+_SENDER, _RECEIVER, _REPORT, _STATUS = (POINTER(c_uint8 * octets) for octets in (7, 9, 4, 25))
 _ARGUMENTS: dict[str, list[Any]] = {
-    "rime_sender_open": [*_SETTINGS, c_uint32, c_bool, c_uint32, _OCTETS],
-    "rime_send": [_OCTETS, c_bool, *_RUN64, *_RUN8, *_RUN8],
-    "rime_receiver_open": [*_SETTINGS, _OCTETS],
-    "rime_receive": [_OCTETS, *_RUN8, c_bool, *_RUN64, *_RUN8, *_RUN8, _OCTETS],
-    "rime_status_step": [_OCTETS, c_uint8, c_uint8, _OCTETS],
-    "rime_log_header": [*_RUN8, _NUMBERS],
-    "rime_log_record": [*_RUN8, c_size_t, _LONG],
-    "rime_log_put_header": [*_RUN8, *_SETTINGS, _LONG],
-    "rime_log_put_record": [*_RUN8, c_size_t, *_RUN8, c_bool, _LONG],
-    "rime_log_list": [*_RUN8, *_RUN8, _LONG],
-    "rime_anything": [*_RUN8, _LONG],
-    "rime_salvage": [*_RUN8, *_RUN8, *_RUN64, _LONG],
-    "rime_sheet": [*_RUN8, *_RUN64, *_RUN32, _NUMBERS],
-    "rime_aes3_import": [_OCTETS, _NUMBERS, _LONG, _OCTETS],
-    "rime_aes3_export": [_LONG, _OCTETS, _OCTETS, _NUMBERS],
-    "rime_units_export": [c_uint32, c_uint32, c_size_t, *_RUN64, *_RUN8, *_RUN8, _LONG],
-    "rime_unit_read": [c_uint32, c_uint32, *_RUN8, *_RUN64, *_RUN8, _LONG],
-    "rime_circuits_check": [*_SETTINGS, *_RUN32, *_RUN32, _NUMBERS],
+    "rime_sender_open": [*_SETTINGS, c_uint32, c_bool, c_uint32, _SENDER],
+    "rime_send": [_SENDER, c_bool, *_RUN64, *_RUN8, *_RUN8],
+    "rime_receiver_open": [*_SETTINGS, _RECEIVER],
+    "rime_receive": [_RECEIVER, *_RUN8, c_bool, *_RUN64, *_RUN8, *_RUN8, _REPORT],
+    "rime_receiver_placed": [_RECEIVER],
+    "rime_status_step": [_STATUS, c_uint8, c_uint8, _STATUS],
+    "rime_check_character": [POINTER(c_uint8 * 24)],
+    "rime_log_header": [*_RUN8, POINTER(c_uint32 * 4)],
+    "rime_log_record": [*_RUN8, c_size_t, POINTER(c_uint64 * 4)],
+    "rime_log_put_header": [*_RUN8, *_SETTINGS, POINTER(c_uint64)],
+    "rime_log_put_record": [*_RUN8, c_size_t, *_RUN8, c_bool, POINTER(c_uint64)],
+    "rime_log_list": [*_RUN8, *_RUN8, POINTER(c_uint64 * 2)],
+    "rime_anything": [*_RUN8, POINTER(c_uint64 * 2)],
+    "rime_salvage": [*_RUN8, *_RUN8, *_RUN64, POINTER(c_uint64 * 3)],
+    "rime_sheet": [*_RUN8, *_RUN64, *_RUN32, POINTER(c_uint32 * 10)],
+    "rime_aes3_import": [POINTER(kind * 2) for kind in (c_uint8, c_uint32, c_uint64, c_uint8)],
+    "rime_aes3_export": [POINTER(kind * 2) for kind in (c_uint64, c_uint8, c_uint8, c_uint32)],
+    "rime_units_export": [c_uint32, c_uint32, c_size_t, *_RUN64, *_RUN8, *_RUN8, POINTER(c_uint64 * 3)],
+    "rime_unit_read": [c_uint32, c_uint32, *_RUN8, *_RUN64, *_RUN8, POINTER(c_uint64)],
+    "rime_circuits_check": [*_SETTINGS, *_RUN32, *_RUN32, POINTER(c_uint32 * 2)],
     "rime_circuits_plan": [c_uint32, c_uint32, *_RUN32],
-    "rime_equipment": [*_RUN8, *_RUN8, *_RUN8, _LONG],
+    "rime_equipment": [*_RUN8, *_RUN8, *_RUN8, POINTER(c_uint64 * 4)],
     "rime_controller": [*_RUN8, *_RUN8],
 }
+_ANSWERS: dict[str, Any] = {"rime_receiver_placed": c_uint32}  # every other call returns an octet
+_ABI = 2  # the first number of the version: a library of another one is another library
 
 
 def _load(name: str) -> ctypes.CDLL:
     """The shared library of this name, from the first folder that has it."""
+    file = f"lib{name}.so.{_ABI}"
     here = pathlib.Path(__file__).resolve().parent
     named = os.environ.get("RIMESATCHEL_LIB")
-    folders = [pathlib.Path(named)] if named else []
-    folders += [here.parent.parent / "target" / "lib", *list(here.parents)[:3]]
-    for folder in folders:
-        if (folder / name).exists():
-            return ctypes.CDLL(str(folder / name))
+    folders = [pathlib.Path(named)] if named else [*list(here.parents)[:3], here.parents[2] / "target" / "lib"]
+    places = [str(folder / file) for folder in folders if (folder / file).exists()]
+    if named and not places:
+        raise ImportError(f"{file} isn't in {named}, the folder that RIMESATCHEL_LIB names")
     try:
-        return ctypes.CDLL(name)
-    except OSError:
-        raise ImportError(f"{name} isn't there: `make lib` writes it; RIMESATCHEL_LIB may name its folder") from None
+        return ctypes.CDLL(places[0] if places else file)
+    except OSError as why:
+        advice = "`make install` puts it in place, or RIMESATCHEL_LIB names its folder"
+        raise ImportError(f"{file} can't be loaded: {advice} ({why})") from None
 
 
-_library = _load("librimesatchel.so")
+_library = _load("rimesatchel")
 _management: list[ctypes.CDLL] = []
 _library.rime_refusal_words.argtypes, _library.rime_refusal_words.restype = [c_uint], c_char_p
 _library.rime_version.argtypes, _library.rime_version.restype = [], c_char_p
-_library.rime_receiver_placed.argtypes, _library.rime_receiver_placed.restype = [_OCTETS], c_uint32
-_library.rime_check_character.argtypes, _library.rime_check_character.restype = [_OCTETS], c_uint8
 
 VERSION: str = _library.rime_version().decode()
 
@@ -101,7 +105,8 @@ def words(number: int) -> str:
     >>> words(15)
     "the cell came with indication 1, and its number isn't a multiple of 8"
     """
-    return _library.rime_refusal_words(number).decode()
+    text: bytes = _library.rime_refusal_words(number)
+    return text.decode()
 
 
 class Refused(Exception):
@@ -112,14 +117,20 @@ class Refused(Exception):
         self.number = number
 
 
-def _call(name: str, *arguments: Any, library: ctypes.CDLL = _library) -> None:
+def _ask(name: str, *arguments: Any, library: ctypes.CDLL = _library) -> int:
     """Calls a function; a run is its ctypes array, and its length goes behind it."""
     function = getattr(library, name)
-    function.argtypes, function.restype = _ARGUMENTS[name], c_uint8
+    function.argtypes, function.restype = _ARGUMENTS[name], _ANSWERS.get(name, c_uint8)
     flat: list[Any] = []
     for argument in arguments:
         flat += [argument.array, len(argument.array)] if isinstance(argument, _Lent) else [argument]
-    refusal = function(*flat)
+    answer: int = function(*flat)
+    return answer
+
+
+def _call(name: str, *arguments: Any, library: ctypes.CDLL = _library) -> None:
+    """Calls a function that returns a refusal."""
+    refusal = _ask(name, *arguments, library=library)
     if refusal != 0:
         raise Refused(refusal)
 
@@ -218,7 +229,7 @@ class Receiver:
     @property
     def placed(self) -> int:
         """How many cells were placed since the opening, sound and missing together."""
-        return _library.rime_receiver_placed(self._state)
+        return _ask("rime_receiver_placed", self._state)
 
     def receive(self, cell: bytes, indication: bool = False) -> Handed:
         """Takes a cell as it came. Refused 5, 8, 15, 9 or 20, and then the receiver is as it was."""
@@ -269,7 +280,7 @@ def check_character(block: bytes) -> int:
     """The check character of octets 0 to 22 of 24."""
     if len(block) != 24:
         raise ValueError("a block of channel status is 24 octets")
-    return _library.rime_check_character(_octets(block).array)
+    return _ask("rime_check_character", _octets(block).array)
 
 
 class Writer:
@@ -548,7 +559,7 @@ class Deed(NamedTuple):
 
 def _port() -> ctypes.CDLL:
     if not _management:
-        _management.append(_load("libmanagement.so"))
+        _management.append(_load("rime_management"))
     return _management[0]
 
 
