@@ -15,6 +15,8 @@ mod raw {
             report: *mut [u64; 4],
         ) -> u8;
         pub fn rime_controller(ports: *mut u8, ports_len: usize, message: *const u8, message_len: usize) -> u8;
+        pub fn rime_port_settings(port: *const [u8; 28], settings: *mut [u32; 3]) -> u8;
+        pub fn rime_port_packing(format: u32, channels: u32, order: u32, packing: *mut u8) -> u8;
     }
 }
 
@@ -30,4 +32,14 @@ pub fn equipment(ports: &mut [u8], message: &[u8], answer: &mut [u8], report: &m
 pub fn controller(ports: &mut [u8], message: &[u8]) -> u8 {
     let (ports_at, ports_len) = (ports.as_mut_ptr(), ports.len());
     unsafe { raw::rime_controller(ports_at, ports_len, message.as_ptr(), message.len()) }
+}
+
+/// `rime_port_settings`: the format, C and order that a port's record is set to.
+pub fn port_settings(port: &[u8; 28], settings: &mut [u32; 3]) -> u8 {
+    unsafe { raw::rime_port_settings(port, settings) }
+}
+
+/// `rime_port_packing`: the packing octet of a format, C and order.
+pub fn port_packing(format: u32, channels: u32, order: u32, packing: &mut u8) -> u8 {
+    unsafe { raw::rime_port_packing(format, channels, order, packing) }
 }
