@@ -80,9 +80,9 @@ module _ (s : SettingsCall) (p : PackingCall) (settles : Settles s) (codes : Cod
     back-and-there = (
       codes .refused ∙ handed (λ f c o. settingsRefusal f c o ≡ 0) no-refusal,
       codes .leaves
-      ∙ handed
-      (λ f c o. packingOf f c o ≡ cond (eqb octet (0x40 + 1) || eqb octet (0x40 + slotsOf f)) (octet - 0x40) octet)
-      (octet-back (s .port) no-refusal),
+          ∙ handed
+          (λ f c o. packingOf f c o ≡ cond (eqb octet (0x40 + 1) || eqb octet (0x40 + slotsOf f)) (octet - 0x40) octet)
+          (octet-back (s .port) no-refusal),
     )
 
 pub two-octets : (a b : SettingsCall) → Settles a → Settles b → getD (a .port) 3 0 ≡ getD (b .port) 3 0

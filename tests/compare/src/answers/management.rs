@@ -27,7 +27,8 @@ pub fn controller_by_plain(case: &Case) -> Answer {
 }
 
 pub fn port_settings_by_plain(case: &Case) -> Answer {
-    let (refusal, settings) = plain::port_settings(case.octets(0)).map_or_else(|no| (no, [0; 3]), |settings| (0, settings));
+    let (refusal, settings) =
+        plain::port_settings(case.octets(0)).map_or_else(|no| (no, [0; 3]), |settings| (0, settings));
     values![u64::from(refusal), &settings[..]]
 }
 
