@@ -30,7 +30,7 @@ enum {
     RIME_INPUT_STATUS = 9,        /* an input port status message (Table 6) */
     RIME_OUTPUT_STATUS = 29,      /* an output port status message (Table 7): no answer is longer */
     RIME_MANAGEMENT_REPORT = 4,
-    RIME_PORT_SETTINGS = 3
+    RIME_SETTINGS = 3
 };
 
 /* Refusal numbers. 1, 2 and 3 are those of an opening: rimesatchel.h. */
@@ -145,7 +145,7 @@ enum { RIME_SETTINGS_FORMAT = 0, RIME_SETTINGS_CHANNELS = 1, RIME_SETTINGS_ORDER
  * Refused, with zeros in `settings`: 1, the octet is none of the fourteen; 2, C is 0 or above S; 3, the two top bits are
  * 10 (multi-channel) or 11 (reserved).
  */
-uint8_t rime_port_settings(const uint8_t port[RIME_PORT], uint32_t settings[RIME_PORT_SETTINGS]);
+uint8_t rime_port_settings(const uint8_t port[RIME_PORT], uint32_t settings[RIME_SETTINGS]);
 
 /*
  * The packing octet of a record in these settings: order * 64 + C, but C alone where C is 1 or S (6.3.2). The slots are

@@ -61,7 +61,7 @@ static void call_and_end(uint8_t *desk, uint8_t *known, uint8_t packing) {
 
 /* The sender of a port is opened with what its record is set to. */
 static void open_sender(const uint8_t *port) {
-    uint32_t settings[RIME_PORT_SETTINGS];
+    uint32_t settings[RIME_SETTINGS];
     uint8_t sender[RIME_SENDER_STATE];
     uint8_t refusal = rime_port_settings(port, settings);
     if (refusal == RIME_MANAGEMENT_DONE)
