@@ -1,14 +1,13 @@
 -- The two sides agree: a status message that the equipment writes of a port in the format asked for leaves, in the record that the
--- controlling entity has of that port, the octets of the equipment's record that the table carries. Of one in another format, 81 to 87, the
--- status is noted, and the format isn't.
+-- controlling entity has of that port, the octets of the equipment's record that the table carries.
 -- Assumes nothing.
-use mathlib.Core.Bool.{true, false, cond}
+use mathlib.Core.Bool.{true, cond}
 use mathlib.Core.List.{List, [], _∷_, _++_}
 use mathlib.Core.Path.{_≡_, refl, sym, _∙_, ap}
 use Prim.Native.Nat.{ℕ, _+_, _*_, _≤_, _<_}
 use native.Mathlib.Nat.{add-assoc}
 use native.Mathlib.Omega.{arith}
-use borrow.Author.Tests.{eq-eqb, ne-eqb, le-leb, eqb-true, eqb-false}
+use borrow.Author.Tests.{eq-eqb, ne-eqb, eqb-true, eqb-false}
 use lib.Dec.{eqb}
 use lib.ListN.{length, take, drop, replicate, length-append, length-drop}
 use lib.Seq.{take-all, length-take-le}
@@ -19,19 +18,8 @@ use Rattle.management.specs.declared.ports.Fit.{Fit}
 use Rattle.management.specs.Code.{statusHead}
 use Rattle.management.specs.Controller.{configuration, statusTaken, controllerOf}
 use Rattle.management.specs.Demands.{carried}
-use Rattle.management.specs.Ports.{
-  portCount,
-  octetOf,
-  octetsFrom,
-  statusOf,
-  differs,
-  aspectF,
-  aspectP,
-  aspectR,
-  misfits,
-  bestFit,
-}
-use Rattle.management.specs.Status.{configured, recognised, unsupported, statusFor, statusMessage}
+use Rattle.management.specs.Ports.{portCount, octetOf, octetsFrom, statusOf, differs, misfits, bestFit}
+use Rattle.management.specs.Status.{configured, recognised, statusFor, statusMessage}
 use Rattle.management.specs.Tables.{broughtTo, inputPortStatus, outputPortStatus}
 use Rattle.management.proofs.Best.{best-is}
 use Rattle.management.proofs.Brought.{brought-exact}
@@ -133,7 +121,7 @@ same-asked asked is =
     }
 
 module _ (records : List ℕ) (asked : Enquiry) (status : ℕ) (rest : List ℕ) where
-  told-input : asked .«subsystem_code» ≡ 0 → length rest ≡ 2
+  pub told-input : asked .«subsystem_code» ≡ 0 → length rest ≡ 2
       → controllerOf records (statusHead asked status ++ rest) ≡ statusTaken records asked status rest
   unfolding controllerOf inputPortStatus
   told-input input two =
@@ -142,7 +130,7 @@ module _ (records : List ℕ) (asked : Enquiry) (status : ℕ) (rest : List ℕ)
       rw (itself, eq-eqb _ _ input, take-all 2 rest (omega arith))
       (ap (λ (e : Enquiry). statusTaken records e status rest) (same-asked asked input))
 
-  told-output : asked .«subsystem_code» ≡ 1 → length rest ≡ 22
+  pub told-output : asked .«subsystem_code» ≡ 1 → length rest ≡ 22
       → controllerOf records (statusHead asked status ++ rest) ≡ statusTaken records asked status (cond (eqb status 0xE0) rest [])
   unfolding controllerOf outputPortStatus
   told-output output many =
@@ -246,93 +234,3 @@ module _ (ports records : List ℕ) (asked : Enquiry) where
         split (eqb own 0xE0)
         (λ u. rw (t, u) (agree-output output (eqb-true _ _ u)))
         (λ u. rw (t, u) (agree-output-less output (eqb-false _ _ u))))
-
-  -- octet 3 of the status message
-  abbrev said : ℕ
-  said = statusFor ports asked there
-
-  module _ (from : 0x81 ≤ said) (to : said ≤ 0x87) where
-    not-set : configured (asked .«subsystem_code») said ≡ false
-    unfolding configured
-    not-set =
-        let disabled : said ≡ 0x40 → ⊥ = λ e. omega arith in
-        let enabled : said ≡ 0xC0 → ⊥ = λ e. omega arith in
-        let active : said ≡ 0xE0 → ⊥ = λ e. omega arith in
-        let in-use : said ≡ 0x60 → ⊥ = λ e. omega arith in
-        rw (ne-eqb said 0x40 disabled, ne-eqb said 0xC0 enabled, ne-eqb said 0xE0 active, ne-eqb said 0x60 in-use)
-        (split (eqb (asked .«subsystem_code») 1) (λ t. rw t) (λ t. rw t))
-
-    known : recognised (asked .«subsystem_code») said ≡ true
-    unfolding recognised
-    known =
-        let nowhere : said ≡ 0 → ⊥ = λ e. omega arith in
-        rw (not-set, ne-eqb said 0 nowhere, le-leb 0x81 said from, le-leb said 0x87 to)
-
-    there-is-one : there .misfits ≡ 4 → ⊥
-    unfolding statusFor
-    there-is-one none = let z : _≤_ 0x81 0 = rw (eq-eqb (there .misfits) 4 none) at from in omega arith
-
-    module _ (kept : bestFit records asked .misfits ≡ 4 → ⊥) where
-      abbrev record-at : ℕ
-      record-at = bestFit records asked .port
-
-      unset-noted : (rest : List ℕ) → statusTaken records asked said rest
-          ≡ written records (record-at * 28 + 2) ((said ∷ octetsFrom records record-at 3 3) ++ rest)
-      unfolding configuration
-      unset-noted rest =
-          let head : said ∷ octetsFrom records record-at 3 3 ≡ said ∷ configuration records asked said record-at = rw not-set in
-          sym (taken-noted records asked said rest known refl kept head refl)
-
-      -- octet 2 of the record, and of an input port its first endpoint reference
-      pub unsupported-noted : asked .«subsystem_code» ≤ 1
-          → controllerOf records (statusMessage ports asked)
-          ≡ written records (record-at * 28 + 2)
-          ((said ∷ octetsFrom records record-at 3 3) ++ cond (eqb (asked .«subsystem_code») 0) (octetsFrom ports (there .port) 6 2) [])
-      unsupported-noted few =
-          let room : there .port < portCount ports = fit-inside ports asked (portCount ports) there-is-one in
-          let two : length (octetsFrom ports (there .port) 6 2) ≡ 2
-          = length-take-le 2 (drop (there .port * 28 + 6) ports) (omega (arith, length-drop (there .port * 28 + 6) ports, room)) in
-          let other : said ≡ 0xE0 → ⊥ = λ e. omega arith in
-          split (eqb (asked .«subsystem_code») 0)
-          (λ t.
-          rw t
-          (ap (controllerOf records) (sym (input-known ports asked refl refl (eqb-true _ _ t) there-is-one))
-          ∙ told-input records asked said (octetsFrom ports (there .port) 6 2) (eqb-true _ _ t) two
-          ∙ unset-noted (octetsFrom ports (there .port) 6 2)))
-          (λ t.
-          let more : asked .«subsystem_code» ≡ 0 → ⊥ = eqb-false _ _ t in
-          let output : asked .«subsystem_code» ≡ 1 = omega arith in
-          rw t
-          (ap (controllerOf records) (sym (output-other ports asked refl refl output other))
-          ∙ told-output records asked said (replicate 22 0) output refl
-          ∙ rw (ne-eqb said 0xE0 other) (unset-noted [])))
-
-differs-to : (here asked : ℕ) → differs here asked ≤ 1
-differs-to here asked = split (eqb here asked) (λ t. rw t (omega arith)) (λ t. rw t (omega arith))
-
--- a port in another format: 81 to 87
-module _ (ports : List ℕ) (asked : Enquiry) (some : bestFit ports asked .misfits ≡ 4 → ⊥) (differ : bestFit ports asked .misfits ≡ 0 → ⊥) where
-  abbrev best : ℕ
-  best = bestFit ports asked .port
-
-  aspects : (misfits ports asked best ≡ 4 → ⊥) → misfits ports asked best ≡ aspectF ports asked best + aspectP ports asked best + aspectR ports asked best
-  unfolding misfits
-  aspects =
-      split (eqb (octetOf ports best 0) (asked .«subsystem_code»))
-      (λ t.
-      split (eqb (octetOf ports best 1) (asked .selector))
-      (λ u. rw (t, u) (λ four. refl))
-      (λ u. rw (t, u) (λ four. absurd (four refl))))
-      (λ t. rw t (λ four. absurd (four refl)))
-
-  pub unsupported-said : (0x81 ≤ statusFor ports asked (bestFit ports asked)) × (statusFor ports asked (bestFit ports asked) ≤ 0x87)
-  unfolding statusFor unsupported
-  unsupported-said =
-      let own : misfits ports asked best ≡ bestFit ports asked .misfits = best-is ports asked (portCount ports) some in
-      let sum = aspects (λ four. some (sym own ∙ four)) in
-      let one : aspectF ports asked best + aspectP ports asked best + aspectR ports asked best ≡ 0 → ⊥ = λ none. differ (sym own ∙ sum ∙ none) in
-      let f : aspectF ports asked best ≤ 1 = differs-to (octetOf ports best 3) (asked .«subframe_format») in
-      let p : aspectP ports asked best ≤ 1 = differs-to (octetOf ports best 4) (asked .packing) in
-      let r : aspectR ports asked best ≤ 1 = differs-to (octetOf ports best 5) (asked .«sampling_frequency») in
-      rw (ne-eqb (bestFit ports asked .misfits) 4 some, ne-eqb (bestFit ports asked .misfits) 0 differ)
-      (omega (arith, one, f, p, r), omega (arith, f, p, r))

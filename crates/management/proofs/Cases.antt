@@ -15,11 +15,14 @@ use Rattle.management.proofs.Wrong.{unfolded, desk, request, enquiry}
 abbrev report : ℕ → List ℕ → List ℕ
 report reference message = reportOf (equipmentOf (desk reference) message 29)
 
--- an enquiry; a connection request without a call, with one, and with the endpoint reference 0 without a call and with one; disconnections of a party, of the first one and of all; another type
-pub reports : report 0 enquiry ∷ report 0 (request 2 7) ∷ report 3 (request 2 7) ∷ report 0 (request 2 0) ∷ report 3 (request 2 0) ∷ report 3 (request 3 7) ∷ report 3 (request 3 3)
-    ∷ report 3 (3 ∷ 5 ∷ 0x56 ∷ 2 ∷ 0x90 ∷ 0xFF ∷ 0xFF ∷ []) ∷ report 3 (request 4 7) ∷ []
-    ≡ (9 ∷ 0 ∷ 0 ∷ 0 ∷ []) ∷ (0 ∷ 1 ∷ 0 ∷ 0 ∷ []) ∷ (0 ∷ 2 ∷ 0 ∷ 7 ∷ []) ∷ (9 ∷ 0 ∷ 0 ∷ 0 ∷ []) ∷ (9 ∷ 0 ∷ 0 ∷ 0 ∷ []) ∷ (0 ∷ 4 ∷ 0 ∷ 7 ∷ []) ∷ (0 ∷ 4 ∷ 0 ∷ 0 ∷ [])
-    ∷ (0 ∷ 3 ∷ 0 ∷ 0 ∷ []) ∷ (0 ∷ 0 ∷ 0 ∷ 0 ∷ []) ∷ []
+-- an enquiry; a connection request without a call and with one; the same two with the endpoint reference 0; disconnections of a party,
+-- of the first one and of all; another type
+pub reports : report 0 enquiry ∷ report 0 (request 2 7) ∷ report 3 (request 2 7) ∷ report 0 (request 2 0) ∷ report 3 (request 2 0)
+    ∷ report 3 (request 3 7) ∷ report 3 (request 3 3) ∷ report 3 (3 ∷ 5 ∷ 0x56 ∷ 2 ∷ 0x90 ∷ 0xFF ∷ 0xFF ∷ []) ∷ report 3 (request 4 7)
+    ∷ []
+    ≡ (9 ∷ 0 ∷ 0 ∷ 0 ∷ []) ∷ (0 ∷ 1 ∷ 0 ∷ 0 ∷ []) ∷ (0 ∷ 2 ∷ 0 ∷ 7 ∷ []) ∷ (9 ∷ 0 ∷ 0 ∷ 0 ∷ []) ∷ (9 ∷ 0 ∷ 0 ∷ 0 ∷ [])
+    ∷ (0 ∷ 4 ∷ 0 ∷ 7 ∷ []) ∷ (0 ∷ 4 ∷ 0 ∷ 0 ∷ []) ∷ (0 ∷ 3 ∷ 0 ∷ 0 ∷ []) ∷ (0 ∷ 0 ∷ 0 ∷ 0 ∷ [])
+    ∷ []
 unfolding unfolded
 reports = refl
 

@@ -45,8 +45,7 @@ use Rattle.management.specs.Ports.{
   identified,
 }
 use Rattle.management.specs.Status.{configured, recognised, statusFor}
-use Rattle.management.proofs.Agree.{agree, unsupported-noted}
-use Rattle.management.proofs.Agree as other-formats
+use Rattle.management.proofs.Agree.{agree}
 use Rattle.management.proofs.Best.{best-fewest, best-first, best-is, first-before, first-passes}
 use Rattle.management.proofs.Brought.{brought-shorter, brought-longer}
 use Rattle.management.proofs.Calls.{
@@ -59,6 +58,7 @@ use Rattle.management.proofs.Calls.{
   ended-call,
   zero-alone,
 }
+use Rattle.management.proofs.Differ.{unsupported-noted, nowhere-noted, unsupported-said}
 use Rattle.management.proofs.OnePort.{equipment-one, controller-one}
 use Rattle.management.proofs.PackedCalls.{settings-refuses, packing-refuses, there-and-back, back-and-there, slots-the-same, two-octets}
 use Rattle.management.proofs.Refused.{nothing-done}
@@ -171,25 +171,39 @@ module _ (e : EquipmentCall) (c : ControllerCall) where
       rw (controls .leaves, sent, answer-written e equips written)
       (agree (e .ports) (c .ports) asked fits set kept few)
 
-  -- Of a port in another format the equipment says 81 to 87. Then the status alone is noted, and of an input port its first endpoint
-  -- reference: octets 3 to 5 of the record stay, and so does all else.
+  -- Where it has no port in the format asked for: octet 3 of its message is 81 to 87, or 00. What is left then is the record with that
+  -- status, its own format, and of an input port the first endpoint reference of the equipment's port, or 0; all else stays.
   abbrev said : ℕ
   said = statusFor (e .ports) asked (bestFit (e .ports) asked)
 
-  pub unsupported-said : (bestFit (e .ports) asked .misfits ≡ 4 → ⊥) → (bestFit (e .ports) asked .misfits ≡ 0 → ⊥)
-      → (0x81 ≤ said) × (said ≤ 0x87)
-  unsupported-said = other-formats.unsupported-said (e .ports) asked
+  abbrev place : ℕ
+  place = bestFit (c .ports) asked .port
+
+  abbrev noted : List ℕ → List ℕ
+  noted first =
+      written (c .ports) (place * 28 + 2)
+      ((said ∷ octetsFrom (c .ports) place 3 3) ++ cond (eqb (asked .«subsystem_code») 0) first [])
 
   pub sides-differ : Equips e → Controls c → (getD (e .report) 0 0 ≡ 0 → ⊥) → c .message ≡ answerOf e → asked .«subsystem_code» ≤ 1
       → 0x81 ≤ said → said ≤ 0x87
       → (bestFit (c .ports) asked .misfits ≡ 4 → ⊥)
-      → c .portsAfter
-      ≡ written (c .ports) (bestFit (c .ports) asked .port * 28 + 2)
-      ((said ∷ octetsFrom (c .ports) (bestFit (c .ports) asked .port) 3 3)
-      ++ cond (eqb (asked .«subsystem_code») 0) (octetsFrom (e .ports) (bestFit (e .ports) asked .port) 6 2) [])
+      → c .portsAfter ≡ noted (octetsFrom (e .ports) (bestFit (e .ports) asked .port) 6 2)
   sides-differ equips controls written sent few from to kept =
       rw (controls .leaves, sent, answer-written e equips written)
-      (unsupported-noted (e .ports) (c .ports) asked from to kept few)
+      (unsupported-noted (e .ports) (c .ports) asked kept few from to)
+
+  -- a port in another format says 81 to 87
+  pub other-format-said : (bestFit (e .ports) asked .misfits ≡ 4 → ⊥) → (bestFit (e .ports) asked .misfits ≡ 0 → ⊥)
+      → (0x81 ≤ said) × (said ≤ 0x87)
+  other-format-said = unsupported-said (e .ports) asked
+
+  pub sides-nowhere : Equips e → Controls c → (getD (e .report) 0 0 ≡ 0 → ⊥) → c .message ≡ answerOf e → asked .«subsystem_code» ≤ 1
+      → bestFit (e .ports) asked .misfits ≡ 4
+      → (bestFit (c .ports) asked .misfits ≡ 4 → ⊥)
+      → (said ≡ 0) × (c .portsAfter ≡ noted (replicate 2 0))
+  sides-nowhere equips controls written sent few none kept =
+      let both = nowhere-noted (e .ports) (c .ports) asked kept few none in
+      (both .0, rw (controls .leaves, sent, answer-written e equips written) (both .1))
 
 -- What a box is opened with, and the packing octet (6.2, 6.3).
 module _ (s : SettingsCall) (p : PackingCall) (settles : Settles s) (codes : Codes p) where

@@ -4,6 +4,7 @@ pub mod Brought
 pub mod Calls
 pub mod Cases
 pub mod Demands
+pub mod Differ
 pub mod Fits
 pub mod Messages
 pub mod One

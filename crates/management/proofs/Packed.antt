@@ -141,7 +141,8 @@ module _ (format channels order : ℕ) (none : settingsRefusal format channels o
 -- settings, then packing: over C, the order and S
 octet-back-by : (slots channels order : ℕ) → channels < 64 → order ≤ 1
     → orderCoded slots channels order * 64 + channels
-    ≡ cond (eqb (order * 64 + channels) (0x40 + 1) || eqb (order * 64 + channels) (0x40 + slots)) (order * 64 + channels - 0x40) (order * 64 + channels)
+    ≡ cond (eqb (order * 64 + channels) (0x40 + 1) || eqb (order * 64 + channels) (0x40 + slots)) (order * 64 + channels - 0x40)
+    (order * 64 + channels)
 unfolding orderCoded
 octet-back-by slots channels order low few =
     split (eqb order 0)
@@ -186,7 +187,8 @@ module _ (port : List ℕ) (none : portRefusal port ≡ 0) where
       ∙ ap (λ (p : ℕ). cond (eqb p (0x40 + 1) || eqb p (0x40 + slotsOf format)) (p - 0x40) p) is)
 
 -- with one channel, and with one time, both orders give the same slot
-one-channel : {channels : ℕ} (times channel time : ℕ) → channels ≡ 1 → channel < channels → time * channels + channel ≡ channel * times + time
+one-channel : {channels : ℕ} (times channel time : ℕ) → channels ≡ 1 → channel < channels
+    → time * channels + channel ≡ channel * times + time
 one-channel times channel time one inside =
     let zero : channel ≡ 0 = omega arith in
     ap₂ (λ (n k : ℕ). time * n + k) one zero ∙ omega arith ∙ ap (λ (k : ℕ). k * times + time) (sym zero)
@@ -197,27 +199,30 @@ one-time channels channel time one inside =
     ap (λ (k : ℕ). k * channels + channel) zero ∙ omega arith ∙ ap₂ (λ (n k : ℕ). channel * n + k) (sym one) (sym zero)
 
 -- so 6.3.2 moves no slot
-module _ (slots channels order channel time : ℕ) (some : 1 ≤ channels) (inside : channel < channels) (within : time < timesOf slots channels) where
-  abbrev Same : ℕ → Type 0
-  Same lower =
-      slotOf (eqb lower 1) channels (timesOf slots channels) channel time ≡ slotOf (eqb order 1) channels (timesOf slots channels) channel time
+module _ (slots channels order channel time : ℕ) (some : 1 ≤ channels) (inside : channel < channels) (within : time < timesOf slots channels)
+  where
+    abbrev slot : ℕ → ℕ
+    slot o = slotOf (eqb o 1) channels (timesOf slots channels) channel time
 
-  by-time : time * channels + channel ≡ channel * timesOf slots channels + time → Same 0
-  unfolding slotOf
-  by-time alike = split (eqb order 1) (λ t. rw t alike) (λ t. rw t)
+    abbrev Same : ℕ → Type 0
+    Same lower = slot lower ≡ slot order
 
-  pub slot-stays : Same (orderCoded slots channels order)
-  unfolding orderCoded
-  slot-stays =
-      split (eqb channels 1)
-      (λ t. rw t (by-time (one-channel (timesOf slots channels) channel time (eqb-true channels 1 t) inside)))
-      (λ t.
-      split (eqb channels slots)
-      (λ u.
-      let whole : slots ≡ 1 * channels + 0 = omega (arith, eqb-true channels slots u) in
-      let one : timesOf slots channels ≡ 1 = ap (λ (s : ℕ). s / channels) whole ∙ digits-div 1 some in
-      rw (t, u) (by-time (one-time channels channel time one within)))
-      (λ u. rw (t, u)))
+    by-time : time * channels + channel ≡ channel * timesOf slots channels + time → Same 0
+    unfolding slotOf
+    by-time alike = split (eqb order 1) (λ t. rw t alike) (λ t. rw t)
+
+    pub slot-stays : Same (orderCoded slots channels order)
+    unfolding orderCoded
+    slot-stays =
+        split (eqb channels 1)
+        (λ t. rw t (by-time (one-channel (timesOf slots channels) channel time (eqb-true channels 1 t) inside)))
+        (λ t.
+        split (eqb channels slots)
+        (λ u.
+        let whole : slots ≡ 1 * channels + 0 = omega (arith, eqb-true channels slots u) in
+        let one : timesOf slots channels ≡ 1 = ap (λ (s : ℕ). s / channels) whole ∙ digits-div 1 some in
+        rw (t, u) (by-time (one-time channels channel time one within)))
+        (λ u. rw (t, u)))
 
 -- the two top bits 10 and 11, which are no order
 pub top-bits : (packing : ℕ) → ltb 1 (packing / 64) ≡ leb 0x80 packing

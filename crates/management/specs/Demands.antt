@@ -60,8 +60,8 @@ pub record PackingCall : Type 0 where
 abbrev pub Codes : PackingCall → Type 0
 Codes c = Packs (c .format) (c .channels) (c .order) (c .refusal) (c .packing)
 
--- checks 1 to 3 of octets 3 and 4 of a record: "none of the fourteen"; C, the low six bits, "is 0 or above S"; the two top bits are 10 or 11,
--- which is no order
+-- checks 1 to 3 of octets 3 and 4 of a record: "none of the fourteen"; C, the low six bits, "is 0 or above S"; the two top bits are 10
+-- or 11, which is no order
 unfoldable pub recordRefusal : List ℕ → ℕ
 recordRefusal port =
     cond (not (isListed (getD port 3 0))) 1
@@ -84,7 +84,8 @@ askedBy message =
 abbrev pub referenceIn : List ℕ → ℕ
 referenceIn message = numberOf (getD message 5 0 ∷ getD message 6 0 ∷ [])
 
--- an answer is due: to every status enquiry, to a request that identifies no port, and to a connection request with the endpoint reference 0
+-- an answer is due: to every status enquiry, to a request that identifies no port, and to a connection request with the endpoint
+-- reference 0
 unfoldable pub answerDue : List ℕ → List ℕ → Bool
 answerDue ports message =
     eqb (getD message 0 0) 1

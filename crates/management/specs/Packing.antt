@@ -12,8 +12,8 @@ use Rattle.formats.specs.Formats.{slotsOf, settingsRefusal}
 abbrev pub channelsIn : ℕ → ℕ
 channelsIn packing = packing % 64
 
--- its two top bits: "00 temporal grouping", order 0; "01 grouping by channel", order 1; "10 multi-channel" and "11 reserved" are 2 and 3, so
--- that check 3 refuses them
+-- its two top bits: "00 temporal grouping", order 0; "01 grouping by channel", order 1; "10 multi-channel" and "11 reserved" are 2 and
+-- 3, so that check 3 refuses them
 abbrev pub orderIn : ℕ → ℕ
 orderIn packing = packing / 64
 

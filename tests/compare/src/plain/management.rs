@@ -212,15 +212,16 @@ pub fn controller(ports: &mut [u8], message: &[u8]) -> Result<(), Refusal> {
     Ok(())
 }
 
-/// Format, C and order of a record: "bits 6 to 1 show number of audio channels", "00 temporal grouping", "01 grouping by channel".
+/// Format, C and order of a record: "bits 6 to 1 show number of audio channels", "00 temporal grouping", "01 grouping by
+/// channel".
 pub fn port_settings(record: &[u8]) -> Result<[u64; 3], Refusal> {
     let (format, packing) = (u64::from(record[FORMAT]), u64::from(record[PACKING]));
     let (order, channels) = (packing >> 6, packing & 0b11_1111);
     Shape::new(format, channels, order).map(|_| [format, channels, order])
 }
 
-/// The packing octet. 6.3.2: "Where the number of channels is 1, or equal to the number of samples per cell, the coding for temporal
-/// grouping shall be used."
+/// The packing octet. 6.3.2: "Where the number of channels is 1, or equal to the number of samples per cell, the coding for
+/// temporal grouping shall be used."
 pub fn port_packing(format: u64, channels: u64, order: u64) -> Result<u64, Refusal> {
     let shape = Shape::new(format, channels, order)?;
     let temporal = order == 0 || shape.channels == 1 || shape.channels == shape.format.slots;
