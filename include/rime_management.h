@@ -100,14 +100,14 @@ enum { RIME_NETWORK_NOTHING = 0, RIME_SETUP = 1, RIME_ADD_PARTY = 2, RIME_RELEAS
  * An audio connection request (2) is about the first input port with that selector and format that is the source of a
  * call, or whose status is C0 or E0 hex. If it is the source of one, an ADD PARTY is asked for and nothing changes.
  * Else octets 5 and 6 of the message become its first endpoint reference, as they came, and a SETUP is asked for. The
- * destination address of either is octets 7 to 26 of the message, zeros where it is shorter. With 0 in octets 5 and 6
- * the request is answered as below, and nothing changes.
+ * destination address of either is octets 7 to 26 of the message, zeros where it is shorter.
  *
  * An audio disconnection request (3) is about the first input port with that selector and format that is the source of
  * a call. With FFFF hex in octets 5 and 6 a RELEASE is asked for, and its first endpoint reference becomes 0. Else a
  * DROP PARTY is asked for and nothing changes.
  *
- * A request for which there is no such port is answered by the status message for its octets 1 to 4.
+ * A request for which there is no such port, and a connection request with 0 in octets 5 and 6, is answered by the
+ * status message for its octets 1 to 4, and nothing changes.
  *
  * Leaves in `answer`, from its start, the status message where there is one; what is past it stays. Leaves in `report`
  * its length, and what the network is to be sent, for which port and with which endpoint reference. In the network the
