@@ -4,8 +4,9 @@
  *
  * A message is the content of one AAL-SDU on a management connection, from its message type on. The desk box is the
  * equipment: it hands each message to rime_equipment, sends back what then stands in `answer`, and sends the network
- * what the report asks for. Whoever controls it hands each message to rime_controller. Nothing here allocates, keeps
- * anything between two calls, or reads or writes anything but what it is lent; runs may hold any octets whatever.
+ * what the report asks for. Whoever controls it hands each message to rime_controller. rime_port_settings says what the
+ * box of a port is opened with. docs/MANAGEMENT.md says how they are used, and what to know. Nothing here allocates,
+ * keeps anything between two calls, or reads or writes anything but what it is lent; runs may hold any octets whatever.
  *
  * A message shorter than its table acts as if zeros stood at its end; what is past its table is not read (8.3.5). A
  * message of another type is ignored: 0 is returned and nothing is written, but zeros to the report.
@@ -28,10 +29,11 @@ enum {
     RIME_PORT = 28,               /* a port's record */
     RIME_INPUT_STATUS = 9,        /* an input port status message (Table 6) */
     RIME_OUTPUT_STATUS = 29,      /* an output port status message (Table 7): no answer is longer */
-    RIME_MANAGEMENT_REPORT = 4
+    RIME_MANAGEMENT_REPORT = 4,
+    RIME_SETTINGS = 3
 };
 
-/* Refusal numbers. */
+/* Refusal numbers. 1, 2 and 3 are those of an opening: rimesatchel.h. */
 enum {
     RIME_MANAGEMENT_DONE = 0,
     RIME_MANAGEMENT_NO_OCTETS = 24, /* a message of no octets */
@@ -56,7 +58,10 @@ enum {
 
 enum { RIME_INPUT_PORT = 0, RIME_OUTPUT_PORT = 1 };
 
-/* A port's status. In a status message 00 and 81 to 87 hex speak of what was asked for. */
+/*
+ * A port's status. In a status message 00 and 81 to 87 hex speak of what was asked for, and in a controlling entity's
+ * record of the last enquiry, not of the format in that record.
+ */
 enum {
     RIME_PORT_NONE = 0x00,   /* no port with this selector */
     RIME_PORT_DISABLED = 0x40,
@@ -101,12 +106,14 @@ enum { RIME_NETWORK_NOTHING = 0, RIME_SETUP = 1, RIME_ADD_PARTY = 2, RIME_RELEAS
  * a call. With FFFF hex in octets 5 and 6 a RELEASE is asked for, and its first endpoint reference becomes 0. Else a
  * DROP PARTY is asked for and nothing changes.
  *
- * A request for which there is no such port is answered by the status message for its octets 1 to 4.
+ * A request for which there is no such port, and a connection request with 0 in octets 5 and 6, is answered by the
+ * status message for its octets 1 to 4, and nothing changes.
  *
  * Leaves in `answer`, from its start, the status message where there is one; what is past it stays. Leaves in `report`
- * its length, and what the network is to be sent, for which port and with which endpoint reference: the one in octets
- * 5 and 6 of the message, or 0 in a RELEASE and where a DROP PARTY is for the first party. All are 0 where they don't
- * apply. No message both changes a record and is answered.
+ * its length, and what the network is to be sent, for which port and with which endpoint reference. In the network the
+ * first party is 0: the reference is 0 in a SETUP and where a DROP PARTY is for the first party, and else the one in
+ * octets 5 and 6 of the message. A RELEASE has none: 0. All are 0 where they don't apply. No message both changes a
+ * record and is answered.
  *
  * Refused, with nothing written but zeros to `report`: 24, a message of no octets; 25, an answer is due that is longer
  * than `answer_len`. RIME_OUTPUT_STATUS octets are always room enough. Where no answer is due the buffer isn't looked
@@ -126,6 +133,31 @@ uint8_t rime_equipment(uint8_t *ports, size_t ports_len, const uint8_t *message,
  * Refused, with nothing written: 24, a message of no octets.
  */
 uint8_t rime_controller(uint8_t *ports, size_t ports_len, const uint8_t *message, size_t message_len);
+
+/* Places in what rime_port_settings leaves, as rime_sender_open and rime_receiver_open take them. */
+enum { RIME_SETTINGS_FORMAT = 0, RIME_SETTINGS_CHANNELS = 1, RIME_SETTINGS_ORDER = 2 };
+
+/*
+ * What the box of a port is opened with, by its record, whatever its subsystem code and status: only octets 3 and 4 are
+ * read (6.2, 6.3). Leaves in `settings` the format, C, which is the low six bits of the packing octet, and the order:
+ * its two top bits 00 (temporal grouping) are order 0, and 01 (grouping by channel) order 1.
+ *
+ * Refused, with zeros in `settings`: 1, the octet is none of the fourteen; 2, C is 0 or above S; 3, the two top bits are
+ * 10 (multi-channel) or 11 (reserved).
+ */
+uint8_t rime_port_settings(const uint8_t port[RIME_PORT], uint32_t settings[RIME_SETTINGS]);
+
+/*
+ * The packing octet of a record in these settings: order * 64 + C, but C alone where C is 1 or S (6.3.2). The slots are
+ * the same there in either order.
+ *
+ * Refused as an opening is, with 0 in `packing`: 1, the octet is none of the fourteen; 2, `channels` is 0 or above S; 3,
+ * `order` is above 1. All numbers are judged as they stand, never cut.
+ *
+ * Packing, then settings: format and C come back, and so does the order but for C = 1 and C = S, where it is 0.
+ * Settings, then packing: the octet comes back but for 40 hex + 1 and 40 hex + S, which come back without the 40.
+ */
+uint8_t rime_port_packing(uint32_t format, uint32_t channels, uint32_t order, uint8_t *packing);
 
 #ifdef __cplusplus
 }

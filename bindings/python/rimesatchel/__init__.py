@@ -40,7 +40,7 @@ __all__ = [
     "VERSION", "Anything", "Block", "Deed", "Entry", "Figures", "Fit", "Frame", "Handed", "Log", "Mark", "Pair", "Receiver",
     "Record", "Refused", "Salvaged", "Sender", "Setup", "Sheet", "Status", "Units", "Verdict", "Writer", "anything",
     "check_character", "check_plan", "controller", "equipment", "export_frame", "export_units", "import_frame", "listing", "plan",
-    "read_unit", "salvage", "sheet", "words",
+    "port_packing", "port_settings", "read_unit", "salvage", "sheet", "words",
 ]
 
 _RUN8, _RUN32, _RUN64 = ([POINTER(kind), c_size_t] for kind in (c_uint8, c_uint32, c_uint64))
@@ -70,6 +70,8 @@ _ARGUMENTS: dict[str, list[Any]] = {
     "rime_circuits_plan": [c_uint32, c_uint32, *_RUN32],
     "rime_equipment": [*_RUN8, *_RUN8, *_RUN8, POINTER(c_uint64 * 4)],
     "rime_controller": [*_RUN8, *_RUN8],
+    "rime_port_settings": [_OCTETS, _NUMBERS],
+    "rime_port_packing": [*_SETTINGS, _OCTETS],
 }
 _ANSWERS: dict[str, Any] = {"rime_receiver_placed": c_uint32}  # every other call returns an octet
 _ABI = 2  # the first number of the version: a library of another one is another library
@@ -548,7 +550,8 @@ def check_plan(form: int, channels: int, frequency: int, shares: Sequence[int], 
 
 class Deed(NamedTuple):
     """What equipment does with a management message: the ports behind it, the answer that is written, and what the network is to
-    be sent: 0 nothing, 1 SETUP, 2 ADD PARTY, 3 RELEASE, 4 DROP PARTY; for which port, and with which endpoint reference."""
+    be sent: 0 nothing, 1 SETUP, 2 ADD PARTY, 3 RELEASE, 4 DROP PARTY; for which port, and with which endpoint reference (0 is the
+    first party, and so in a SETUP)."""
 
     ports: bytes
     answer: bytes
@@ -576,7 +579,36 @@ def equipment(ports: bytes, message: bytes, room: int = 64) -> Deed:
 
 
 def controller(ports: bytes, message: bytes) -> bytes:
-    """A management message at the controlling entity: the ports behind it. Refused 24."""
+    """A management message at the controlling entity: the ports behind it. Refused 24. docs/MANAGEMENT.md says what a status of 81
+    to 87 hex in them means."""
     lent = _octets(ports)
     _call("rime_controller", lent, _octets(message), library=_port())
     return bytes(lent.array)
+
+
+def port_settings(port: bytes) -> Setup:
+    """What the box of a port is opened with, by its record of 28 octets. Refused 1, 2 or 3.
+
+    >>> port_settings(bytes([0, 4, 0xE0, 0x56, 0x42]) + bytes(23))
+    Setup(format=86, channels=2, order=1)
+    >>> port_settings(bytes([0, 4, 0xE0, 0x56, 0x82]) + bytes(23))
+    Traceback (most recent call last):
+    rimesatchel.Refused: refused 3, the order is above 1
+    """
+    if len(port) != 28:
+        raise ValueError("a port's record has 28 octets")
+    settings = (c_uint32 * 3)()
+    _call("rime_port_settings", _octets(port).array, settings, library=_port())
+    return Setup(*settings)
+
+
+def port_packing(setup: Setup) -> int:
+    """The packing octet of a record in these settings: order × 64 + C, but C alone for one channel and for S of them. Refused 1, 2
+    or 3.
+
+    >>> [hex(port_packing(Setup(0x56, channels, 1))) for channels in (1, 2, 12)]
+    ['0x1', '0x42', '0xc']
+    """
+    packing = (c_uint8 * 1)()
+    _call("rime_port_packing", *map(_setting, setup), packing, library=_port())
+    return packing[0]

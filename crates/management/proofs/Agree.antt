@@ -121,7 +121,7 @@ same-asked asked is =
     }
 
 module _ (records : List ℕ) (asked : Enquiry) (status : ℕ) (rest : List ℕ) where
-  told-input : asked .«subsystem_code» ≡ 0 → length rest ≡ 2
+  pub told-input : asked .«subsystem_code» ≡ 0 → length rest ≡ 2
       → controllerOf records (statusHead asked status ++ rest) ≡ statusTaken records asked status rest
   unfolding controllerOf inputPortStatus
   told-input input two =
@@ -130,7 +130,7 @@ module _ (records : List ℕ) (asked : Enquiry) (status : ℕ) (rest : List ℕ)
       rw (itself, eq-eqb _ _ input, take-all 2 rest (omega arith))
       (ap (λ (e : Enquiry). statusTaken records e status rest) (same-asked asked input))
 
-  told-output : asked .«subsystem_code» ≡ 1 → length rest ≡ 22
+  pub told-output : asked .«subsystem_code» ≡ 1 → length rest ≡ 22
       → controllerOf records (statusHead asked status ++ rest) ≡ statusTaken records asked status (cond (eqb status 0xE0) rest [])
   unfolding controllerOf outputPortStatus
   told-output output many =

@@ -1,7 +1,7 @@
 -- The laws of the definitions, said of calls that meet the contracts.
 -- Assumes nothing.
 use mathlib.Core.List.{List}
-use mathlib.Core.Path.{_≡_, sym, _∙_, ap}
+use mathlib.Core.Path.{_≡_, sym, _∙_, ap, subst}
 use Prim.Native.Nat.{ℕ}
 use borrow.Author.Tests.{eqb-true}
 use lib.Dec.{eqb}
@@ -16,6 +16,7 @@ use Rattle.management.specs.Demands.{
   ControllerCall,
   Controls,
   askedBy,
+  referenceIn,
   equipmentRefusal,
   controllerRefusal,
   NothingDone,
@@ -24,11 +25,13 @@ use Rattle.management.specs.Demands.{
   equipmentLength,
   controllerLength,
 }
-use Rattle.management.specs.Equipment.{Outcome, equipmentOf, reportOf}
+use Rattle.management.specs.Equipment.{Outcome, Leaves, replied, equipmentOf, reportOf}
+use Rattle.management.specs.Ports.{firstReference}
 use Rattle.management.specs.Status.{statusMessage}
 use Rattle.management.specs.Tables.{broughtTo}
 use Rattle.management.proofs.Brought.{equipment-brought, controller-brought}
 use Rattle.management.proofs.Refused.{equipment-refusal, refused-nothing, written-status, answered-nothing, nothing-done}
+use Rattle.management.proofs.Setup.{SetUp, set-up, zero-replied}
 use Rattle.management.proofs.Taken.{empty-message}
 
 pub equipment-refuses : (c : EquipmentCall) → Equips c
@@ -100,3 +103,28 @@ module _ (c : EquipmentCall) (meets : Equips c) (written : getD (c .report) 0 0 
 
   pub answered-alone : c .portsAfter ≡ c .ports
   answered-alone = meets .leaves ∙ answered-nothing (c .ports) (c .message) (length (c .answer)) (λ none. written (count ∙ none))
+
+module _ (c : EquipmentCall) (meets : Equips c) where
+  abbrev comes-to : Outcome
+  comes-to = equipmentOf (c .ports) (c .message) (length (c .answer))
+
+  -- the numbers of the report
+  reported : (k : ℕ) → getD (c .report) k 0 ≡ getD (reportOf comes-to) k 0
+  reported k = ap (λ (l : List ℕ). getD l k 0) (meets .reports)
+
+  pub ended-call : getD (c .report) 1 0 ≡ 1
+      → (getD (c .report) 3 0 ≡ 0) × (firstReference (c .portsAfter) (getD (c .report) 2 0) ≡ 0 → ⊥)
+  ended-call setup =
+      let ends : SetUp comes-to = set-up (c .ports) (c .message) (length (c .answer)) in
+      let said = ends (sym (reported 1) ∙ setup) in (
+        reported 3 ∙ said .0,
+        λ none. said .1 ((λ i. firstReference (sym (meets .leaves) i) (sym (reported 2) i)) ∙ none),
+      )
+
+  pub zero-alone : getD (c .message) 0 0 ≡ 2 → referenceIn (c .message) ≡ 0
+      → Leaves (replied (c .ports) (askedBy (c .message)) (length (c .answer))) (c .answer) (c .refusal) (c .portsAfter) (c .answerAfter) (c .report)
+  zero-alone type zero =
+      subst
+      (λ (o : Outcome). Leaves o (c .answer) (c .refusal) (c .portsAfter) (c .answerAfter) (c .report))
+      (zero-replied (c .ports) (c .message) (length (c .answer)) type zero)
+      meets

@@ -1,18 +1,28 @@
 -- What was asked for of the management port, on one page: each statement beside the words that it stands for, each proof a citation.
 -- Assumes nothing.
-use mathlib.Core.Bool.{Bool, true, false}
-use mathlib.Core.List.{List, _++_}
+use mathlib.Core.Bool.{Bool, true, false, cond, _||_}
+use mathlib.Core.List.{List, [], _∷_, _++_}
 use mathlib.Core.Path.{_≡_, sym, _∙_}
-use Prim.Native.Nat.{ℕ, _-_, _≤_, _<_, zero-le}
+use Prim.Native.Nat.{ℕ, _+_, _*_, _-_, _≤_, _<_, zero-le}
 use native.Mathlib.Nat.{zero-add}
+use lib.Dec.{eqb}
 use lib.ListN.{length, getD, take, replicate}
+use Rattle.runs.specs.Runs.{written}
+use Rattle.formats.specs.Formats.{slotsOf, timesOf, settingsRefusal}
+use Rattle.cells.specs.Placement.{slotOf}
 use Rattle.management.specs.declared.ports.Enquiry.{Enquiry}
 use Rattle.management.specs.Demands.{
   EquipmentCall,
   Equips,
   ControllerCall,
   Controls,
+  SettingsCall,
+  Settles,
+  PackingCall,
+  Codes,
+  recordRefusal,
   askedBy,
+  referenceIn,
   equipmentRefusal,
   controllerRefusal,
   NothingDone,
@@ -23,8 +33,18 @@ use Rattle.management.specs.Demands.{
   controllerLength,
   carried,
 }
-use Rattle.management.specs.Ports.{portCount, octetsFrom, statusOf, misfits, bestFit, serves, identified}
-use Rattle.management.specs.Status.{configured, recognised}
+use Rattle.management.specs.Equipment.{Leaves, replied}
+use Rattle.management.specs.Ports.{
+  portCount,
+  octetsFrom,
+  statusOf,
+  firstReference,
+  misfits,
+  bestFit,
+  serves,
+  identified,
+}
+use Rattle.management.specs.Status.{configured, recognised, statusFor}
 use Rattle.management.proofs.Agree.{agree}
 use Rattle.management.proofs.Best.{best-fewest, best-first, best-is, first-before, first-passes}
 use Rattle.management.proofs.Brought.{brought-shorter, brought-longer}
@@ -35,8 +55,12 @@ use Rattle.management.proofs.Calls.{
   controller-alike,
   answer-written,
   answered-alone,
+  ended-call,
+  zero-alone,
 }
+use Rattle.management.proofs.Differ.{unsupported-noted, nowhere-noted, unsupported-said}
 use Rattle.management.proofs.OnePort.{equipment-one, controller-one}
+use Rattle.management.proofs.PackedCalls.{settings-refuses, packing-refuses, there-and-back, back-and-there, slots-the-same, two-octets}
 use Rattle.management.proofs.Refused.{nothing-done}
 use Rattle.management.proofs.Requests.{not-recognised}
 use Rattle.management.proofs.Taken.{not-status, reserved, unknown-status}
@@ -51,6 +75,15 @@ pub demand-1-controller : (c : ControllerCall) → Controls c
     → (c .refusal ≡ controllerRefusal (c .message)) × ((c .refusal ≡ 0 → ⊥) → c .portsAfter ≡ c .ports)
 demand-1-controller = controller-refuses
 
+-- Checks 1 to 3 of "an octet that is none of the fourteen", "C is 0 or above S", "order above 1"; zeros then.
+pub demand-1-port-settings : (c : SettingsCall) → Settles c
+    → (c .refusal ≡ recordRefusal (c .port)) × ((c .refusal ≡ 0 → ⊥) → c .settings ≡ 0 ∷ 0 ∷ 0 ∷ [])
+demand-1-port-settings = settings-refuses
+
+pub demand-1-port-packing : (c : PackingCall) → Codes c
+    → (c .refusal ≡ settingsRefusal (c .format) (c .channels) (c .order)) × ((c .refusal ≡ 0 → ⊥) → c .packing ≡ 0)
+demand-1-port-packing = packing-refuses
+
 -- "Each recognised message .. changes one port's record ..; every other port stays": whatever the message, at most one does.
 pub one-port-equipment : (c : EquipmentCall) → Equips c → OnePort (c .ports) (c .portsAfter)
 one-port-equipment c meets = rw (meets .leaves) (equipment-one (c .ports) (c .message) (length (c .answer)))
@@ -61,6 +94,17 @@ one-port-controller c meets = rw (meets .leaves) (controller-one (c .ports) (c .
 -- "or both, or neither where clause 8 says so": no message both changes a record and writes a status message.
 pub answer-changes-nothing : (c : EquipmentCall) → Equips c → (getD (c .report) 0 0 ≡ 0 → ⊥) → c .portsAfter ≡ c .ports
 answer-changes-nothing = answered-alone
+
+-- 8.4.2.1.2: the first endpoint reference "shall be non-zero if the port is the source of an audio call on the ATM network": so it is after a
+-- SETUP, and a disconnection request can name the call. The party of a SETUP is reported as 0, as 8.4.1.3.2 b drops it.
+pub set-up-can-be-ended : (c : EquipmentCall) → Equips c → getD (c .report) 1 0 ≡ 1
+    → (getD (c .report) 3 0 ≡ 0) × (firstReference (c .portsAfter) (getD (c .report) 2 0) ≡ 0 → ⊥)
+set-up-can-be-ended = ended-call
+
+-- A connection request with the endpoint reference 0 is step a's "otherwise": "send an input port status message in reply".
+pub zero-answered : (c : EquipmentCall) → Equips c → getD (c .message) 0 0 ≡ 2 → referenceIn (c .message) ≡ 0
+    → Leaves (replied (c .ports) (askedBy (c .message)) (length (c .answer))) (c .answer) (c .refusal) (c .portsAfter) (c .answerAfter) (c .report)
+zero-answered = zero-alone
 
 -- "Any other type is ignored: no answer written, nothing in the port's records changed."
 pub type-ignored-equipment : (c : EquipmentCall) → Equips c → (length (c .message) ≡ 0 → ⊥) → (getD (c .message) 0 0 ≡ 1 → ⊥)
@@ -126,6 +170,69 @@ module _ (e : EquipmentCall) (c : ControllerCall) where
   sides-agree equips controls written sent few fits set kept =
       rw (controls .leaves, sent, answer-written e equips written)
       (agree (e .ports) (c .ports) asked fits set kept few)
+
+  -- Where it has no port in the format asked for: octet 3 of its message is 81 to 87, or 00. What is left then is the record with that
+  -- status, its own format, and of an input port the first endpoint reference of the equipment's port, or 0; all else stays.
+  abbrev said : ℕ
+  said = statusFor (e .ports) asked (bestFit (e .ports) asked)
+
+  abbrev place : ℕ
+  place = bestFit (c .ports) asked .port
+
+  abbrev noted : List ℕ → List ℕ
+  noted first =
+      written (c .ports) (place * 28 + 2)
+      ((said ∷ octetsFrom (c .ports) place 3 3) ++ cond (eqb (asked .«subsystem_code») 0) first [])
+
+  pub sides-differ : Equips e → Controls c → (getD (e .report) 0 0 ≡ 0 → ⊥) → c .message ≡ answerOf e → asked .«subsystem_code» ≤ 1
+      → 0x81 ≤ said → said ≤ 0x87
+      → (bestFit (c .ports) asked .misfits ≡ 4 → ⊥)
+      → c .portsAfter ≡ noted (octetsFrom (e .ports) (bestFit (e .ports) asked .port) 6 2)
+  sides-differ equips controls written sent few from to kept =
+      rw (controls .leaves, sent, answer-written e equips written)
+      (unsupported-noted (e .ports) (c .ports) asked kept few from to)
+
+  -- a port in another format says 81 to 87
+  pub other-format-said : (bestFit (e .ports) asked .misfits ≡ 4 → ⊥) → (bestFit (e .ports) asked .misfits ≡ 0 → ⊥)
+      → (0x81 ≤ said) × (said ≤ 0x87)
+  other-format-said = unsupported-said (e .ports) asked
+
+  pub sides-nowhere : Equips e → Controls c → (getD (e .report) 0 0 ≡ 0 → ⊥) → c .message ≡ answerOf e → asked .«subsystem_code» ≤ 1
+      → bestFit (e .ports) asked .misfits ≡ 4
+      → (bestFit (c .ports) asked .misfits ≡ 4 → ⊥)
+      → (said ≡ 0) × (c .portsAfter ≡ noted (replicate 2 0))
+  sides-nowhere equips controls written sent few none kept =
+      let both = nowhere-noted (e .ports) (c .ports) asked kept few none in
+      (both .0, rw (controls .leaves, sent, answer-written e equips written) (both .1))
+
+-- What a box is opened with, and the packing octet (6.2, 6.3).
+module _ (s : SettingsCall) (p : PackingCall) (settles : Settles s) (codes : Codes p) where
+  abbrev octet : ℕ
+  octet = getD (s .port) 4 0
+
+  -- Packing, then settings: format and C come back, and so does the order but for C = 1 and C = S, where it is 0.
+  pub packing-then-settings : p .refusal ≡ 0 → getD (s .port) 3 0 ≡ p .format → octet ≡ p .packing
+      → (s .refusal ≡ 0)
+      × (s .settings
+      ≡ p .format ∷ p .channels ∷ cond (eqb (p .channels) 1 || eqb (p .channels) (slotsOf (p .format))) 0 (p .order) ∷ [])
+  packing-then-settings = there-and-back s p settles codes
+
+  -- There the slots are the same: each channel at each time has the slot that it had.
+  pub same-slots : p .refusal ≡ 0 → getD (s .port) 3 0 ≡ p .format → octet ≡ p .packing
+      → (channel time : ℕ) → channel < p .channels → time < timesOf (slotsOf (p .format)) (p .channels)
+      → slotOf (eqb (getD (s .settings) 2 0) 1) (p .channels) (timesOf (slotsOf (p .format)) (p .channels)) channel time
+      ≡ slotOf (eqb (p .order) 1) (p .channels) (timesOf (slotsOf (p .format)) (p .channels)) channel time
+  same-slots = slots-the-same s p settles codes
+
+  -- Settings, then packing: the octet comes back but for 40 hex + 1 and 40 hex + S, which come back without the 40.
+  pub settings-then-packing : s .refusal ≡ 0 → s .settings ≡ p .format ∷ p .channels ∷ p .order ∷ []
+      → (p .refusal ≡ 0) × (p .packing ≡ cond (eqb octet (0x40 + 1) || eqb octet (0x40 + slotsOf (p .format))) (octet - 0x40) octet)
+  settings-then-packing = back-and-there s p settles codes
+
+-- Of a record only octets 3 and 4 are read.
+pub only-two-octets : (a b : SettingsCall) → Settles a → Settles b → getD (a .port) 3 0 ≡ getD (b .port) 3 0
+    → getD (a .port) 4 0 ≡ getD (b .port) 4 0 → (a .refusal ≡ b .refusal) × (a .settings ≡ b .settings)
+only-two-octets = two-octets
 
 -- The searches, in the words of the readings: of the ports of that subsystem and selector "the one with the fewest of F, P, R; of several the
 -- first", and "the first such one".

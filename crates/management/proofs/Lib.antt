@@ -4,13 +4,17 @@ pub mod Brought
 pub mod Calls
 pub mod Cases
 pub mod Demands
+pub mod Differ
 pub mod Fits
 pub mod Messages
 pub mod One
 pub mod OnePort
+pub mod Packed
+pub mod PackedCalls
 pub mod Parts
 pub mod Refused
 pub mod Replies
 pub mod Requests
+pub mod Setup
 pub mod Taken
 pub mod Wrong

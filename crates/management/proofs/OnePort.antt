@@ -1,6 +1,6 @@
 -- At most one port's record changes, by either call.
 -- Assumes nothing.
-use mathlib.Core.Bool.{true, false}
+use mathlib.Core.Bool.{true, false, _||_}
 use mathlib.Core.List.{List, [], _∷_, _++_}
 use mathlib.Core.Path.{_≡_, refl}
 use Prim.Native.Nat.{ℕ, _+_, _*_, _≤_, _<_}
@@ -9,7 +9,7 @@ use borrow.Author.Tests.{eqb-false, leb-false, ltb-true, ltb-false}
 use lib.Dec.{eqb, leb, ltb}
 use lib.ListN.{length, getD, take, drop, replicate, length-append, length-take, length-drop}
 use lib.Seq.{length-take-le}
-use Rattle.runs.proofs.Laws.{split}
+use Rattle.runs.proofs.Laws.{split, neither}
 use Rattle.runs.specs.Runs.{written, numberOf}
 use Rattle.management.specs.declared.ports.Enquiry.{Enquiry}
 use Rattle.management.specs.Controller.{configuration, noted, statusTaken, controllerOf}
@@ -70,10 +70,10 @@ module _ (ports : List ℕ) (asked : Enquiry) (reference : List ℕ) (two : leng
   connected-one : OnePort ports (connected ports asked reference room .ports)
   unfolding connected connectedTo
   connected-one =
-      split (leb (portCount ports) (identified ports asked true))
+      split (eqb (numberOf reference) 0 || leb (portCount ports) (identified ports asked true))
       (λ t. rw t replied-one)
       (λ t.
-      let inside : identified ports asked true < portCount ports = leb-false _ _ t in
+      let inside : identified ports asked true < portCount ports = leb-false _ _ (neither (eqb (numberOf reference) 0) _ t .1) in
       rw t
       (split (eqb (firstReference ports (identified ports asked true)) 0)
       (λ u. rw u (one-changed ports (identified ports asked true) 6 reference inside (omega arith) (omega arith)))

@@ -1,6 +1,6 @@
 -- Which refusal the equipment gives, and that a refused call does nothing.
 -- Assumes nothing.
-use mathlib.Core.Bool.{true, false, cond}
+use mathlib.Core.Bool.{Bool, true, false, cond, _||_}
 use mathlib.Core.List.{List, [], _∷_}
 use mathlib.Core.Path.{_≡_, refl, _∙_, ap}
 use Prim.Native.Nat.{ℕ}
@@ -58,10 +58,14 @@ module _ (ports : List ℕ) (asked : Enquiry) (reference : List ℕ) (room : ℕ
       rw long
       (split (ltb room (answerOctets (asked .«subsystem_code»))) (λ t. rw t) (λ t. rw t))
 
-  connected-refusal : connected ports asked reference room .refusal ≡ cond (leb (portCount ports) (identified ports asked true)) short 0
+  -- step a of a connection request comes to its "otherwise"
+  abbrev otherwise : Bool
+  otherwise = eqb (numberOf reference) 0 || leb (portCount ports) (identified ports asked true)
+
+  connected-refusal : connected ports asked reference room .refusal ≡ cond otherwise short 0
   unfolding connected connectedTo
   connected-refusal =
-      split (leb (portCount ports) (identified ports asked true))
+      split otherwise
       (λ t. rw t replied-refusal)
       (λ t. rw t (split (eqb (firstReference ports (identified ports asked true)) 0) (λ u. rw u) (λ u. rw u)))
 
@@ -77,7 +81,7 @@ module _ (ports : List ℕ) (asked : Enquiry) (reference : List ℕ) (room : ℕ
       → ((ports₁ : List ℕ) (network port number : ℕ) → P (asksNetwork ports₁ network port number)) → P (connected ports asked reference room)
   unfolding connected connectedTo
   connected-ways P reply asks =
-      split (leb (portCount ports) (identified ports asked true))
+      split otherwise
       (λ t. rw t reply)
       (λ t. rw t (split (eqb (firstReference ports (identified ports asked true)) 0) (λ u. rw u (asks _ _ _ _)) (λ u. rw u (asks _ _ _ _))))
 
@@ -125,7 +129,7 @@ module _ (ports message : List ℕ) (room : ℕ) where
   reference = getD message 5 0 ∷ getD message 6 0 ∷ []
 
   -- the four ways, for whatever holds of each
-  by-type : (P : Outcome → Type 0) → (length message ≡ 0 → P (nothing ports 24))
+  pub by-type : (P : Outcome → Type 0) → (length message ≡ 0 → P (nothing ports 24))
       → ((length message ≡ 0 → ⊥) → type ≡ 1 → P (replied ports (askedBy message) room))
       → ((length message ≡ 0 → ⊥) → type ≡ 2 → P (connected ports (askedBy message) reference room))
       → ((length message ≡ 0 → ⊥) → type ≡ 3 → P (disconnected ports (askedBy message) reference room))
@@ -158,7 +162,7 @@ module _ (ports message : List ℕ) (room : ℕ) where
       (λ some two.
       rw (ne-eqb (length message) 0 some, two)
       (connected-refusal ports (askedBy message) reference room
-      ∙ split (leb (portCount ports) (identified ports (askedBy message) true)) (λ t. rw t) (λ t. rw t)))
+      ∙ split (otherwise ports (askedBy message) reference room) (λ t. rw t) (λ t. rw t)))
       (λ some three.
       rw (ne-eqb (length message) 0 some, three)
       (disconnected-refusal ports (askedBy message) reference room

@@ -27,18 +27,19 @@ use Rattle.management.specs.Ports.{portCount, firstReference, identified
 use Rattle.management.specs.Tables.{statusEnquiry, audioConnectionRequest, audioDisconnectionRequest}
 use Rattle.management.proofs.Parts.{getD-brought, part-brought}
 
+pub sets-up : (ports reference : List ℕ) (port : ℕ) {r : ℕ} → r ≡ firstReference ports port → r ≡ 0
+    → {ports₁ : List ℕ} → ports₁ ≡ written ports (port * 28 + 6) reference
+    → Asks (connectedTo ports reference port) ports₁ (0 ∷ 1 ∷ port ∷ 0 ∷ [])
+unfolding connectedTo
+sets-up ports reference port {r} first none {ports₁} left =
+    rw (← first, eq-eqb r 0 none) (record { leaves = left; reports = refl })
+
 module _ (ports reference : List ℕ) (port : ℕ) {n : ℕ} (number : n ≡ numberOf reference) where
   pub adds-party : {r : ℕ} → r ≡ firstReference ports port → (r ≡ 0 → ⊥)
       → Asks (connectedTo ports reference port) ports (0 ∷ 2 ∷ port ∷ n ∷ [])
   unfolding connectedTo
   adds-party {r} first some =
       rw (← first, ne-eqb r 0 some, number) (record { leaves = refl; reports = refl })
-
-  pub sets-up : {r : ℕ} → r ≡ firstReference ports port → r ≡ 0 → {ports₁ : List ℕ} → ports₁ ≡ written ports (port * 28 + 6) reference
-      → Asks (connectedTo ports reference port) ports₁ (0 ∷ 1 ∷ port ∷ n ∷ [])
-  unfolding connectedTo
-  sets-up {r} first none {ports₁} left =
-      rw (← first, eq-eqb r 0 none, number) (record { leaves = left; reports = refl })
 
   pub releases : n ≡ 0xFFFF → {ports₁ : List ℕ} → ports₁ ≡ written ports (port * 28 + 6) (replicate 2 0)
       → Asks (disconnectedFrom ports reference port) ports₁ (0 ∷ 3 ∷ port ∷ 0 ∷ [])
@@ -143,22 +144,27 @@ module _ (ports : List ℕ) (asked : Enquiry) (reference : List ℕ) where
   unfolding Quiet disconnectedFrom
   quiet-disconnected port = split (eqb (numberOf reference) 0xFFFF) (λ t. rw t (refl, refl)) (λ t. rw t (refl, refl))
 
-  pub connected-nowhere : {port : ℕ} → port ≡ identified ports asked true → portCount ports ≤ port → (room : ℕ)
+  pub connected-zero : {n : ℕ} → n ≡ numberOf reference → n ≡ 0 → (room : ℕ)
       → connected ports asked reference room ≡ replied ports asked room
   unfolding connected
-  connected-nowhere {port} is none room = rw (← is, le-leb (portCount ports) port none)
+  connected-zero {n} number zero room = rw (← number, eq-eqb n 0 zero)
+
+  pub connected-nowhere : {n port : ℕ} → n ≡ numberOf reference → (n ≡ 0 → ⊥) → port ≡ identified ports asked true → portCount ports ≤ port
+      → (room : ℕ) → connected ports asked reference room ≡ replied ports asked room
+  unfolding connected
+  connected-nowhere {n} {port} number some is none room = rw (← number, ne-eqb n 0 some, ← is, le-leb (portCount ports) port none)
 
   pub disconnected-nowhere : {port : ℕ} → port ≡ identified ports asked false → portCount ports ≤ port → (room : ℕ)
       → disconnected ports asked reference room ≡ replied ports asked room
   unfolding disconnected
   disconnected-nowhere {port} is none room = rw (← is, le-leb (portCount ports) port none)
 
-  pub connected-port : {port : ℕ} {ports₁ report₁ : List ℕ} → port ≡ identified ports asked true → port < portCount ports
-      → Asks (connectedTo ports reference port) ports₁ report₁ → (answer : List ℕ)
+  pub connected-port : {n port : ℕ} {ports₁ report₁ : List ℕ} → n ≡ numberOf reference → (n ≡ 0 → ⊥) → port ≡ identified ports asked true
+      → port < portCount ports → Asks (connectedTo ports reference port) ports₁ report₁ → (answer : List ℕ)
       → Leaves (connected ports asked reference (length answer)) answer 0 ports₁ answer report₁
   unfolding connected
-  connected-port {port} is inside asks answer =
-      rw (← is, lt-leb (portCount ports) port inside)
+  connected-port {n} {port} number some is inside asks answer =
+      rw (← number, ne-eqb n 0 some, ← is, lt-leb (portCount ports) port inside)
       (quiet-asks (connectedTo ports reference port) (quiet-connected port) asks answer)
 
   pub disconnected-port : {port : ℕ} {ports₁ report₁ : List ℕ} → port ≡ identified ports asked false → port < portCount ports

@@ -1,4 +1,4 @@
--- Wrong answers of the two calls: their contracts rule them out. Stated over the contracts themselves.
+-- Wrong answers of the calls: their contracts rule them out. Stated over the contracts themselves.
 -- Assumes nothing.
 use mathlib.Core.List.{List, [], _∷_, _++_}
 use mathlib.Core.Path.{_≡_, sym, _∙_, ap}
@@ -8,6 +8,7 @@ use contract.Lifetimes.{Lfts}
 use lib.ListN.{getD, replicate}
 use Rattle.runs.proofs.Wrong.{Never, Place, lent}
 use Rattle.runs.specs.Runs.{readOn, over}
+use Rattle.formats.proofs.Wrong as formats
 use Rattle.management.specs.Controller.{configuration, noted, statusTaken, controllerOf}
 use Rattle.management.specs.Equipment.{
   replied,
@@ -17,6 +18,7 @@ use Rattle.management.specs.Equipment.{
   disconnected,
   equipmentOf,
 }
+use Rattle.management.specs.Packing.{portRefusal, portSettings, orderCoded, packingOf}
 use Rattle.management.specs.Ports.{misfits, fewest, serves, firstFrom}
 use Rattle.management.specs.Status.{
   configured,
@@ -41,6 +43,10 @@ use Rattle.management.proofs.equipment.rime_equipment.Kinds as equipmen
 use Rattle.management.proofs.equipment.rime_equipment.Reads as equipment-reads
 use Rattle.management.proofs.controller.rime_controller.Kinds as controller-kinds
 use Rattle.management.proofs.controller.rime_controller.Reads as controller-reads
+use Rattle.management.proofs.packing.rime_port_settings.Kinds as port-settings-kinds
+use Rattle.management.proofs.packing.rime_port_settings.Reads as port-settings-reads
+use Rattle.management.proofs.packing.rime_port_packing.Kinds as port-packing-kinds
+use Rattle.management.proofs.packing.rime_port_packing.Reads as port-packing-reads
 
 -- every definition on the way down to the numbers
 unfoldable pub unfolded : Unit {0}
@@ -83,6 +89,21 @@ module _ (κs : Lfts 4) (l m a r : Place) where
   pub reference-not-lost : Equipping (desk 0) (request 2 7) 9 (λ x ports answer report. getD ports 7 0 ≡ 0)
   unfolding unfolded
   reference-not-lost x v wrong p = let right : getD (v .0) 7 0 ≡ 7 = ap (λ (l : List ℕ). getD l 7 0) (p .leaves) in omega arith
+
+  -- a SETUP named by the reference that is stored, and not by 0
+  pub set-up-not-named : Equipping (desk 0) (request 2 7) 9 (λ x ports answer report. getD report 3 0 ≡ 7)
+  unfolding unfolded
+  set-up-not-named x v wrong p = let right : getD (v .1 .1 .1 .0) 3 0 ≡ 0 = ap (λ (l : List ℕ). getD l 3 0) (p .reports) in omega arith
+
+  -- a SETUP asked for by the reference 0, which leaves a call that no message can end
+  pub zero-not-set-up : Equipping (desk 0) (request 2 0) 9 (λ x ports answer report. getD report 1 0 ≡ 1)
+  unfolding unfolded
+  zero-not-set-up x v wrong p = let right : getD (v .1 .1 .1 .0) 1 0 ≡ 0 = ap (λ (l : List ℕ). getD l 1 0) (p .reports) in omega arith
+
+  -- a party added by the reference 0, which is the first one
+  pub zero-not-added : Equipping (desk 3) (request 2 0) 9 (λ x ports answer report. getD report 0 0 ≡ 0)
+  unfolding unfolded
+  zero-not-added x v wrong p = let right : getD (v .1 .1 .1 .0) 0 0 ≡ 9 = ap (λ (l : List ℕ). getD l 0 0) (p .reports) in omega arith
 
   -- a SETUP asked for a port that is the source of a call already
   pub not-set-up-twice : Equipping (desk 3) (request 2 7) 9 (λ x ports answer report. getD report 1 0 ≡ 1)
@@ -161,3 +182,46 @@ module _ (κs : Lfts 2) (l m : Place) where
   pub no-octets-not-0 : Controlling [] (λ x ports. x ≡ 0)
   unfolding unfolded
   no-octets-not-0 x v wrong p = let right : x ≡ 24 = p .refused in omega arith
+
+module _ (κs : Lfts 2) (l m : Place) where
+  -- a record in a format and a packing, and three nines to be written over
+  abbrev Settling : ℕ → ℕ → (ℕ → List ℕ → Type 0) → Type 0
+  Settling format packing Wrong =
+      Never port-settings-kinds.ps port-settings-kinds.r port-settings-reads.Post κs
+      (lent l ((9 ∷ 9 ∷ 9 ∷ format ∷ packing ∷ []) ++ replicate 23 9), (lent m (replicate 3 9), tt)) (λ x v. Wrong x (v .1 .0))
+
+  -- multi-channel taken for temporal grouping
+  pub multi-channel-not-taken : Settling 0x56 0x82 (λ x settings. x ≡ 0)
+  unfolding unfolded formats.unfolded portRefusal portSettings
+  multi-channel-not-taken x v wrong p = let right : x ≡ 3 = p .refused in omega arith
+
+  -- the whole octet taken for C, so that grouping by channel has too many
+  pub packing-not-channels : Settling 0x56 0x42 (λ x settings. x ≡ 2)
+  unfolding unfolded formats.unfolded portRefusal portSettings
+  packing-not-channels x v wrong p = let right : x ≡ 0 = p .refused in omega arith
+
+  -- the order lost
+  pub order-not-lost : Settling 0x56 0x42 (λ x settings. getD settings 2 0 ≡ 0)
+  unfolding unfolded formats.unfolded portRefusal portSettings
+  order-not-lost x v wrong p = let right : getD (v .1 .0) 2 0 ≡ 1 = ap (λ (l : List ℕ). getD l 2 0) (p .leaves) in omega arith
+
+module _ (κs : Lfts 1) (l : Place) where
+  abbrev Packing : ℕ → ℕ → ℕ → (ℕ → ℕ → Type 0) → Type 0
+  Packing format channels order Wrong =
+      Never port-packing-kinds.ps port-packing-kinds.r port-packing-reads.Post κs (format, (channels, (order, (lent l 9, tt))))
+      (λ x v. Wrong x (v .1 .1 .1 .0))
+
+  -- grouping by channel coded as temporal grouping
+  pub order-not-left-out : Packing 0x56 2 1 (λ x packing. packing ≡ 2)
+  unfolding unfolded formats.unfolded orderCoded packingOf
+  order-not-left-out x v wrong p = let right : v .1 .1 .1 .0 ≡ 0x42 = p .leaves in omega arith
+
+  -- one channel coded as grouping by channel, against 6.3.2
+  pub one-channel-not-by-channel : Packing 0x56 1 1 (λ x packing. packing ≡ 0x41)
+  unfolding unfolded formats.unfolded orderCoded packingOf
+  one-channel-not-by-channel x v wrong p = let right : v .1 .1 .1 .0 ≡ 1 = p .leaves in omega arith
+
+  -- an octet left as it was lent by a refused call
+  pub refused-octet-not-left : Packing 0x56 13 0 (λ x packing. packing ≡ 9)
+  unfolding unfolded formats.unfolded orderCoded packingOf
+  refused-octet-not-left x v wrong p = let right : v .1 .1 .1 .0 ≡ 0 = p .leaves in omega arith

@@ -1,14 +1,17 @@
 -- What the theorems say of a call, in the request's words: what goes in and what comes out of it, which refusal, which port.
 -- Assumes nothing.
-use mathlib.Core.Bool.{Bool, true, false, cond, _&&_, _||_}
+use mathlib.Core.Bool.{Bool, true, false, cond, not, _&&_, _||_}
 use mathlib.Core.List.{List, [], _∷_}
 use mathlib.Core.Path.{_≡_}
-use Prim.Native.Nat.{ℕ, _*_}
+use Prim.Native.Nat.{ℕ, _*_, _%_}
 use lib.Dec.{eqb, leb, ltb}
 use lib.ListN.{length, getD, take, drop}
+use Rattle.runs.specs.Runs.{numberOf}
+use Rattle.formats.specs.Formats.{isListed, slotsOf}
 use Rattle.management.specs.declared.ports.Enquiry.{Enquiry}
 use Rattle.management.specs.Controller.{Takes}
 use Rattle.management.specs.Equipment.{Leaves, equipmentOf, inputPort}
+use Rattle.management.specs.Packing.{Sets, Packs}
 use Rattle.management.specs.Ports.{portCount, octetsFrom, identified}
 
 -- a call of the equipment's: what is lent, the refusal, and what is left
@@ -37,6 +40,33 @@ pub record ControllerCall : Type 0 where
 abbrev pub Controls : ControllerCall → Type 0
 Controls c = Takes (c .ports) (c .message) (c .refusal) (c .portsAfter)
 
+-- a call for what a record is set to, and that it meets the contract of `rime_port_settings`
+pub record SettingsCall : Type 0 where
+  pub port : List ℕ
+  pub refusal : ℕ
+  pub settings : List ℕ
+
+abbrev pub Settles : SettingsCall → Type 0
+Settles c = Sets (c .port) (c .refusal) (c .settings)
+
+-- a call for a packing octet, and that it meets the contract of `rime_port_packing`
+pub record PackingCall : Type 0 where
+  pub format : ℕ
+  pub channels : ℕ
+  pub order : ℕ
+  pub refusal : ℕ
+  pub packing : ℕ
+
+abbrev pub Codes : PackingCall → Type 0
+Codes c = Packs (c .format) (c .channels) (c .order) (c .refusal) (c .packing)
+
+-- checks 1 to 3 of octets 3 and 4 of a record: "none of the fourteen"; C, the low six bits, "is 0 or above S"; the two top bits are 10
+-- or 11, which is no order
+unfoldable pub recordRefusal : List ℕ → ℕ
+recordRefusal port =
+    cond (not (isListed (getD port 3 0))) 1
+    (cond (eqb (getD port 4 0 % 64) 0 || ltb (slotsOf (getD port 3 0)) (getD port 4 0 % 64)) 2 (cond (leb 0x80 (getD port 4 0)) 3 0))
+
 -- what a message asks for, by its type: a status enquiry, or a request for an input port
 unfoldable pub askedBy : List ℕ → Enquiry
 askedBy message =
@@ -50,11 +80,16 @@ askedBy message =
     })
     (inputPort (getD message 1 0) (getD message 2 0) (getD message 3 0) (getD message 4 0))
 
--- an answer is due: to every status enquiry, and to a request that identifies no port
+-- the endpoint reference in octets 5 and 6 of a request
+abbrev pub referenceIn : List ℕ → ℕ
+referenceIn message = numberOf (getD message 5 0 ∷ getD message 6 0 ∷ [])
+
+-- an answer is due: to every status enquiry, to a request that identifies no port, and to a connection request with the endpoint
+-- reference 0
 unfoldable pub answerDue : List ℕ → List ℕ → Bool
 answerDue ports message =
     eqb (getD message 0 0) 1
-    || ((eqb (getD message 0 0) 2 && leb (portCount ports) (identified ports (askedBy message) true))
+    || ((eqb (getD message 0 0) 2 && (eqb (referenceIn message) 0 || leb (portCount ports) (identified ports (askedBy message) true)))
     || (eqb (getD message 0 0) 3 && leb (portCount ports) (identified ports (askedBy message) false)))
 
 -- its octets: Table 6 has 9, Table 7 has 29, and Table 8 defines 2

@@ -1,6 +1,6 @@
 -- What the equipment does with a message (8.3.2, 8.4.1).
 -- Assumes nothing.
-use mathlib.Core.Bool.{true, false, cond}
+use mathlib.Core.Bool.{true, false, cond, _||_}
 use mathlib.Core.List.{List, [], _∷_}
 use mathlib.Core.Path.{_≡_}
 use Prim.Native.Nat.{ℕ, _+_, _*_}
@@ -49,16 +49,19 @@ withReference ports port octets = written ports (port * 28 + 6) octets
 
 -- 8.4.1.2.3 b: "if the port is already the source of a call, send an ADD PARTY message to the network for that call, using the endpoint
 -- reference value from octets 5 to 6"; c: "if the port is not the source of any call, send a SETUP message to the network, and store the
--- endpoint reference value from octets 5 to 6 as the port's first endpoint reference"
+-- endpoint reference value from octets 5 to 6 as the port's first endpoint reference". It is stored, and not sent: in the network the first
+-- party is 0, and step b of 8.4.1.3.2 drops it as 0
 unfoldable pub connectedTo : List ℕ → List ℕ → ℕ → Outcome
 connectedTo ports reference port =
-    cond (eqb (firstReference ports port) 0) (asksNetwork (withReference ports port reference) 1 port (numberOf reference))
+    cond (eqb (firstReference ports port) 0) (asksNetwork (withReference ports port reference) 1 port 0)
     (asksNetwork ports 2 port (numberOf reference))
 
--- a: where octets 1 to 4 identify no such port, "send an input port status message in reply"
+-- a: where octets 1 to 4 identify no such port, "send an input port status message in reply". Ours: so too with the endpoint reference 0,
+-- since the first one "shall be non-zero if the port is the source of an audio call" (8.4.2.1.2), and of a port that is the source 0 "is
+-- equivalent to the first endpoint reference" (8.4.1.3.1), whose party is there already
 unfoldable pub connected : List ℕ → Enquiry → List ℕ → ℕ → Outcome
 connected ports asked reference room =
-    cond (leb (portCount ports) (identified ports asked true)) (replied ports asked room)
+    cond (eqb (numberOf reference) 0 || leb (portCount ports) (identified ports asked true)) (replied ports asked room)
     (connectedTo ports reference (identified ports asked true))
 
 -- 8.4.1.3.2 b: "if the endpoint reference value in octets 5 and 6 is FFFF, send a RELEASE message to the network for that call, otherwise

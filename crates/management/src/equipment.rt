@@ -48,7 +48,7 @@ fn connect_to(ports: &mut [u8], port: usize, high: u8, low: u8, report: &mut [u6
     let place = port * 28 + 6;
     let octets = [high, low];
     put(ports, place, &octets);
-    *report = [0, 1, port as u64, reference];
+    *report = [0, 1, port as u64, 0];
 }
 
 // An audio connection request.
@@ -63,6 +63,9 @@ fn connect(
     ensures { λ r. ⌜ Leaves (connected (now (ports .entry)) asked (high ∷ low ∷ []) (length (now (answer .entry)))) (now (answer .entry)) r
         (now (ports .exit)) (now (answer .exit)) (now (report .exit)) ⌝ }
 {
+    if number(high, low) == 0 {
+        return reply(ports, asked, answer, report);
+    }
     let port = identified(ports, asked, true);
     if ports.len() / 28 <= port {
         return reply(ports, asked, answer, report);

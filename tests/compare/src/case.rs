@@ -27,6 +27,8 @@ pub enum Kind {
     Aes3Export,
     Equipment,
     Controller,
+    PortSettings,
+    PortPacking,
     UnitsExport,
     UnitRead,
     CircuitsCheck,
@@ -40,7 +42,7 @@ impl Kind {
 }
 
 /// Kind, name, and the fields in and out: n a number, r a run of numbers or a state, o octets.
-const KINDS: [(Kind, &str, &str, &str); 25] = [
+const KINDS: [(Kind, &str, &str, &str); 27] = [
     (Kind::SenderOpen, "sender_open", "nnnnnn", "nr"),
     (Kind::ReceiverOpen, "receiver_open", "nnn", "nr"),
     (Kind::Send, "send", "rnrro", "nro"),
@@ -62,6 +64,8 @@ const KINDS: [(Kind, &str, &str, &str); 25] = [
     (Kind::Aes3Export, "aes3_export", "rr", "nor"),
     (Kind::Equipment, "equipment", "ooo", "noonnnn"),
     (Kind::Controller, "controller", "oo", "no"),
+    (Kind::PortSettings, "port_settings", "o", "nr"),
+    (Kind::PortPacking, "port_packing", "nnn", "nn"),
     (Kind::UnitsExport, "units_export", "nnnrro", "nonnn"),
     (Kind::UnitRead, "unit_read", "nnorr", "nrrn"),
     (Kind::CircuitsCheck, "circuits_check", "nnnrr", "nnn"),
@@ -182,12 +186,18 @@ impl Case {
         self.inputs[field].octets()
     }
 
+    /// A line of the vectors up to its arrow: the case, and the layout of what must come out.
+    pub fn asked(inputs: &str) -> Option<(Case, &'static str)> {
+        let (name, inputs) = inputs.split_once(' ')?;
+        let (kind, _, layout_in, layout_out) = *KINDS.iter().find(|row| row.1 == name)?;
+        Some((Case::new(kind, parse_fields(layout_in, inputs)?), layout_out))
+    }
+
     /// A line of the vectors: the case and what must come out.
     pub fn parse(line: &str) -> Option<(Case, Answer)> {
         let (inputs, outputs) = line.split_once(" => ")?;
-        let (name, inputs) = inputs.split_once(' ')?;
-        let (kind, _, layout_in, layout_out) = *KINDS.iter().find(|row| row.1 == name)?;
-        Some((Case::new(kind, parse_fields(layout_in, inputs)?), parse_fields(layout_out, outputs)?))
+        let (case, layout_out) = Case::asked(inputs)?;
+        Some((case, parse_fields(layout_out, outputs)?))
     }
 }
 

@@ -76,7 +76,7 @@ impl Referee<'_> {
 
 fn play(scenario: u64, seed: u64, referee: &mut Referee) -> Played {
     let mut random = Random::for_scenario(seed, scenario);
-    match random.below(96) {
+    match random.below(98) {
         0..=3 => boxes::open_sender(&mut random, referee),
         4..=6 => boxes::open_receiver(&mut random, referee),
         7..=22 => boxes::one_send(&mut random, referee),
@@ -98,6 +98,8 @@ fn play(scenario: u64, seed: u64, referee: &mut Referee) -> Played {
         86..=88 => log::anything(&mut random, referee),
         89..=92 => log::salvage(&mut random, referee),
         93..=95 => figures::sheet(&mut random, referee),
+        96 => management::one_record(&mut random, referee),
+        97 => management::one_packing(&mut random, referee),
         _ => status::check(&mut random, referee),
     }
 }

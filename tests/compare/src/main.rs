@@ -9,6 +9,8 @@ mod random;
 mod story;
 mod vectors;
 
+use answers::by_plain;
+use case::{fields, Case};
 use rimesatchel::face;
 use std::error::Error;
 use std::io::{Read, Write};
@@ -22,6 +24,8 @@ compare fuzz COUNT [SEED [LINELIST]]
                                  compare COUNT pseudo-random calls, and listings with those of LINELIST
 compare replay SEED SCENARIO [LINELIST]
                                  play one scenario of a fuzz run again
+compare answer                   print each line of vectors on standard input, given up to its arrow, with the plain
+                                 implementation's answer
 compare list                     print the plain implementation's list of the log on standard input
 compare story                    play demand 3 and longer outages: a sender, a line that drops, spoils and repeats, a receiver;
                                  and the archive's copies of nothing";
@@ -33,6 +37,14 @@ fn built(program: &str) -> Option<&Path> {
         println!("{program} does not exist: no listing is compared with it");
     }
     Some(path).filter(|path| path.exists())
+}
+
+fn answer() -> Result<bool, Box<dyn Error>> {
+    for line in std::io::stdin().lines() {
+        let (case, _) = Case::asked(&line?).ok_or("no case")?;
+        println!("{case} => {}", fields(&by_plain(&case)));
+    }
+    Ok(true)
 }
 
 fn list() -> Result<bool, Box<dyn Error>> {
@@ -51,6 +63,7 @@ fn run(words: &[&str]) -> Result<bool, Box<dyn Error>> {
         ["fuzz", count, seed, program] => Ok(fuzz::run(count.parse()?, seed.parse()?, built(program))),
         ["replay", seed, scenario] => Ok(fuzz::replay(seed.parse()?, scenario.parse()?, None)),
         ["replay", seed, scenario, program] => Ok(fuzz::replay(seed.parse()?, scenario.parse()?, built(program))),
+        ["answer"] => answer(),
         ["list"] => list(),
         ["story"] => Ok([story::run(), archive::run()] == [true; 2]),
         _ => Err(USAGE.into()),

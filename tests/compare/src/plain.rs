@@ -20,7 +20,7 @@ pub use cable::{export_frame, import_frame};
 pub use cells::Shape;
 pub use circuits::{check_plan, plan, Fault};
 pub use log::{anything, header, listing, listing_to, put_header, put_record, record, Anything, Record};
-pub use management::{controller, equipment};
+pub use management::{controller, equipment, port_packing, port_settings};
 pub use salvage::salvage;
 pub use sheet::sheet;
 pub use status::{check_character, step, Block, Character};

@@ -26,6 +26,8 @@ pub fn by_library(case: &Case) -> Option<Answer> {
         Kind::Aes3Export if cfg!(feature = "cable") => aes3_export(case),
         Kind::Equipment => management::equipment_by_library(case),
         Kind::Controller => management::controller_by_library(case),
+        Kind::PortSettings => management::port_settings_by_library(case),
+        Kind::PortPacking => management::port_packing_by_library(case),
         Kind::UnitsExport if cfg!(feature = "units") => units_export(case),
         Kind::UnitRead if cfg!(feature = "units") => unit_read(case),
         Kind::CircuitsCheck if cfg!(feature = "circuits") => circuits_check(case),

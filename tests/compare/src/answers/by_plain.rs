@@ -26,6 +26,8 @@ pub fn by_plain(case: &Case) -> Answer {
         Kind::LogList => log_list(case),
         Kind::Equipment => management::equipment_by_plain(case),
         Kind::Controller => management::controller_by_plain(case),
+        Kind::PortSettings => management::port_settings_by_plain(case),
+        Kind::PortPacking => management::port_packing_by_plain(case),
         Kind::Linelist => values![plain::listing(case.octets(0)).as_bytes()],
         Kind::LinelistLimit => values![plain::listing_to(case.octets(0), case.number(1)).as_bytes()],
         Kind::Anything => anything(case),

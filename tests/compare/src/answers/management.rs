@@ -26,6 +26,18 @@ pub fn controller_by_plain(case: &Case) -> Answer {
     values![u64::from(refusal), &ports[..]]
 }
 
+pub fn port_settings_by_plain(case: &Case) -> Answer {
+    let (refusal, settings) =
+        plain::port_settings(case.octets(0)).map_or_else(|no| (no, [0; 3]), |settings| (0, settings));
+    values![u64::from(refusal), &settings[..]]
+}
+
+pub fn port_packing_by_plain(case: &Case) -> Answer {
+    let packed = plain::port_packing(case.number(0), case.number(1), case.number(2));
+    let (refusal, packing) = packed.map_or_else(|no| (no, 0), |packing| (0, packing));
+    values![u64::from(refusal), packing]
+}
+
 #[cfg(feature = "management")]
 mod by_library {
     use super::super::by_library::{Fenced, LEFT_OVER};
@@ -47,6 +59,19 @@ mod by_library {
         let refusal = face::controller(ports.lent(), case.octets(1));
         Some(values![u64::from(refusal), &ports.back()[..]])
     }
+
+    pub fn port_settings(case: &Case) -> Option<Answer> {
+        let mut settings = [u32::MAX; 3];
+        let refusal = face::port_settings(case.octets(0).try_into().ok()?, &mut settings);
+        Some(values![u64::from(refusal), &settings.map(u64::from)[..]])
+    }
+
+    pub fn port_packing(case: &Case) -> Option<Answer> {
+        let mut packing = u8::MAX;
+        let number = |at| u32::try_from(case.number(at)).ok();
+        let refusal = face::port_packing(number(0)?, number(1)?, number(2)?, &mut packing);
+        Some(values![u64::from(refusal), u64::from(packing)])
+    }
 }
 
 #[cfg(not(feature = "management"))]
@@ -60,6 +85,17 @@ mod by_library {
     pub fn controller(_: &Case) -> Option<Answer> {
         None
     }
+
+    pub fn port_settings(_: &Case) -> Option<Answer> {
+        None
+    }
+
+    pub fn port_packing(_: &Case) -> Option<Answer> {
+        None
+    }
 }
 
-pub use by_library::{controller as controller_by_library, equipment as equipment_by_library};
+pub use by_library::{
+    controller as controller_by_library, equipment as equipment_by_library, port_packing as port_packing_by_library,
+    port_settings as port_settings_by_library,
+};

@@ -1,6 +1,7 @@
-//! The management port: single calls of both sides with arbitrary records, messages and lengths, and conversations in
-//! which what the equipment writes is taken by a controlling entity.
+//! The management port: single calls of both sides with arbitrary records, messages and lengths, conversations in which
+//! what the equipment writes is taken by a controlling entity, and what a box is opened with.
 
+use super::inputs::{setup, wrong_number};
 use super::{Played, Referee};
 use crate::case::{values, Answer, Case, Kind};
 use crate::random::Random;
@@ -146,4 +147,26 @@ pub fn conversation(random: &mut Random, referee: &mut Referee) -> Played {
         }
     }
     Ok(())
+}
+
+/// A record with octets 3 and 4 of a format and its packing, often with one of the two changed.
+pub fn one_record(random: &mut Random, referee: &mut Referee) -> Played {
+    let [format, channels, order] = setup(random);
+    let mut record = record(random);
+    record[3] = if random.one_in(8) { random.number() as u8 } else { format as u8 };
+    record[4] = if random.one_in(3) { random.number() as u8 } else { (order * 64 + channels) as u8 };
+    referee.call(Case::new(Kind::PortSettings, values![&record[..]])).map(|_| ())
+}
+
+/// Settings, often with one of them changed; where they have a packing octet, what a record with it is set to.
+pub fn one_packing(random: &mut Random, referee: &mut Referee) -> Played {
+    let mut settings = setup(random);
+    if random.one_in(3) {
+        let at = random.place(3);
+        settings[at] = wrong_number(settings[at], random);
+    }
+    let packed = referee.call(Case::new(Kind::PortPacking, settings.iter().map(|&number| number.into()).collect()))?;
+    let mut record = record(random);
+    (record[3], record[4]) = (settings[0] as u8, packed[1].number() as u8);
+    referee.call(Case::new(Kind::PortSettings, values![&record[..]])).map(|_| ())
 }

@@ -1,7 +1,8 @@
 //! The management port, written from clause 8 of the standard and its Tables 3 to 9: what the equipment and the
-//! controlling entity do with a message. A port's record is octets 1 to 28 of its status message.
+//! controlling entity do with a message. A port's record is octets 1 to 28 of its status message. What a box is opened
+//! with is read from it by 6.2 and 6.3.
 
-use super::{refuse_if, Refusal};
+use super::{refuse_if, Refusal, Shape};
 
 const RECORD: usize = 28;
 
@@ -18,6 +19,7 @@ const ACTIVE: u8 = 0xE0;
 /// Places in a record.
 const CODE: usize = 2;
 const FORMAT: usize = 3;
+const PACKING: usize = 4;
 const REFERENCE: usize = 6;
 
 /// What the network is to be sent.
@@ -133,13 +135,13 @@ fn enquired(ports: &[u8], message: &[u8]) -> Deed {
 fn connected(ports: &[u8], message: &[u8]) -> Deed {
     let (data, reference) = request(message);
     let source = |record: &[u8]| data.fits(record) && (is_source(record) || can_be_source(record));
-    match records(ports).find(|(_, record)| source(record)) {
+    match records(ports).find(|(_, record)| source(record)).filter(|_| reference != 0) {
         None => Deed { answer: Some(data.status(ports)), ..Deed::default() },
         Some((port, record)) if is_source(record) => {
             Deed { asked: Some((Network::AddParty, port, reference)), ..Deed::default() }
         }
         Some((port, _)) => {
-            Deed { asked: Some((Network::Setup, port, reference)), stored: Some((port, reference)), ..Deed::default() }
+            Deed { asked: Some((Network::Setup, port, 0)), stored: Some((port, reference)), ..Deed::default() }
         }
     }
 }
@@ -206,4 +208,20 @@ pub fn controller(ports: &mut [u8], message: &[u8]) -> Result<(), Refusal> {
         record[REFERENCE..].copy_from_slice(&message[7..29]);
     }
     Ok(())
+}
+
+/// Format, C and order of a record: "bits 6 to 1 show number of audio channels", "00 temporal grouping", "01 grouping by
+/// channel".
+pub fn port_settings(record: &[u8]) -> Result<[u64; 3], Refusal> {
+    let (format, packing) = (u64::from(record[FORMAT]), u64::from(record[PACKING]));
+    let (order, channels) = (packing >> 6, packing & 0b11_1111);
+    Shape::new(format, channels, order).map(|_| [format, channels, order])
+}
+
+/// The packing octet. 6.3.2: "Where the number of channels is 1, or equal to the number of samples per cell, the coding for
+/// temporal grouping shall be used."
+pub fn port_packing(format: u64, channels: u64, order: u64) -> Result<u64, Refusal> {
+    let shape = Shape::new(format, channels, order)?;
+    let temporal = order == 0 || shape.channels == 1 || shape.channels == shape.format.slots;
+    Ok(if temporal { channels } else { 0b0100_0000 | channels })
 }

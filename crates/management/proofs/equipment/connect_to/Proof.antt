@@ -12,7 +12,7 @@ returns c =
 returns-2 : tie.Need-returns-2
 returns-2 c =
     let d = c .before .before .before .before .before .before in
-    sets-up _ _ _ (d .before .before .before .number .ensures) (d .before .first-reference .ensures) (d .if1 .left)
+    sets-up _ _ _ (d .before .first-reference .ensures) (d .if1 .left)
     (c .before .before .before .put .ensures)
 
 pub connect-to-spec : {M : Type 1} → statement M
