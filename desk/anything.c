@@ -27,17 +27,19 @@ static int of_log(const char *name, bool several) {
     struct lent lent;
     int status = lent_open(&lent, name);
     if (status != STATUS_WELL) return status;
+    lent_watch(&lent);
     if (lent_lost(&lent)) return lent_gone(&lent);
     uint64_t answer[RIME_ANSWER]; /* yes or no, and a record or how many */
     progress_watch(lent.name, lent.mapped, lent.size);
     unsigned refusal = rime_anything(lent.octets, lent.count, answer);
     progress_watched();
-    progress_clear();
+    status = lent_whole(&lent, answer[0] == 0);
+    if (status != STATUS_WELL) return status;
     if (several) printf("%s: ", name);
     if (refusal != RIME_DONE) printf("log refused %u\n", refusal);
     else printf("%s %llu\n", answer[0] == 1 ? "yes" : "no", (unsigned long long)answer[1]);
     if (answer[0] == 0) {
-        status = lent_end(&lent, answer[1], false);
+        status = lent_say(&lent, lent_fault(&lent, answer[1]));
         if (status == STATUS_WELL) status = STATUS_NO;
     }
     lent_close(&lent);

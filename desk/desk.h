@@ -5,6 +5,7 @@
 #ifndef DESK_H
 #define DESK_H
 
+#include <signal.h>
 #include <stdbool.h>
 #include <stddef.h>
 #include <stdint.h>
@@ -38,6 +39,7 @@ int say_failed(const char *name);                                      /* what e
 int say_unfit(const char *name, const char *why);                      /* returns STATUS_FILE */
 int say_refused(const char *name, const char *what, unsigned refusal); /* the number and its words; STATUS_REFUSED */
 int say_broken(const char *name, uint64_t record, unsigned refusal);   /* the same, of a log that is broken there */
+const char *shown(const char *name, bool is_output); /* the name as it is shown: that of standard input or output for `-` */
 int printed(int status); /* the status, or STATUS_FILE where standard output can't be written; that is said */
 enum { DURATION = 48 };
 const char *duration(double seconds, char words[DURATION]); /* "2.500 s", or "1:02:03.500" from a minute on */
@@ -62,22 +64,54 @@ void progress_without(void);
 void progress_watch(const char *name, const void *start, size_t size); /* how far a call is in what is mapped there */
 void progress_watched(void);
 
+/* limits.c: settings that are refused, with the limit that they pass; and a log whose header is. STATUS_REFUSED. */
+struct settings {
+    unsigned format, channels, order, number, second;
+};
+int say_settings(const char *name, const char *what, unsigned refusal, struct settings settings);
+int say_header(const char *name, const uint8_t *octets, size_t count, unsigned refusal);
+
 /*
  * output.c: a file that is written under a temporary name beside its own, and gets its own when it is whole. An output
- * that is neither kept nor dropped is dropped when the program ends, by a signal too.
+ * that is neither kept nor dropped is dropped when the program ends, by a signal too. Links are followed. What isn't a regular
+ * file, `-` for standard output among it, is written into.
  */
 struct output {
     const char *name;
-    char *temporary;
+    char *target, *temporary; /* NULL where nothing is open, or it is written into */
     int fd;
     int error; /* errno of the first write that failed, 0 where none did */
-    bool force;
+    bool force, open;
+    bool into, begun;        /* it is written into; something was written */
+    bool swapped, replaced;  /* the temporary name has the file that was there; or that file is gone */
 };
 int output_open(struct output *output, const char *name, bool force); /* a status; says what is wrong */
 bool output_write(struct output *output, const void *octets, size_t count);
-bool output_done(struct output *output); /* nothing more is written: whether all of it was */
+bool output_done(struct output *output); /* nothing more is written: whether all of it was, and reached the disk */
 int output_keep(struct output *output);  /* a status; says what is wrong */
+int outputs_keep(struct output *const *outputs, size_t count); /* all of them, or none. Those that aren't open are left out */
 void output_drop(struct output *output);
+sigset_t output_undisturbed(void); /* from here on no signal ends the program, up to output_disturbed */
+void output_disturbed(sigset_t before);
+
+/*
+ * whole.c: whether a file was read whole. Another program may cut it or add to it meanwhile, so that its length is taken before
+ * and after.
+ */
+struct whole {
+    int fd;
+    bool known; /* it is a regular file: its length says something */
+    uint64_t start, length; /* where reading began, and the octets from there on */
+};
+void whole_begin(struct whole *whole, int fd);
+/* These octets were read, up to the end that was met or less. False where the file became shorter. Says so, or that it grew. */
+bool whole_end(struct whole *whole, const char *name, uint64_t octets, bool to_the_end);
+
+/*
+ * spool.c: what comes from a pipe, kept in a file without a name, where TMPDIR says. A new descriptor at its start; -1 where that
+ * failed, and that is said.
+ */
+int spool(int from, const char *name);
 
 /*
  * reading.c: a log, read a buffer at a time, and what the receiver makes of each of its records. `-` is standard input.
@@ -85,6 +119,7 @@ void output_drop(struct output *output);
 struct reading {
     const char *name;
     int fd;
+    struct whole whole;
     uint8_t *buffer;
     size_t held, place;
     bool ended;

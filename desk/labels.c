@@ -123,7 +123,7 @@ int desk_labels(int argc, char **argv) {
         .options = options,
         .parser = parse,
         .args_doc = "IN.log",
-        .doc = "Shows the channel status blocks that a log carries.",
+        .doc = "Shows the channel status blocks that a log carries. - is standard input.",
     };
     argp_parse(&argp, argc, argv, 0, NULL, &labels);
     int status = reading_begin(&labels.reading, labels.name, labels.quiet || isatty(STDOUT_FILENO));

@@ -13,58 +13,41 @@
 #include <sys/stat.h>
 #include <unistd.h>
 
-/* What can't be mapped, a pipe, is first written to a file without a name. */
-static bool spool(struct lent *lent) {
-    FILE *file = tmpfile();
-    if (file == NULL) return false;
-    char octets[65536];
-    ssize_t got;
-    bool well = true;
-    uint64_t sum = 0;
-    progress_within(lent->name, 0);
-    while (well && (got = read(lent->fd, octets, sizeof octets)) != 0) {
-        if (got < 0) well = errno == EINTR;
-        else well = fwrite(octets, 1, (size_t)got, file) == (size_t)got;
-        if (got > 0) progress_at(sum += (uint64_t)got);
-    }
-    int why = errno;
-    progress_without();
-    errno = why;
-    int fd = well && fflush(file) == 0 ? dup(fileno(file)) : -1;
-    why = errno;
-    fclose(file);
-    errno = why;
+/* What can't be mapped, a pipe, is first kept in a file without a name. */
+static bool keep_first(struct lent *lent) {
+    int fd = spool(lent->fd, lent->name);
     if (fd < 0) return false;
     if (lent->fd != STDIN_FILENO) close(lent->fd);
     lent->fd = fd;
+    whole_begin(&lent->whole, fd);
     return true;
 }
 
 static bool map(struct lent *lent) {
-    struct stat about;
-    if (fstat(lent->fd, &about) != 0) return false;
-    off_t start = lseek(lent->fd, 0, SEEK_CUR);
-    if (!S_ISREG(about.st_mode) || start < 0) {
-        if (!spool(lent) || fstat(lent->fd, &about) != 0) return false;
-        start = 0;
-    }
     lent->octets = (const uint8_t *)"";
-    if (about.st_size <= start) return true; /* nothing is there, and nothing can be mapped */
-    lent->size = (size_t)about.st_size;
+    if (lent->whole.length == 0) return true; /* nothing is there, and nothing can be mapped */
+    lent->count = lent->whole.length;
+    lent->size = lent->whole.start + lent->count;
     void *mapped = mmap(NULL, lent->size, PROT_READ, MAP_PRIVATE, lent->fd, 0);
     if (mapped == MAP_FAILED) return false;
     madvise(mapped, lent->size, MADV_SEQUENTIAL);
     lent->mapped = mapped;
-    lent->octets = (const uint8_t *)mapped + start;
-    lent->count = lent->size - (size_t)start;
+    lent->octets = (const uint8_t *)mapped + lent->whole.start;
     return true;
 }
 
 int lent_open(struct lent *lent, const char *name) {
-    bool standard = strcmp(name, "-") == 0;
-    *lent = (struct lent){.name = standard ? "standard input" : name};
-    lent->fd = standard ? STDIN_FILENO : open(name, O_RDONLY);
-    if (lent->fd >= 0 && map(lent)) return STATUS_WELL;
+    *lent = (struct lent){.name = shown(name, false)};
+    lent->fd = strcmp(name, "-") == 0 ? STDIN_FILENO : open(name, O_RDONLY | O_CLOEXEC);
+    if (lent->fd >= 0) {
+        whole_begin(&lent->whole, lent->fd);
+        bool kept = lent->whole.known || keep_first(lent);
+        if (kept && map(lent)) return STATUS_WELL;
+        if (!kept) {
+            lent_close(lent);
+            return STATUS_FILE;
+        }
+    }
     progress_clear();
     int status = say_failed(lent->name);
     lent_close(lent);
@@ -100,14 +83,25 @@ void lent_close(struct lent *lent) {
     *lent = (struct lent){.fd = -1};
 }
 
-int lent_end(const struct lent *lent, uint64_t records, bool quiet) {
+int lent_whole(struct lent *lent, bool to_the_end) {
+    progress_clear();
+    if (whole_end(&lent->whole, lent->name, lent->count, to_the_end)) return STATUS_WELL;
+    lent_close(lent);
+    return STATUS_FILE;
+}
+
+struct fault lent_fault(const struct lent *lent, uint64_t records) {
     uint32_t header[RIME_HEADER];
     uint64_t found[RIME_RECORD];
     unsigned refusal = rime_log_header(lent->octets, lent->count, header);
-    progress_clear();
-    if (refusal != RIME_DONE) return quiet ? STATUS_REFUSED : say_refused(lent->name, "the log is", refusal);
+    if (refusal != RIME_DONE) return (struct fault){.refusal = refusal, .header = true};
     uint64_t place = header[RIME_HEADER_PLACE] + records * RIME_RECORD_OCTETS;
-    refusal = rime_log_record(lent->octets, lent->count, place, found);
-    if (refusal == RIME_DONE) return STATUS_WELL;
-    return quiet ? STATUS_REFUSED : say_broken(lent->name, records, refusal);
+    return (struct fault){.refusal = rime_log_record(lent->octets, lent->count, place, found), .record = records};
+}
+
+int lent_say(const struct lent *lent, struct fault fault) {
+    if (fault.refusal == RIME_DONE) return STATUS_WELL;
+    progress_clear();
+    if (fault.header) return say_header(lent->name, lent->octets, lent->count, fault.refusal);
+    return say_broken(lent->name, fault.record, fault.refusal);
 }

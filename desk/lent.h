@@ -12,6 +12,7 @@ struct lent {
     size_t count;
 
     int fd;
+    struct whole whole;
     void *mapped; /* NULL where nothing is */
     size_t size;  /* of what is mapped */
     sigjmp_buf back;
@@ -21,14 +22,27 @@ int lent_open(struct lent *lent, const char *name); /* a status; says what is wr
 void lent_close(struct lent *lent);
 
 /*
- * A file that becomes shorter while it is looked at, or a disk that fails, is told by a signal. `if (lent_lost(&lent)) return
- * lent_gone(&lent);` stands behind lent_open: then that signal comes back here, and is said like any other fault of a file.
+ * A file that becomes shorter while it is looked at, or a disk that fails, is told by a signal. `lent_watch(&lent); if
+ * (lent_lost(&lent)) return lent_gone(&lent);` stands behind lent_open: then that signal comes back here, and is said like any
+ * other fault of a file. C11 lets sigsetjmp stand in few places: as a comparison it is all of an `if`'s condition.
  */
-#define lent_lost(lent) (lent_watch(lent), sigsetjmp((lent)->back, 1) != 0)
+#define lent_lost(lent) (sigsetjmp((lent)->back, 1) != 0)
 void lent_watch(struct lent *lent);
 int lent_gone(struct lent *lent); /* says so and closes; a status */
 
-/* What comes after so many whole records: a status, STATUS_REFUSED for a fault, or for a header that is refused. */
-int lent_end(const struct lent *lent, uint64_t records, bool quiet); /* says so, unless quiet */
+/*
+ * A status: STATUS_FILE where the file became shorter, which is said, and then it is closed. No signal tells of a cut within the
+ * last page. That it grew is said where it was looked at to the end.
+ */
+int lent_whole(struct lent *lent, bool to_the_end);
+
+/* What comes after so many whole records: refusal 0 where that is the end, a fault, or the refusal of the header. */
+struct fault {
+    unsigned refusal;
+    bool header;
+    uint64_t record;
+};
+struct fault lent_fault(const struct lent *lent, uint64_t records);
+int lent_say(const struct lent *lent, struct fault fault); /* a status; says what the fault is */
 
 #endif

@@ -64,7 +64,7 @@ static int list_log(const char *name, const struct list *list) {
     } else if (refusal < 0) status = STATUS_FILE;
     else {
         printf("log refused %d\n", refusal);
-        status = say_refused(reading.name, "the log is", (unsigned)refusal);
+        status = say_header(reading.name, reading.buffer, reading.held, (unsigned)refusal);
     }
     reading_close(&reading);
     return status;

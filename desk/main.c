@@ -1,8 +1,11 @@
 /* rimesatchel: readings in and out of the files that people already have. One command with subcommands. */
 #include <argp.h>
+#include <err.h>
+#include <fcntl.h>
 #include <stdio.h>
 #include <stdlib.h>
 #include <string.h>
+#include <unistd.h>
 
 #include "desk.h"
 
@@ -32,8 +35,8 @@ static const char about[] =
     "  labels IN.log            the channel status blocks that a log carries\n"
     "  picture IN.log OUT.png   draws the reading over time\n"
     "\n"
-    "Ends with 0 where all is well, 1 where the answer is a no, 2 for a refusal or a broken log, 3 where a file "
-    "can't be read or written, 64 for a wrong call.";
+    "A name - is standard input or standard output. Ends with 0 where all is well, 1 where the answer is a no, 2 for a "
+    "refusal or a broken log, 3 where a file can't be read or written, 64 for a wrong call.";
 
 struct call {
     int argc;
@@ -57,7 +60,18 @@ static error_t parse(int key, char *word, struct argp_state *state) {
     return 0;
 }
 
+/*
+ * Where standard input, output or error is closed, the next file that is opened would get its number, and a line for standard
+ * error would go into the sound. Something takes its place that can't be used that way, so that using it is a fault as before.
+ */
+static void fill_standard(void) {
+    for (int fd = STDIN_FILENO; fd <= STDERR_FILENO; fd++)
+        if (fcntl(fd, F_GETFD) < 0 && open("/dev/null", fd == STDIN_FILENO ? O_WRONLY : O_RDONLY) != fd)
+            err(STATUS_FILE, "/dev/null");
+}
+
 int main(int argc, char **argv) {
+    fill_standard();
     static const struct argp argp = {.parser = parse, .args_doc = "SUBCOMMAND ..", .doc = about};
     struct call call = {0};
     argp_parse(&argp, argc, argv, ARGP_IN_ORDER, NULL, &call);

@@ -7,9 +7,11 @@
 #include <stdio.h>
 #include <stdlib.h>
 #include <string.h>
+#include <sysexits.h>
 
 #include "bins.h"
 #include "options.h"
+#include "place.h"
 #include "stretches.h"
 
 enum { WIDTH = 1600, LEFT = 60, RIGHT = 30, PLOT = WIDTH - LEFT - RIGHT };
@@ -243,9 +245,11 @@ int desk_picture(int argc, char **argv) {
         .options = options,
         .parser = parse,
         .args_doc = "IN.log OUT.png",
-        .doc = "Draws a reading over time, with what is missing and damaged.",
+        .doc = "Draws a reading over time, with what is missing and damaged. - is standard input, or standard output.",
     };
     argp_parse(&argp, argc, argv, 0, NULL, &picture);
+    place_apart(picture.in_name, &picture.out_name, 1);
+    if (!place_ends(picture.out_name, "png")) errx(EX_USAGE, "%s: a picture is PNG: .png, or no ending", picture.out_name);
     int status = reading_begin(&picture.reading, picture.in_name, picture.quiet);
     if (status != STATUS_WELL) return status;
     status = picture_log(&picture);

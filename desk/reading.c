@@ -4,7 +4,6 @@
 #include <fcntl.h>
 #include <stdlib.h>
 #include <string.h>
-#include <sys/stat.h>
 #include <unistd.h>
 
 #include "desk.h"
@@ -14,15 +13,13 @@ enum { LONGEST_HEADER = 9 }; /* three numbers of at most three octets */
 
 int reading_open(struct reading *reading, const char *name, bool quiet) {
     memset(reading, 0, sizeof *reading);
-    bool standard = strcmp(name, "-") == 0;
-    reading->name = standard ? "standard input" : name;
-    reading->fd = standard ? STDIN_FILENO : open(name, O_RDONLY);
+    reading->name = shown(name, false);
+    reading->fd = strcmp(name, "-") == 0 ? STDIN_FILENO : open(name, O_RDONLY | O_CLOEXEC);
     if (reading->fd < 0) return say_failed(name);
     reading->buffer = malloc(BUFFER);
     if (reading->buffer == NULL) err(STATUS_FILE, "%s", name);
-    struct stat about;
-    bool known = fstat(reading->fd, &about) == 0 && S_ISREG(about.st_mode);
-    progress_begin(reading->name, known ? (uint64_t)about.st_size : 0, quiet);
+    whole_begin(&reading->whole, reading->fd);
+    progress_begin(reading->name, reading->whole.length, quiet);
     return STATUS_WELL;
 }
 
@@ -55,6 +52,12 @@ static bool hold(struct reading *reading, size_t count) {
     return true;
 }
 
+/* What was read so far is still there, and where the end was met, it is that of the file. Says what is wrong. */
+static bool is_whole(struct reading *reading) {
+    progress_clear();
+    return whole_end(&reading->whole, reading->name, reading->octets, reading->ended);
+}
+
 int reading_header(struct reading *reading) {
     if (!hold(reading, LONGEST_HEADER)) return -1;
     uint32_t *header = reading->header;
@@ -62,7 +65,7 @@ int reading_header(struct reading *reading) {
     if (refusal == RIME_DONE)
         refusal = rime_receiver_open(header[RIME_HEADER_FORMAT], header[RIME_HEADER_CHANNELS],
                                      header[RIME_HEADER_ORDER], reading->state);
-    if (refusal != RIME_DONE) return (int)refusal;
+    if (refusal != RIME_DONE) return is_whole(reading) ? (int)refusal : -1;
     reading->place = header[RIME_HEADER_PLACE];
     reading->format = format_of(header[RIME_HEADER_FORMAT]);
     reading->channels = header[RIME_HEADER_CHANNELS];
@@ -76,7 +79,7 @@ int reading_begin(struct reading *reading, const char *name, bool quiet) {
     if (status != STATUS_WELL) return status;
     int refusal = reading_header(reading);
     if (refusal == RIME_DONE) return STATUS_WELL;
-    status = refusal < 0 ? STATUS_FILE : say_refused(reading->name, "the log is", (unsigned)refusal);
+    status = refusal < 0 ? STATUS_FILE : say_header(reading->name, reading->buffer, reading->held, (unsigned)refusal);
     reading_close(reading);
     return status;
 }
@@ -105,8 +108,11 @@ enum step reading_step(struct reading *reading) {
     uint64_t past = reading->refusal == RIME_DONE ? found[RIME_RECORD_NEXT] : reading->held;
     if (reading->refusal != RIME_REFUSED_LOG_NUMBER && past_limit(reading, past))
         reading->refusal = RIME_REFUSED_LOG_LENGTH;
-    if (reading->refusal != RIME_DONE) return STEP_BROKEN;
-    if (found[RIME_RECORD_WHAT] == RIME_RECORD_IS_END) return STEP_END;
+    bool broken = reading->refusal != RIME_DONE;
+    if (broken || found[RIME_RECORD_WHAT] == RIME_RECORD_IS_END) {
+        if (!is_whole(reading)) return STEP_FAILED;
+        return broken ? STEP_BROKEN : STEP_END;
+    }
     reading->cell = reading->buffer + found[RIME_RECORD_START];
     reading->indication = found[RIME_RECORD_INDICATION] == 1;
     reading->place = found[RIME_RECORD_NEXT];
@@ -128,7 +134,7 @@ bool reading_cut(struct reading *reading, uint64_t *cut) {
         if (!hold(reading, 1)) return false;
         *cut += reading->held - reading->place;
     }
-    return true;
+    return is_whole(reading);
 }
 
 int reading_broken(const struct reading *reading) {

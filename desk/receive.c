@@ -6,6 +6,7 @@
 #include <string.h>
 
 #include "options.h"
+#include "place.h"
 #include "sound.h"
 #include "stretches.h"
 
@@ -144,11 +145,7 @@ static void say_summary(const struct receive *receive) {
 static int keep(struct receive *receive) {
     struct output *outputs[] = {&receive->sound.output, &receive->labels, &receive->marks};
     int status = sound_done(&receive->sound);
-    for (size_t at = 1; at < 3 && status == STATUS_WELL; at++)
-        if (outputs[at]->temporary != NULL && !output_done(outputs[at])) status = output_keep(outputs[at]);
-    for (size_t at = 0; at < 3 && status == STATUS_WELL; at++)
-        if (outputs[at]->temporary != NULL) status = output_keep(outputs[at]);
-    return status;
+    return status == STATUS_WELL ? outputs_keep(outputs, 3) : status;
 }
 
 static int receive_log(struct receive *receive) {
@@ -159,6 +156,7 @@ static int receive_log(struct receive *receive) {
     if (last == STEP_FAILED) return STATUS_FILE;
     status = keep(receive);
     if (status != STATUS_WELL) return status;
+    receive->out_name = receive->sound.output.name; /* as it is shown */
     if (!receive->quiet) say_summary(receive);
     if (last == STEP_BROKEN) return reading_broken(&receive->reading);
     bool flawed = receive->reading.missing + receive->reading.refused + receive->damaged > 0;
@@ -171,9 +169,11 @@ int desk_receive(int argc, char **argv) {
         .options = options,
         .parser = parse,
         .args_doc = "IN.log OUT.wav",
-        .doc = "Takes a log and writes its sound, silence where cells are missing.",
+        .doc = "Takes a log and writes its sound, silence where cells are missing. - is standard input, or standard output, into "
+               "which WAV is written.",
     };
     argp_parse(&argp, argc, argv, 0, NULL, &receive);
+    place_apart(receive.in_name, (const char *[]){receive.out_name, receive.labels_name, receive.marks_name}, 3);
     int status = reading_begin(&receive.reading, receive.in_name, receive.quiet);
     if (status != STATUS_WELL) return status;
     status = receive_log(&receive);

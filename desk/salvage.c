@@ -4,6 +4,7 @@
 #include <unistd.h>
 
 #include "options.h"
+#include "place.h"
 
 enum { RECORDS = 1024 }; /* records that are written at a time */
 
@@ -88,9 +89,11 @@ int desk_salvage(int argc, char **argv) {
         .options = options,
         .parser = parse,
         .args_doc = "IN.log OUT.log",
-        .doc = "Writes a new log of the records that the receiver takes, and lists what was left out.",
+        .doc = "Writes a new log of the records that the receiver takes, and lists what was left out. - is standard input, or "
+               "standard output.",
     };
     argp_parse(&argp, argc, argv, 0, NULL, &salvage);
+    place_apart(salvage.in_name, &salvage.out_name, 1);
     int status = reading_begin(&salvage.reading, salvage.in_name, salvage.quiet);
     if (status != STATUS_WELL) return status;
     status = salvage_log(&salvage);

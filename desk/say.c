@@ -2,8 +2,14 @@
 #include <err.h>
 #include <errno.h>
 #include <stdio.h>
+#include <string.h>
 
 #include "desk.h"
+
+const char *shown(const char *name, bool is_output) {
+    if (strcmp(name, "-") != 0) return name;
+    return is_output ? "standard output" : "standard input";
+}
 
 int say_failed(const char *name) {
     warn("%s", name);
@@ -21,7 +27,8 @@ int say_refused(const char *name, const char *what, unsigned refusal) {
 }
 
 int say_broken(const char *name, uint64_t record, unsigned refusal) {
-    warnx("%s: record %llu broken %u: %s", name, (unsigned long long)record, refusal, rime_refusal_text(refusal));
+    const char *limit = refusal == RIME_REFUSED_LOG_LENGTH ? ": a list has at most 4,294,967,295 octets of it" : "";
+    warnx("%s: record %llu broken %u: %s%s", name, (unsigned long long)record, refusal, rime_refusal_text(refusal), limit);
     return STATUS_REFUSED;
 }
 

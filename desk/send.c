@@ -7,6 +7,7 @@
 #include <string.h>
 
 #include "options.h"
+#include "place.h"
 #include "sound.h"
 #include "status.h"
 
@@ -114,7 +115,9 @@ static int open_sender(struct send *send) {
     send->channels = (unsigned)send->in.about.channels;
     unsigned refusal = rime_sender_open(send->format, send->channels, send->order, send->number, send->wanted,
                                         send->second, send->state);
-    if (refusal != RIME_DONE) return say_refused(send->in_name, "a sender of these settings is", refusal);
+    if (refusal != RIME_DONE)
+        return say_settings(send->in_name, "a sender of these settings is", refusal,
+                            (struct settings){send->format, send->channels, send->order, send->number, send->second});
     send->about = format_of(send->format);
     send->times = send->about.slots / send->channels;
     send->entries = send->channels * send->times;
@@ -175,13 +178,16 @@ int desk_send(int argc, char **argv) {
         .options = options,
         .parser = parse,
         .args_doc = "IN.wav OUT.log",
-        .doc = "Packs a sound file into a log.",
+        .doc = "Packs a sound file into a log. - is standard input, or standard output.",
     };
     argp_parse(&argp, argc, argv, 0, NULL, &send);
+    place_apart(send.in_name, &send.out_name, 1);
     int status = sound_open(&send.in, send.in_name);
+    send.in_name = send.in.name;
     if (status != STATUS_WELL) return status;
     status = open_sender(&send);
     if (status == STATUS_WELL) status = output_open(&send.out, send.out_name, send.force);
+    send.out_name = shown(send.out_name, true);
     if (status == STATUS_WELL) {
         send.sound = malloc(sizeof *send.sound * CELLS * send.entries);
         if (send.sound == NULL) err(STATUS_FILE, "%s", send.in_name);

@@ -1,5 +1,6 @@
 /* rimesatchel sheet: figures of many logs. rimesatchel add: sheets of parts into the sheet of all. */
 #include <argp.h>
+#include <err.h>
 #include <stdio.h>
 
 #include "figures.h"
@@ -8,46 +9,82 @@
 
 struct call {
     struct names names;
-    bool quiet;
+    bool plain, quiet;
+    bool counted; /* --logs is given */
+    uint64_t logs;
 };
 
-static const struct argp_option quiet_alone[] = {
+static const struct argp_option sheet_options[] = {
+    {"plain", 'p', NULL, 0, "the columns of the program sheet alone, and its limits: 4,096 logs, totals up to 4,294,967,295", 0},
     {"quiet", 'q', NULL, 0, "no bar, and no word on logs that are refused or broken", 0},
     {0},
 };
 
+static const struct argp_option add_options[] = {
+    {"logs", 'n', "NUMBER", 0, "end with status 2 where the sheets have another number of rows", 0},
+    {0},
+};
+
 static error_t parse(int key, char *word, struct argp_state *state) {
-    (void)word;
     struct call *call = state->input;
-    if (key != 'q') return option_names(state, key, &call->names);
-    call->quiet = true;
+    switch (key) {
+    case 'n':
+        call->counted = true;
+        call->logs = option_number(state, "logs", word, 10);
+        break;
+    case 'p': call->plain = true; break;
+    case 'q': call->quiet = true; break;
+    default: return option_names(state, key, &call->names);
+    }
     return 0;
 }
 
-static error_t parse_names(int key, char *word, struct argp_state *state) {
-    (void)word;
-    return option_names(state, key, &((struct call *)state->input)->names);
+static void put_state(struct row *row, struct fault fault) {
+    if (fault.refusal == RIME_DONE) return;
+    if (fault.header) snprintf(row->state, STATE, "refused %u", fault.refusal);
+    else snprintf(row->state, STATE, "broken %u at %llu", fault.refusal, (unsigned long long)fault.record);
 }
 
-/* Takes the figures of a log, up to its end or its fault. A refused header counts nothing. */
-static int take_log(struct sheet *sheet, const char *name, bool quiet) {
+/* What rime_sheet answered for a log alone, and what comes after its records: figures and state. A status. */
+static int take_figures(struct row *row, const struct lent *lent, unsigned refusal, const uint32_t *figures, bool quiet) {
+    if (refusal != RIME_DONE) {
+        put_state(row, (struct fault){.refusal = refusal, .header = true});
+        return quiet ? STATUS_REFUSED : say_refused(lent->name, "its sheet is", refusal);
+    }
+    uint64_t records = figures[SOUND_CELLS];
+    for (unsigned at = REFUSED_8; at <= REFUSED_20; at++) records += figures[at];
+    for (unsigned at = 0; at < FIGURES; at++) row->figures.of[at] = figures[at];
+    struct fault fault = lent_fault(lent, records);
+    put_state(row, fault);
+    if (!quiet) return lent_say(lent, fault);
+    return fault.refusal == RIME_DONE ? STATUS_WELL : STATUS_REFUSED;
+}
+
+/* The figures of a log, up to its end or its fault, and its state. A refused header counts nothing. A status. */
+static int read_log(struct sheet *sheet, struct row *row, bool quiet) {
     struct lent lent;
-    int status = lent_open(&lent, name);
+    int status = lent_open(&lent, row->file);
     if (status != STATUS_WELL) return status;
+    lent_watch(&lent);
     if (lent_lost(&lent)) return lent_gone(&lent);
     uint64_t length = lent.count;
     uint32_t figures[FIGURES], totals[FIGURES];
     progress_watch(lent.name, lent.mapped, lent.size);
-    sheet->refusal = rime_sheet(lent.octets, lent.count, &length, 1, figures, FIGURES, totals);
+    unsigned refusal = rime_sheet(lent.octets, lent.count, &length, 1, figures, FIGURES, totals);
     progress_watched();
-    if (sheet->refusal == RIME_DONE) {
-        struct row row;
-        for (unsigned at = 0; at < FIGURES; at++) row.of[at] = figures[at];
-        uint64_t records = row.of[SOUND_CELLS] + row.of[REFUSED_8] + row.of[REFUSED_9] + row.of[REFUSED_15] + row.of[REFUSED_20];
-        status = lent_end(&lent, records, quiet);
-        sheet_take(sheet, &row);
-    }
+    status = lent_whole(&lent, true);
+    if (status != STATUS_WELL) return status;
+    if (sheet->plain) sheet->refusal = refusal; /* of the sheet itself, and said of it */
+    status = take_figures(row, &lent, refusal, figures, quiet || sheet->refusal != RIME_DONE);
     lent_close(&lent);
+    return status;
+}
+
+static int take_log(struct sheet *sheet, char *name, bool quiet) {
+    struct row row = {.file = name};
+    int status = read_log(sheet, &row, quiet);
+    if (status == STATUS_FILE) snprintf(row.state, STATE, "unreadable");
+    sheet_take(sheet, &row);
     return status;
 }
 
@@ -55,18 +92,20 @@ int desk_sheet(int argc, char **argv) {
     struct call call = {0};
     static struct sheet sheet;
     static const struct argp argp = {
-        .options = quiet_alone,
+        .options = sheet_options,
         .parser = parse,
         .args_doc = "FILE..",
-        .doc = "Prints a sheet of figures, comma separated: a line for each log and one of all together. - is standard input.",
+        .doc = "Prints a sheet of figures, comma separated: a line for each log, with its state where not all is well and its "
+               "name, and one of all together. - is standard input.",
     };
     argp_parse(&argp, argc, argv, 0, NULL, &call);
     int worst = STATUS_WELL;
-    if (call.names.count > MOST_LOGS) sheet.refusal = TOO_MANY_LOGS;
+    sheet.plain = call.plain;
+    if (call.plain && call.names.count > MOST_LOGS) sheet.refusal = RIME_REFUSED_LOGS;
     progress_begin("logs", (uint64_t)call.names.count, call.quiet);
     for (int at = 0; at < call.names.count && sheet.refusal == RIME_DONE; at++) {
         int status = take_log(&sheet, call.names.words[at], call.quiet);
-        if (status == STATUS_FILE) return status;
+        if (call.plain && status == STATUS_FILE) return status; /* its columns have no place for a state */
         if (status > worst) worst = status;
         progress_at((uint64_t)at + 1);
     }
@@ -75,19 +114,32 @@ int desk_sheet(int argc, char **argv) {
     return printed(status > worst ? status : worst);
 }
 
+/* What all the rows say together: a status, and says why it isn't well. */
+static int judge(const struct sheet *sheet, const struct call *call) {
+    unsigned long long logs = sheet->logs, stated = sheet->stated;
+    if (stated > 0)
+        warnx("%llu of %llu row%s %s a state: not all is well with the logs", stated, logs, plural(logs),
+              stated == 1 ? "has" : "have");
+    bool wrong = call->counted && logs != call->logs;
+    if (wrong) warnx("%llu row%s came, and --logs says %llu", logs, plural(logs), (unsigned long long)call->logs);
+    return stated > 0 || wrong ? STATUS_REFUSED : STATUS_WELL;
+}
+
 int desk_add(int argc, char **argv) {
     struct call call = {0};
     static struct sheet sheet;
     static const struct argp argp = {
-        .parser = parse_names,
+        .options = add_options,
+        .parser = parse,
         .args_doc = "SHEET.csv..",
         .doc = "Adds sheets of parts into the sheet of all: their rows in a row, the figures of all together, and missing per "
-               "million worked out anew. - is standard input.",
+               "million worked out anew. Ends with 2 where a row has a state. - is standard input.",
     };
     argp_parse(&argp, argc, argv, 0, NULL, &call);
     for (int at = 0; at < call.names.count; at++) {
         int status = sheet_read(&sheet, call.names.words[at]);
         if (status != STATUS_WELL) return status;
     }
-    return printed(sheet_print(&sheet));
+    int status = sheet_print(&sheet), judged = judge(&sheet, &call);
+    return printed(status > judged ? status : judged);
 }

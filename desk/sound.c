@@ -3,11 +3,12 @@
 
 #include <err.h>
 #include <errno.h>
-#include <fcntl.h>
 #include <stdio.h>
 #include <string.h>
 #include <strings.h>
 #include <unistd.h>
+
+#include "place.h"
 
 /* The bits of a sample, 0 where a file has no whole numbers. */
 static unsigned bits_of(int format) {
@@ -25,41 +26,27 @@ static unsigned bits_of(int format) {
     }
 }
 
-/*
- * Whether the header tells of more sound than the file has. libsndfile takes what is there and notes it in its log alone.
- * Programs that write into a pipe leave the largest length in the header, which says nothing.
- */
-static bool is_cut(SNDFILE *file) {
-    enum { UNKNOWN = 0x7FFFF000 };
-    char words[16384] = "";
-    sf_command(file, SFC_GET_LOG_INFO, words, sizeof words);
-    for (char *line = words; line != NULL; line = strchr(line, '\n')) {
-        long long told, there;
-        line += *line == '\n';
-        if (sscanf(line, " data : %lld (should be %lld)", &told, &there) == 2 ||
-            sscanf(line, " SSND : %lld (should be %lld)", &told, &there) == 2)
-            if (told > there && told < UNKNOWN) return true;
-    }
-    return false;
-}
-
 int sound_open(struct sound_in *in, const char *name) {
-    *in = (struct sound_in){.name = name};
-    int fd = open(name, O_RDONLY);
-    if (fd < 0) return say_failed(name);
+    *in = (struct sound_in){.name = shown(name, false)};
+    int fd = sound_fd(name);
+    if (fd < 0) return STATUS_FILE;
+    enum header_says says = sound_says(fd);
+    name = in->name;
     in->file = sf_open_fd(fd, SFM_READ, &in->about, SF_TRUE);
     if (in->file == NULL) return say_unfit(name, "isn't a sound file that can be read (WAV, RF64, W64, FLAC, AIFF)");
     in->bits = bits_of(in->about.format);
-    bool cut = is_cut(in->file);
-    if (in->bits != 0 && !cut) return STATUS_WELL;
+    if (says == SAYS_NOTHING || in->about.frames == SF_COUNT_MAX)
+        warnx("%s: whether it was cut off can't be seen from its header", name);
+    if (in->bits != 0 && says <= SAYS_NOTHING) return STATUS_WELL;
     sf_close(in->file);
-    if (cut) return say_unfit(name, "is cut off: its header tells of more sound than it has");
+    if (says == SAYS_CUT) return say_unfit(name, "is cut off: its header tells of more sound than it has");
+    if (says == SAYS_SILENT) return say_unfit(name, "was never finished: its header tells of no sound, and more is there");
     return say_unfit(name, "has samples that aren't whole numbers: sox -b 24 makes a file of it that has");
 }
 
 int sound_whole(struct sound_in *in, uint64_t frames) {
     if (sf_error(in->file) != SF_ERR_NO_ERROR) return say_unfit(in->name, sf_strerror(in->file));
-    if (frames == (uint64_t)in->about.frames) return STATUS_WELL;
+    if (frames == (uint64_t)in->about.frames || in->about.frames == SF_COUNT_MAX) return STATUS_WELL;
     warnx("%s: ends after %llu of its %lld samples a channel", in->name, (unsigned long long)frames,
           (long long)in->about.frames);
     return STATUS_FILE;
@@ -111,6 +98,10 @@ static sf_count_t tell(void *user) {
 int sound_create(struct sound_out *out, const char *name, SF_INFO about, unsigned bits, bool force) {
     static SF_VIRTUAL_IO through = {length_of, seek_to, read_some, write_all, tell};
     *out = (struct sound_out){.file = NULL};
+    if (place_is_stream(name)) {
+        int status = stream_create(out, name, (unsigned)about.channels, bits, force);
+        return status == STATUS_WELL ? stream_begin(out, (unsigned)about.samplerate) : status;
+    }
     int container = container_of(name);
     if (container == 0) return say_unfit(name, "the name doesn't end in .wav, .rf64, .w64, .flac, .aif or .aiff");
     about.format = container | subtype_of(bits);
@@ -133,13 +124,18 @@ int sound_create(struct sound_out *out, const char *name, SF_INFO about, unsigne
 }
 
 bool sound_write(struct sound_out *out, const int *samples, size_t frames) {
+    if (out->stream) return stream_write(out, samples, frames);
     bool good = sf_writef_int(out->file, samples, (sf_count_t)frames) == (sf_count_t)frames;
     if (!good && out->output.error == 0) out->output.error = EIO;
     return out->output.error == 0;
 }
 
 int sound_done(struct sound_out *out) {
-    int failed = sf_error(out->file), closed = sf_close(out->file);
+    int failed = SF_ERR_NO_ERROR, closed = SF_ERR_NO_ERROR;
+    if (out->file != NULL) {
+        failed = sf_error(out->file);
+        closed = sf_close(out->file);
+    }
     out->file = NULL;
     bool written = output_done(&out->output);
     if (written && failed == SF_ERR_NO_ERROR && closed == SF_ERR_NO_ERROR) return STATUS_WELL;

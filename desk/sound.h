@@ -17,11 +17,31 @@ int sound_whole(struct sound_in *in, uint64_t frames); /* a status: so many fram
 
 struct sound_out {
     struct output output;
+    bool stream; /* written by stream.c, and what it needs to know */
+    unsigned bits, channels;
     SNDFILE *file;
 };
 int sound_create(struct sound_out *out, const char *name, SF_INFO about, unsigned bits, bool force);
 bool sound_write(struct sound_out *out, const int *samples, size_t frames);
 int sound_done(struct sound_out *out); /* nothing more is written; a status, and says what is wrong */
 void sound_drop(struct sound_out *out);
+
+/* header.c: a sound file that is opened to be read, from a pipe too, and what its header says of its length. */
+enum header_says {
+    SAYS_WHOLE,   /* all of it is there, as far as the header tells */
+    SAYS_NOTHING, /* the header doesn't tell, as that of sound from a pipe doesn't */
+    SAYS_CUT,     /* less is there than the header says */
+    SAYS_SILENT   /* the header says that there is no sound, and something is there: it was never finished */
+};
+int sound_fd(const char *name); /* -1 where it can't be; that is said */
+enum header_says sound_says(int fd);
+
+/*
+ * stream.c: sound into what can't be gone back in. The name and what is to stand in it, then the sampling frequency, then
+ * frames of int, or of double where a sample has 64 bits.
+ */
+int stream_create(struct sound_out *out, const char *name, unsigned channels, unsigned bits, bool force);
+int stream_begin(struct sound_out *out, unsigned rate);
+bool stream_write(struct sound_out *out, const void *samples, size_t frames);
 
 #endif

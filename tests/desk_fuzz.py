@@ -5,7 +5,8 @@ usage: desk_fuzz.py PROGRAM [COUNT [SEED]]
 
 Each log is a whole one in some format, with octets changed, taken out or put in. Every call must end with 0, 1 or 2 and say
 nothing of memory; the marks that `receive` writes must be as many as the records that `list` shows call for; and `list` must
-print what linelist does, where that is built.
+print what linelist does, where that is built. Spoiled sheets go through `add`, and spoiled sound files through `send`; they may
+end with 3 too.
 """
 import os
 import pathlib
@@ -29,8 +30,8 @@ def fail(words):
     sys.exit(f'desk: {words}')
 
 
-def run(*words, may=(0, 1, 2)):
-    done = subprocess.run([program, *words], capture_output=True, check=False)
+def run(*words, may=(0, 1, 2), given=b''):
+    done = subprocess.run([program, *words], input=given, capture_output=True, check=False)
     said = done.stderr.decode(errors='replace')
     if done.returncode not in may or 'Sanitizer' in said or 'runtime error' in said:
         fail(f'{" ".join(words)} ended with {done.returncode}\n{said}')
@@ -52,11 +53,11 @@ def whole_log(folder):
     return (folder / 'in.log').read_bytes()
 
 
-def spoiled(log):
+def spoiled(log, most=None, kinds=6):
     log = bytearray(log)
     for _ in range(chance.choice([0, 1, 3, 30])):
-        at = chance.randrange(len(log)) if chance.randrange(9) else chance.randrange(min(3, len(log)))
-        kind = chance.randrange(6)
+        at = chance.randrange(min(most or len(log), len(log))) if chance.randrange(9) else chance.randrange(min(3, len(log)))
+        kind = chance.randrange(kinds)
         if kind == 0:
             log[at] = chance.randrange(256)
         elif kind == 1:
@@ -82,7 +83,7 @@ def salvaged(folder, name, listed, sheet, answer):
     if [line.split()[1:] for line in kept[1:-1]] != [line[1:] for line in words[1:-1] if line[1] == 'sound']:
         fail(f'salvage kept other records than are sound of\n{listed}')
     old, new_sheet = (text.splitlines()[1].split(',') for text in (sheet, run('sheet', new).stdout.decode()))
-    if old[1:3] + old[7:] != new_sheet[1:3] + new_sheet[7:] or old[1] != words[-1][1] or old[2] != words[-1][3]:
+    if old[1:3] + old[7:11] != new_sheet[1:3] + new_sheet[7:11] or old[1] != words[-1][1] or old[2] != words[-1][3]:
         fail(f'{sheet} of\n{listed}')
     if sum(map(int, old[3:7])) != int(words[-1][5]) or answer[:3] != run('anything', new).stdout.decode()[:3]:
         fail(f'{sheet} and {answer} of\n{listed}')
@@ -119,7 +120,36 @@ def try_log(folder, log):
         fail(f'{len(told)} marks, {told.count(2)} of them missing, of\n{listed}')
 
 
+def try_sheet(folder):
+    """A sheet of both kinds, with octets changed, taken out and put in."""
+    name, odd = folder / 'spoiled.csv', folder / 'a "b",\n.log'
+    odd.write_bytes((folder / 'in.log').read_bytes())
+    logs = [str(folder / 'spoiled.log'), str(odd), str(folder / 'nosuch.log')]
+    sheet = run('sheet', '-q', *logs, may=(3,)).stdout + run('sheet', '-q', '--plain', *logs[:2]).stdout
+    name.write_bytes(spoiled(sheet, kinds=4))
+    added = run('add', str(name), may=(0, 2, 3))
+    if added.returncode < 3 and run('add', '-', may=(0, 2), given=added.stdout).stdout != added.stdout:
+        fail(f'the sheet of {name.read_bytes()} is another one when it is read back')
+
+
+def try_sound(folder):
+    """A sound file that is spoiled at its start, by its name and through a pipe."""
+    kind = chance.choice(['wav', 'rf64', 'w64', 'aiff', 'flac'])
+    whole = folder / f'in.{kind}'
+    if run('receive', '-q', '--force', str(folder / 'in.log'), str(whole), may=(0, 2, 3)).returncode != 0:
+        return  # a format that such a file doesn't hold
+    name = folder / f'spoiled.{kind}'
+    name.write_bytes(spoiled(whole.read_bytes(), most=120, kinds=4))
+    words = ['--cut', '--force', '--format', '06', str(folder / 'new.log')]
+    by_name = run('send', '-q', str(name), *words, may=(0, 2, 3))
+    by_pipe = run('send', '-q', '-', *words, may=(0, 2, 3), given=name.read_bytes())
+    if by_name.returncode != by_pipe.returncode:
+        fail(f'{name.read_bytes()[:120]} ends with {by_name.returncode}, and through a pipe with {by_pipe.returncode}')
+
+
 with tempfile.TemporaryDirectory() as place:
     for _ in range(count):
         try_log(pathlib.Path(place), spoiled(whole_log(pathlib.Path(place))))
-print(f'desk: {count} spoiled logs, no fault')
+        try_sheet(pathlib.Path(place))
+        try_sound(pathlib.Path(place))
+print(f'desk: {count} spoiled logs, sheets and sound files, no fault')

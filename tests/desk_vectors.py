@@ -87,7 +87,7 @@ def sheet_case(run, lengths, _, __, refusal, rows, totals):
         at += length
     if not names:
         return
-    status, out, _ = ran('sheet', *names)
+    status, out, _ = ran('sheet', '--plain', *names)
     if refusal != '0':
         assert (status, out) == (2, f'sheet refused {refusal}\n')
         return
@@ -98,7 +98,9 @@ def sheet_case(run, lengths, _, __, refusal, rows, totals):
     middle = len(names) // 2
     parts = [put(f'part{number}', ran('sheet', '-q', *part)[1].encode())
              for number, part in enumerate((names[:middle], names[middle:])) if part]
-    assert ran('add', *parts) == (0, out, '')
+    state, added, _ = ran('add', *parts)
+    assert (state, added) == ran('sheet', '-q', *names)[:2] and state == status
+    assert [line.rsplit(',', 2)[0] for line in added.splitlines()] == lines
 
 
 CASES = {'linelist': list_case, 'anything': anything_case, 'salvage': salvage_case, 'sheet': sheet_case}
