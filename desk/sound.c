@@ -160,25 +160,40 @@ int sound_begin(struct sound_out *out, unsigned rate) {
         return errno != 0 ? say_failed(name) : say_unfit(name, sf_strerror(NULL));
     }
     if (strcasecmp(strrchr(name, '.'), ".wav") == 0) sf_command(out->file, SFC_RF64_AUTO_DOWNGRADE, NULL, SF_TRUE);
-    /* it would have the time of day in it, and a log would make another file each time */
-    sf_command(out->file, SFC_SET_ADD_PEAK_CHUNK, NULL, SF_FALSE);
+    sf_command(out->file, SFC_SET_ADD_PEAK_CHUNK, NULL, SF_FALSE); /* it would have the time of day in it */
     return STATUS_WELL;
+}
+
+static bool is_real(const struct sound_out *out) {
+    return (out->about.format & SF_FORMAT_SUBMASK) == SF_FORMAT_DOUBLE;
 }
 
 bool sound_write(struct sound_out *out, const void *samples, size_t frames) {
     if (frames > out->most - out->frames) out->full = true;
     if (out->full) return false;
-    bool whole = (out->about.format & SF_FORMAT_SUBMASK) != SF_FORMAT_DOUBLE;
-    sf_count_t written = whole ? sf_writef_int(out->file, samples, (sf_count_t)frames)
-                               : sf_writef_double(out->file, samples, (sf_count_t)frames);
+    sf_count_t written = is_real(out) ? sf_writef_double(out->file, samples, (sf_count_t)frames)
+                                      : sf_writef_int(out->file, samples, (sf_count_t)frames);
     if (written != (sf_count_t)frames && out->output.error == 0) out->output.error = EIO;
     out->frames += frames;
     return out->output.error == 0;
 }
 
+/*
+ * A file of floating point has its peaks in a chunk, with the time of day, so that a log would make another file each
+ * time. In RF64 libsndfile can't be asked to leave it out: the time goes.
+ */
+static void forget_time(struct output *output) {
+    static const uint8_t none[4];
+    uint8_t head[512];
+    ssize_t got = pread(output->fd, head, sizeof head, 0);
+    for (ssize_t at = 12; at + 16 <= got; at += 8 + head[at + 4] + 256 * head[at + 5])
+        if (memcmp(head + at, "PEAK", 4) == 0 && pwrite(output->fd, none, sizeof none, at + 12) < 0) output->error = errno;
+}
+
 int sound_done(struct sound_out *out) {
     int failed = sf_error(out->file), closed = sf_close(out->file);
     out->file = NULL;
+    if (is_real(out)) forget_time(&out->output);
     bool written = output_done(&out->output);
     if (out->full) {
         warnx("%s: %s holds at most %llu samples a channel here, and more came: .wav or .w64 holds them",
