@@ -14,9 +14,10 @@
 
 struct receive {
     const char *in_name, *out_name, *labels_name, *marks_name;
-    unsigned bits, cut;                /* 0 where they aren't given */
-    uint64_t length;                   /* samples a channel */
-    bool measured, strict, force, quiet; /* measured: a length is given */
+    unsigned bits, cut; /* 0 where they aren't given */
+    uint64_t length;    /* samples a channel */
+    bool measured;      /* a length is given */
+    bool strict, force, quiet;
 
     struct reading reading;
     struct frequency frequency;
@@ -92,7 +93,7 @@ static void warn_of_length(const struct receive *receive) {
     const struct reading *reading = &receive->reading;
     struct stat about;
     if (fstat(reading->fd, &about) != 0 || !S_ISREG(about.st_mode)) return;
-    uint64_t records = ((uint64_t)about.st_size - reading->header[RIME_HEADER_PLACE]) / RIME_RECORD_OCTETS;
+    uint64_t records = (uint64_t)about.st_size / RIME_RECORD_OCTETS; /* the header is shorter than one */
     if (records * reading->times <= receive->sound.most) return;
     warnx("%s: %s holds at most %llu samples a channel here, and the records of %s alone have %llu: .wav or .w64 holds them",
           receive->out_name, receive->sound.kind, (unsigned long long)receive->sound.most, reading->name,
