@@ -166,6 +166,7 @@ TXT
 "$desk" labels long.log | diff expected.txt -
 "$desk" send -q in-16-5.wav bare.log --no-status
 ends 0 "channel 5: no channel status block" "$desk" labels bare.log
+rm bare.log
 
 # Requests 7, 9 and 3: their vectors, and the logs that were made here.
 python3 "$here/tests/desk_vectors.py" "$desk" "$here/tests/vectors"
