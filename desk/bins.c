@@ -49,15 +49,14 @@ static void put(struct bin *bin, int32_t sample, unsigned mark) {
     if (sample > bin->high) bin->high = sample;
 }
 
-void bins_take(struct bins *bins, const struct reading *reading) {
-    unsigned bits = reading->format.sample_bits;
-    for (size_t at = 0; at < reading->given; bins->times++) {
+void bins_take(struct bins *bins, unsigned sample_bits, const struct handed *handed) {
+    for (size_t at = 0; at < handed->given; bins->times++) {
         if (bins->times == bins->unit * BINS) halve(bins);
         size_t place = bins->times / bins->unit;
         for (unsigned channel = 0; channel < bins->channels; channel++, at++) {
-            uint64_t sample = reading->samples[at];
-            uint32_t top = bits > 32 ? (uint32_t)(sample >> (bits - 32)) : (uint32_t)sample << (32 - bits);
-            put(&bins->bins[(size_t)channel * BINS + place], (int32_t)top, reading->marks[at]);
+            uint64_t sample = handed->samples[at];
+            uint32_t top = (uint32_t)(sample << (64 - sample_bits) >> 32);
+            put(&bins->bins[(size_t)channel * BINS + place], (int32_t)top, handed->marks[at]);
         }
     }
 }

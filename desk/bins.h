@@ -2,7 +2,7 @@
 #ifndef BINS_H
 #define BINS_H
 
-#include "desk.h"
+#include "frequency.h"
 
 enum { BINS = 4096 };
 
@@ -19,7 +19,7 @@ struct bins {
 };
 
 bool bins_open(struct bins *bins, unsigned channels); /* false where there is no memory */
-void bins_take(struct bins *bins, const struct reading *reading);
+void bins_take(struct bins *bins, unsigned sample_bits, const struct handed *handed);
 /* All of a stretch, its ends given as parts of the whole, 0 to 1. */
 struct bin bins_between(const struct bins *bins, unsigned channel, double from, double past);
 void bins_close(struct bins *bins);

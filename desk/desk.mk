@@ -2,12 +2,13 @@
 #
 # RIME_LIB   the folder of librimesatchel.a
 # DESK       the folder in which the tool is built
+# DESK_MORE  further flags for gcc
 
 RIME_LIB ?= $(CURDIR)/target/staticlib
 DESK ?= target/desk
 DESK_SOURCES := $(wildcard desk/*.c)
 DESK_HEADERS := $(wildcard desk/*.h) include/rimesatchel.h
-DESK_FLAGS := -std=c11 -D_GNU_SOURCE -O2 -Wall -Wextra -Werror -Iinclude
+DESK_FLAGS := -std=c11 -D_GNU_SOURCE -O2 -Wall -Wextra -Werror -Iinclude $(DESK_MORE)
 
 .PHONY: desk desk-needs
 desk: $(DESK)/rimesatchel
@@ -28,6 +29,11 @@ demo: desk-needs
 .PHONY: desk-hour
 desk-hour: desk
 	@bash bench/hour.sh
+
+# The longest files of each kind, with their 4 GiB.
+.PHONY: desk-limits
+desk-limits: desk
+	@DESK=$(DESK) bash tests/desk_limits.sh
 
 # Spoiled logs through a build that notices a wrong use of memory.
 .PHONY: desk-fuzz

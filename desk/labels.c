@@ -1,15 +1,18 @@
 /* rimesatchel labels: the channel status blocks that a log carries. Those that say the same in a row are one line. */
 #include <argp.h>
+#include <err.h>
 #include <errno.h>
 #include <stdio.h>
 #include <string.h>
 #include <unistd.h>
 
+#include "frequency.h"
 #include "options.h"
 #include "status.h"
 
-/* Octets of a block that are compared with the one before it: those up to the sample addresses, which count on. */
-enum { ALIKE = 14 };
+/* Octets of a block that are compared with the one before it: those up to the sample addresses, which count on, and the
+   flags after them. */
+enum { ALIKE = 14, FLAGS = 22 };
 
 struct channel {
     uint8_t block[RIME_BLOCK]; /* under assembly */
@@ -21,14 +24,15 @@ struct channel {
 
 struct labels {
     const char *name;
-    unsigned rate;
     bool quiet;
+    bool assumed; /* a line counts its seconds by a frequency that nothing says */
     struct reading reading;
+    struct frequency frequency;
     struct channel channels[RIME_MOST_SLOTS];
 };
 
 static const struct argp_option options[] = {
-    {"rate", 'r', "HZ", 0, "sampling frequency, which a log doesn't carry: 48000 where this is left out", 0},
+    {"rate", 'r', "HZ", 0, "sampling frequency, whatever channel status says; without both it is 48000", 0},
     {"quiet", 'q', NULL, 0, "no bar", 0},
     {0},
 };
@@ -36,7 +40,7 @@ static const struct argp_option options[] = {
 static error_t parse(int key, char *word, struct argp_state *state) {
     struct labels *labels = state->input;
     switch (key) {
-    case 'r': labels->rate = option_rate(state, word); break;
+    case 'r': labels->frequency.asked = option_rate(state, word); break;
     case 'q': labels->quiet = true; break;
     case ARGP_KEY_ARG:
         if (state->arg_num > 0) argp_usage(state);
@@ -61,26 +65,38 @@ static void say_professional(const uint8_t *octets) {
     printf(", professional");
     if (rate != 0) printf(", %u Hz", rate);
     if (bits != 0) printf(", %u bits", bits);
+    if (status_flagged(octets)) printf(" (flagged as unreliable)");
     say_letters("origin", octets + STATUS_ORIGIN);
     say_letters("destination", octets + STATUS_DESTINATION);
 }
 
-static void say_blocks(const struct labels *labels, unsigned number) {
+/* The frequency that a line counts seconds by: its own blocks' where it counts, else the log's. */
+static unsigned rate_of(struct labels *labels, const uint8_t said[RIME_OUT]) {
+    unsigned own = status_counts(said) ? status_rate(said + RIME_OUT_OCTETS) : 0;
+    if (labels->frequency.asked != 0) return labels->frequency.asked;
+    if (own == 0 && frequency_assumed(&labels->frequency)) labels->assumed = true;
+    return own != 0 ? own : labels->frequency.rate;
+}
+
+static void say_blocks(struct labels *labels, unsigned number) {
     static const char *const answers[] = {"neither", "doesn't fit", "fits", "none carried"};
     const struct channel *channel = &labels->channels[number];
-    unsigned answer = channel->said[RIME_OUT_ANSWER];
-    printf("channel %u: %.6f to %.6f s, %llu block%s: %s", number + 1, (double)channel->from / labels->rate,
-           (double)channel->past / labels->rate, (unsigned long long)channel->count, plural(channel->count),
+    unsigned answer = channel->said[RIME_OUT_ANSWER], rate = rate_of(labels, channel->said);
+    printf("channel %u: %.6f to %.6f s, %llu block%s: %s", number + 1, (double)channel->from / rate,
+           (double)channel->past / rate, (unsigned long long)channel->count, plural(channel->count),
            answers[answer % 4]);
     if (answer == RIME_STATUS_NONE_CARRIED) printf(", consumer use");
     else say_professional(channel->said + RIME_OUT_OCTETS);
     putchar('\n');
 }
 
+static bool are_alike(const uint8_t a[RIME_OUT], const uint8_t b[RIME_OUT]) {
+    return memcmp(a, b, RIME_OUT_OCTETS + ALIKE) == 0 && a[RIME_OUT_OCTETS + FLAGS] == b[RIME_OUT_OCTETS + FLAGS];
+}
+
 static void take_block(struct labels *labels, unsigned number, const uint8_t *out, uint64_t past) {
     struct channel *channel = &labels->channels[number];
-    bool alike = channel->count > 0 && memcmp(out, channel->said, RIME_OUT_OCTETS + ALIKE) == 0;
-    if (!alike) {
+    if (channel->count == 0 || !are_alike(out, channel->said)) {
         if (channel->count > 0) say_blocks(labels, number);
         memcpy(channel->said, out, RIME_OUT);
         channel->count = 0;
@@ -91,34 +107,36 @@ static void take_block(struct labels *labels, unsigned number, const uint8_t *ou
     channel->past = past;
 }
 
-/* Brings each channel's block forward by what one cell brought. */
-static void take(struct labels *labels) {
-    struct reading *reading = &labels->reading;
-    for (size_t at = 0; at < reading->given; at++) {
-        unsigned number = (unsigned)(at % reading->channels);
+/* Brings each channel's block forward by what is handed out. */
+static bool take(const struct handed *handed, void *user) {
+    struct labels *labels = user;
+    unsigned channels = labels->reading.channels;
+    for (size_t at = 0; at < handed->given; at++) {
+        unsigned number = (unsigned)(at % channels);
         uint8_t out[RIME_OUT];
-        rime_status_step(labels->channels[number].block, reading->ancillary[at], reading->marks[at], out);
-        if (out[RIME_OUT_ANSWER] != RIME_STATUS_NONE)
-            take_block(labels, number, out, reading->time + at / reading->channels + 1);
+        rime_status_step(labels->channels[number].block, handed->ancillary[at], handed->marks[at], out);
+        if (out[RIME_OUT_ANSWER] != RIME_STATUS_NONE) take_block(labels, number, out, handed->time + at / channels + 1);
     }
+    return true;
 }
 
 static int label_all(struct labels *labels) {
     struct reading *reading = &labels->reading;
-    enum step step;
-    while ((step = reading_step(reading)) == STEP_SOUND || step == STEP_REFUSED)
-        if (step == STEP_SOUND) take(labels);
+    frequency_find(&labels->frequency, reading);
+    enum step step = frequency_walk(&labels->frequency, take, labels);
     progress_end();
     if (step == STEP_FAILED) return STATUS_FILE;
     for (unsigned number = 0; number < reading->channels; number++)
         if (labels->channels[number].count > 0) say_blocks(labels, number);
         else if (reading->format.ancillary) printf("channel %u: no channel status block\n", number + 1);
         else printf("channel %u: no channel status block: the format has no ancillary bits\n", number + 1);
+    if (labels->assumed && !labels->quiet)
+        warnx("%s: seconds are counted at %u Hz, which is assumed (--rate)", reading->name, labels->frequency.rate);
     return step == STEP_BROKEN ? reading_broken(reading) : STATUS_WELL;
 }
 
 int desk_labels(int argc, char **argv) {
-    static struct labels labels = {.rate = 48000};
+    static struct labels labels;
     static const struct argp argp = {
         .options = options,
         .parser = parse,
@@ -130,5 +148,6 @@ int desk_labels(int argc, char **argv) {
     if (status != STATUS_WELL) return status;
     status = label_all(&labels);
     reading_close(&labels.reading);
+    frequency_close(&labels.frequency);
     return printed(status);
 }

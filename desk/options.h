@@ -30,14 +30,26 @@ static inline error_t option_pair(struct argp_state *state, int key, char *word,
     return 0;
 }
 
-/* A number; any other word ends the program with a line of usage. */
-static inline unsigned option_number(const struct argp_state *state, const char *name, const char *word, int base) {
+/* A number up to a limit; any other word ends the program with a line of usage. */
+static inline uint64_t option_up_to(const struct argp_state *state, const char *name, const char *word, int base,
+                                    uint64_t most) {
     char *end;
     errno = 0;
-    unsigned long number = strtoul(word, &end, base);
-    if (errno != 0 || end == word || *end != '\0' || word[0] == '-' || number > 0xFFFFFFFF)
+    unsigned long long number = strtoull(word, &end, base);
+    if (errno != 0 || end == word || *end != '\0' || word[0] == '-' || number > most)
         argp_error(state, "--%s: %s isn't a number%s", name, word, base == 16 ? " in hex" : "");
-    return (unsigned)number;
+    return number;
+}
+
+static inline unsigned option_number(const struct argp_state *state, const char *name, const char *word, int base) {
+    return (unsigned)option_up_to(state, name, word, base, 0xFFFFFFFF);
+}
+
+/* Bits of a sample that a sound file can have. */
+static inline unsigned option_bits(const struct argp_state *state, const char *name, const char *word) {
+    unsigned bits = option_number(state, name, word, 10);
+    if (bits != 16 && bits != 24 && bits != 32) argp_error(state, "--%s: 16, 24 or 32", name);
+    return bits;
 }
 
 /* A sampling frequency, as libsndfile's files can have it. */

@@ -26,9 +26,9 @@ static const struct colour ink = {38, 38, 38}, faint = {209, 209, 209}, sound_co
 
 struct picture {
     const char *in_name, *out_name;
-    unsigned rate;
     bool force, quiet;
     struct reading reading;
+    struct frequency frequency;
     struct bins bins;
     struct output out;
     struct stretches stretches;
@@ -39,7 +39,7 @@ struct picture {
 };
 
 static const struct argp_option options[] = {
-    {"rate", 'r', "HZ", 0, "sampling frequency, which a log doesn't carry: 48000 where this is left out", 0},
+    {"rate", 'r', "HZ", 0, "sampling frequency, whatever channel status says; without both it is 48000", 0},
     {"force", 'F', NULL, 0, "write over OUT.png if it is there", 0},
     {"quiet", 'q', NULL, 0, "no bar", 0},
     {0},
@@ -48,7 +48,7 @@ static const struct argp_option options[] = {
 static error_t parse(int key, char *word, struct argp_state *state) {
     struct picture *picture = state->input;
     switch (key) {
-    case 'r': picture->rate = option_rate(state, word); break;
+    case 'r': picture->frequency.asked = option_rate(state, word); break;
     case 'F': picture->force = true; break;
     case 'q': picture->quiet = true; break;
     default: return option_pair(state, key, word, &picture->in_name, &picture->out_name);
@@ -84,7 +84,7 @@ static void say_time(char *to, size_t room, double seconds, double step) {
 }
 
 static double length_of(const struct picture *picture) {
-    return (double)picture->bins.times / picture->rate;
+    return (double)picture->bins.times / picture->frequency.rate;
 }
 
 /* The steps of a time line of at most twelve. */
@@ -169,10 +169,11 @@ static void draw_head(const struct picture *picture) {
     const struct reading *reading = &picture->reading;
     cairo_t *cairo = picture->cairo;
     const char *slash = strrchr(reading->name, '/'), *name = slash == NULL ? reading->name : slash + 1;
-    char words[400], length[40];
+    char words[400], length[40], rate[FREQUENCY_WORDS];
     say_time(length, sizeof length, length_of(picture), length_of(picture) < 60 ? 0.001 : 1);
-    snprintf(words, sizeof words, "%s: format %02X hex, %u channel%s, %s at %u Hz", is_text(name) ? name : "a log",
-             reading->header[RIME_HEADER_FORMAT], reading->channels, plural(reading->channels), length, picture->rate);
+    snprintf(words, sizeof words, "%s: format %02X hex, %u channel%s, %s at %s", is_text(name) ? name : "a log",
+             reading->header[RIME_HEADER_FORMAT], reading->channels, plural(reading->channels), length,
+             frequency_words(&picture->frequency, rate));
     cairo_set_font_size(cairo, 18);
     use(cairo, ink, 1);
     text(cairo, LEFT, 28, words);
@@ -180,7 +181,7 @@ static void draw_head(const struct picture *picture) {
     double x = draw_entry(cairo, LEFT, sound_colour, "sound");
     snprintf(words, sizeof words, "missing: %llu cell%s in %llu place%s, %.3f s", (unsigned long long)reading->missing,
              plural(reading->missing), (unsigned long long)reading->gaps, plural(reading->gaps),
-             (double)(reading->missing * reading->times) / picture->rate);
+             (double)(reading->missing * reading->times) / picture->frequency.rate);
     x = draw_entry(cairo, x, missing_colour, words);
     snprintf(words, sizeof words, "damaged: %llu sample%s in %llu place%s", (unsigned long long)picture->damaged,
              plural(picture->damaged), (unsigned long long)picture->damaged_places, plural(picture->damaged_places));
@@ -221,17 +222,21 @@ static void count_stretch(const struct stretch *stretch, void *user) {
     picture->damaged_places += stretch->mark == RIME_MARK_DOUBTFUL;
 }
 
+static bool take(const struct handed *handed, void *user) {
+    struct picture *picture = user;
+    const struct reading *reading = &picture->reading;
+    bins_take(&picture->bins, reading->format.sample_bits, handed);
+    picture->damaged += stretches_take(&picture->stretches, reading->channels, handed, count_stretch, picture);
+    return true;
+}
+
 static int picture_log(struct picture *picture) {
     struct reading *reading = &picture->reading;
     if (!bins_open(&picture->bins, reading->channels)) err(STATUS_FILE, "%s", picture->in_name);
     int status = output_open(&picture->out, picture->out_name, picture->force);
     if (status != STATUS_WELL) return status;
-    enum step step;
-    while ((step = reading_step(reading)) == STEP_SOUND || step == STEP_REFUSED)
-        if (step == STEP_SOUND) {
-            bins_take(&picture->bins, reading);
-            picture->damaged += stretches_take(&picture->stretches, reading, count_stretch, picture);
-        }
+    frequency_find(&picture->frequency, reading);
+    enum step step = frequency_walk(&picture->frequency, take, picture);
     stretches_end(&picture->stretches, count_stretch, picture);
     progress_end();
     if (step == STEP_FAILED) return STATUS_FILE;
@@ -240,7 +245,7 @@ static int picture_log(struct picture *picture) {
 }
 
 int desk_picture(int argc, char **argv) {
-    static struct picture picture = {.rate = 48000};
+    static struct picture picture;
     static const struct argp argp = {
         .options = options,
         .parser = parse,
@@ -254,6 +259,7 @@ int desk_picture(int argc, char **argv) {
     if (status != STATUS_WELL) return status;
     status = picture_log(&picture);
     reading_close(&picture.reading);
+    frequency_close(&picture.frequency);
     bins_close(&picture.bins);
     output_drop(&picture.out);
     return status;

@@ -4,36 +4,51 @@
 #include <stdio.h>
 #include <stdlib.h>
 #include <string.h>
+#include <sys/stat.h>
 
+#include "fitting.h"
+#include "frequency.h"
 #include "options.h"
 #include "place.h"
 #include "sound.h"
 #include "stretches.h"
 
-enum { SOUND = 32 * DESK_ROOM };
-
 struct receive {
     const char *in_name, *out_name, *labels_name, *marks_name;
-    unsigned rate;
-    bool rated, strict, force, quiet;
+    unsigned bits, cut; /* 0 where they aren't given */
+    uint64_t length;    /* samples a channel */
+    bool measured;      /* a length is given */
+    bool strict, force, quiet;
 
     struct reading reading;
+    struct frequency frequency;
+    struct fitting fitting;
     struct sound_out sound;
     struct output labels, marks;
     struct stretches stretches;
     uint64_t damaged; /* samples marked 1, of all channels */
+    uint64_t times;   /* sample times handed on to the files */
+    uint64_t unfit;   /* the entry that has bits too many, counted from 1; 0 where none has */
+
+    /* what stands after the length in its cell, until it is known whether another cell follows */
+    uint64_t rest[RIME_MOST_SLOTS];
+    uint8_t rest_marks[RIME_MOST_SLOTS];
+    size_t rest_given;
 
     /* entries that are handed out and not yet written */
-    int held[SOUND];
-    uint8_t held_marks[SOUND];
+    union fitted held;
+    uint8_t held_marks[FITTED];
     size_t entries;
 };
 
 static const struct argp_option options[] = {
     {"labels", 'l', "FILE", 0, "write an Audacity label track of what is missing or damaged", 0},
     {"marks", 'm', "FILE", 0, "write the mark of each sample as one octet: 0 sound, 1 damaged, 2 missing", 0},
-    {"rate", 'r', "HZ", 0, "sampling frequency, which a log doesn't carry: 48000 where this is left out", 0},
-    {"strict", 's', NULL, 0, "end with status 1 where anything is missing, damaged or refused", 0},
+    {"rate", 'r', "HZ", 0, "sampling frequency, whatever channel status says; without both it is 48000", 0},
+    {"bits", 'b', "16|24|32", 0, "bits of the file's samples; none that isn't 0 may be dropped for it", 0},
+    {"cut", 'c', "16|24|32", 0, "keep so many of the top bits of each sample, and count those that lose others", 0},
+    {"length", 'n', "SAMPLES", 0, "end after so many samples a channel, where that is in the last cell", 0},
+    {"strict", 's', NULL, 0, "end with status 1 where anything is missing, damaged, refused or contradicted", 0},
     {"force", 'F', NULL, 0, "write over files that are there", 0},
     {"quiet", 'q', NULL, 0, "no bar and no summary", 0},
     {0},
@@ -44,32 +59,29 @@ static error_t parse(int key, char *word, struct argp_state *state) {
     switch (key) {
     case 'l': receive->labels_name = word; break;
     case 'm': receive->marks_name = word; break;
-    case 'r':
-        receive->rated = true;
-        receive->rate = option_rate(state, word);
+    case 'r': receive->frequency.asked = option_rate(state, word); break;
+    case 'b': receive->bits = option_bits(state, "bits", word); break;
+    case 'c': receive->cut = option_bits(state, "cut", word); break;
+    case 'n':
+        receive->measured = true;
+        receive->length = option_up_to(state, "length", word, 10, UINT64_MAX / 2);
         break;
     case 's': receive->strict = true; break;
     case 'F': receive->force = true; break;
     case 'q': receive->quiet = true; break;
+    case ARGP_KEY_SUCCESS:
+        if (receive->bits != 0 && receive->bits < receive->cut)
+            argp_error(state, "--bits %u is less than --cut %u", receive->bits, receive->cut);
+        break;
     default: return option_pair(state, key, word, &receive->in_name, &receive->out_name);
     }
     return 0;
 }
 
-/* The bits of a file that holds the format's samples, 0 where none does. */
-static unsigned file_bits(unsigned sample_bits) {
-    return sample_bits <= 16 ? 16 : sample_bits <= 24 ? 24 : sample_bits <= 32 ? 32 : 0;
-}
-
 static int open_outputs(struct receive *receive) {
-    unsigned bits = file_bits(receive->reading.format.sample_bits);
-    if (bits == 0) {
-        warnx("%s: samples of %u bits: no sound file holds more than 32", receive->reading.name,
-              receive->reading.format.sample_bits);
-        return STATUS_REFUSED;
-    }
-    SF_INFO about = {.samplerate = (int)receive->rate, .channels = (int)receive->reading.channels};
-    int status = sound_create(&receive->sound, receive->out_name, about, bits, receive->force);
+    receive->fitting = fitting_of(receive->reading.format.sample_bits, receive->bits, receive->cut);
+    int status = sound_create(&receive->sound, receive->out_name, receive->reading.channels, receive->fitting.file_bits,
+                              receive->force);
     if (status == STATUS_WELL && receive->labels_name != NULL)
         status = output_open(&receive->labels, receive->labels_name, receive->force);
     if (status == STATUS_WELL && receive->marks_name != NULL)
@@ -77,42 +89,104 @@ static int open_outputs(struct receive *receive) {
     return status;
 }
 
+/* A word at the start where the records alone, sound as they may be, are more than the file can hold. */
+static void warn_of_length(const struct receive *receive) {
+    const struct reading *reading = &receive->reading;
+    struct stat about;
+    if (fstat(reading->fd, &about) != 0 || !S_ISREG(about.st_mode)) return;
+    uint64_t records = (uint64_t)about.st_size / RIME_RECORD_OCTETS; /* the header is shorter than one */
+    if (records * reading->times <= receive->sound.most) return;
+    warnx("%s: %s holds at most %llu samples a channel here, and the records of %s alone have %llu: .wav or .w64 holds them",
+          receive->out_name, receive->sound.kind, (unsigned long long)receive->sound.most, reading->name,
+          (unsigned long long)(records * reading->times));
+}
+
 static void label(const struct stretch *stretch, void *user) {
     struct receive *receive = user;
     char line[STRETCH_LINE];
-    if (receive->labels_name != NULL) output_write(&receive->labels, line, stretch_label(stretch, receive->rate, line));
+    if (receive->labels_name != NULL)
+        output_write(&receive->labels, line, stretch_label(stretch, receive->frequency.rate, line));
 }
 
 /* False where a file can't be written any more. */
 static bool write_held(struct receive *receive) {
     size_t frames = receive->entries / receive->reading.channels;
-    bool good = sound_write(&receive->sound, receive->held, frames) && receive->labels.error == 0;
+    bool good = sound_write(&receive->sound, &receive->held, frames) && receive->labels.error == 0;
     if (receive->marks_name != NULL)
         good = output_write(&receive->marks, receive->held_marks, receive->entries) && good;
     receive->entries = 0;
     return good;
 }
 
-/* What one cell brought: its sound and the silence before it, the marks, the stretches. */
-static bool hand_out(struct receive *receive) {
-    struct reading *reading = &receive->reading;
-    unsigned up = 32 - reading->format.sample_bits;
-    int *to = receive->held + receive->entries;
-    for (size_t at = 0; at < reading->given; at++) to[at] = (int)((uint32_t)reading->samples[at] << up);
-    memcpy(receive->held_marks + receive->entries, reading->marks, reading->given);
-    receive->entries += reading->given;
-    receive->damaged += stretches_take(&receive->stretches, reading, label, receive);
-    return receive->entries + DESK_ROOM <= SOUND || write_held(receive);
+/* Sound with the silence before it, the marks, the stretches. */
+static bool hand_on(struct receive *receive, const struct handed *handed) {
+    size_t put = fitting_put(&receive->fitting, handed->samples, handed->given, &receive->held, receive->entries);
+    if (put < handed->given) {
+        receive->unfit = handed->time * receive->reading.channels + put + 1;
+        return false;
+    }
+    memcpy(receive->held_marks + receive->entries, handed->marks, handed->given);
+    receive->entries += handed->given;
+    receive->damaged += stretches_take(&receive->stretches, receive->reading.channels, handed, label, receive);
+    receive->times = handed->time + handed->given / receive->reading.channels;
+    return receive->entries + DESK_ROOM <= FITTED || write_held(receive);
+}
+
+/* What stood after the length: its cell wasn't the last. */
+static bool hand_rest(struct receive *receive) {
+    struct handed rest = {
+        .samples = receive->rest, .marks = receive->rest_marks, .given = receive->rest_given, .time = receive->length};
+    receive->rest_given = 0;
+    return hand_on(receive, &rest);
+}
+
+/* Up to the length, where it lies in the last of these cells; what is left of that cell is kept back. */
+static bool hand_part(struct receive *receive, const struct handed *handed) {
+    const struct reading *reading = &receive->reading;
+    uint64_t past = handed->time + handed->given / reading->channels;
+    if (receive->length > past || receive->length + reading->times <= past) return hand_on(receive, handed);
+    struct handed part = *handed;
+    receive->rest_given = (past - receive->length) * reading->channels;
+    part.given -= receive->rest_given;
+    memcpy(receive->rest, handed->samples + part.given, receive->rest_given * sizeof *receive->rest);
+    memcpy(receive->rest_marks, handed->marks + part.given, receive->rest_given);
+    return hand_on(receive, &part);
+}
+
+static bool take(const struct handed *handed, void *user) {
+    struct receive *receive = user;
+    if (!receive->measured) return hand_on(receive, handed);
+    if (receive->rest_given > 0 && !hand_rest(receive)) return false;
+    return hand_part(receive, handed);
 }
 
 /* All records, up to the end or the fault, or until a file can't be written. */
 static enum step receive_all(struct receive *receive) {
-    enum step step;
-    while ((step = reading_step(&receive->reading)) == STEP_SOUND || step == STEP_REFUSED)
-        if (step == STEP_SOUND && !hand_out(receive)) break;
+    enum step step = frequency_walk(&receive->frequency, take, receive);
     stretches_end(&receive->stretches, label, receive);
     write_held(receive);
     return step;
+}
+
+static int say_bits(const struct receive *receive) {
+    unsigned channels = receive->reading.channels, bits = receive->fitting.file_bits;
+    uint64_t entry = receive->unfit - 1;
+    warnx("%s: sample %llu of channel %u has bits that aren't 0 below its top %u: --cut %u drops them",
+          receive->reading.name, (unsigned long long)(entry / channels), (unsigned)(entry % channels) + 1, bits, bits);
+    return STATUS_REFUSED;
+}
+
+/* Whether the length that was given lies in the last cell; says where it doesn't. */
+static bool is_length(const struct receive *receive) {
+    if (!receive->measured || receive->times == receive->length) return true;
+    const struct reading *reading = &receive->reading;
+    if (receive->times == 0)
+        warnx("%s: --length %llu, and there is no sound cell", reading->name, (unsigned long long)receive->length);
+    else
+        warnx("%s: --length %llu isn't in the last cell (%llu to %llu): nothing is cut", reading->name,
+              (unsigned long long)receive->length, (unsigned long long)(receive->times - reading->times + 1),
+              (unsigned long long)receive->times);
+    return false;
 }
 
 static void say_summary(const struct receive *receive) {
@@ -130,13 +204,18 @@ static void say_summary(const struct receive *receive) {
     if (reading->refused_last > 0)
         fprintf(stderr, "  %llu of them after the last sound cell: no silence stands for them\n",
                 (unsigned long long)reading->refused_last);
-    char length[DURATION];
+    char length[DURATION], told[FREQUENCY_WORDS];
     unsigned long long missing = reading->missing * reading->entries;
-    fprintf(stderr, "%s: %llu samples a channel, %s at %u Hz%s; %llu sample%s missing, %llu damaged\n",
-            receive->out_name, (unsigned long long)reading->time,
-            duration((double)reading->time / receive->rate, length), receive->rate,
-            receive->rated ? "" : " (--rate, if it was another)", missing, plural(missing),
+    fprintf(stderr, "%s: %llu samples a channel, %s at %s%s; %llu sample%s missing, %llu damaged\n",
+            receive->out_name, (unsigned long long)receive->times,
+            duration((double)receive->times / receive->frequency.rate, length),
+            frequency_words(&receive->frequency, told),
+            frequency_assumed(&receive->frequency) ? " (--rate, if it was another)" : "", missing, plural(missing),
             (unsigned long long)receive->damaged);
+    frequency_say(&receive->frequency);
+    if (receive->fitting.cut != 0)
+        fprintf(stderr, "%s: %llu sample%s lost low bits that weren't 0 (--cut %u)\n", receive->out_name,
+                (unsigned long long)receive->fitting.dropped, plural(receive->fitting.dropped), receive->fitting.cut);
     if (!reading->format.overhead)
         fprintf(stderr, "%s: a format without overhead doesn't show what is missing or damaged\n", reading->name);
 }
@@ -151,20 +230,26 @@ static int keep(struct receive *receive) {
 static int receive_log(struct receive *receive) {
     int status = open_outputs(receive);
     if (status != STATUS_WELL) return status;
+    warn_of_length(receive);
+    frequency_find(&receive->frequency, &receive->reading);
+    status = sound_begin(&receive->sound, receive->frequency.rate);
+    if (status != STATUS_WELL) return status;
     enum step last = receive_all(receive);
     progress_end();
     if (last == STEP_FAILED) return STATUS_FILE;
+    if (receive->unfit != 0) return say_bits(receive);
     status = keep(receive);
     if (status != STATUS_WELL) return status;
     receive->out_name = receive->sound.output.name; /* as it is shown */
     if (!receive->quiet) say_summary(receive);
-    if (last == STEP_BROKEN) return reading_broken(&receive->reading);
     bool flawed = receive->reading.missing + receive->reading.refused + receive->damaged > 0;
+    if (!is_length(receive) || receive->frequency.contradicted) flawed = true;
+    if (last == STEP_BROKEN) return reading_broken(&receive->reading);
     return receive->strict && flawed ? STATUS_NO : STATUS_WELL;
 }
 
 int desk_receive(int argc, char **argv) {
-    static struct receive receive = {.rate = 48000};
+    static struct receive receive;
     static const struct argp argp = {
         .options = options,
         .parser = parse,
@@ -178,6 +263,7 @@ int desk_receive(int argc, char **argv) {
     if (status != STATUS_WELL) return status;
     status = receive_log(&receive);
     reading_close(&receive.reading);
+    frequency_close(&receive.frequency);
     sound_drop(&receive.sound);
     output_drop(&receive.labels);
     output_drop(&receive.marks);

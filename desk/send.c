@@ -16,14 +16,16 @@ enum { CELLS = 512 }; /* cells made of one buffer of sound */
 struct send {
     const char *in_name, *out_name, *origin, *destination;
     unsigned format, order, number, second;
-    bool wanted, status, cut, force, quiet;
+    bool wanted, asked, without, cut, force, quiet; /* asked, without: channel status, by an option */
 
     struct sound_in in;
     struct output out;
     struct format about;
     unsigned channels, times, entries;
     uint8_t state[RIME_SENDER_STATE];
-    uint8_t beside[STATUS_BITS]; /* ancillary numbers of a block, one a sample time */
+    bool status; /* channel status is sent */
+    /* ancillary numbers of a block, channels side by side, and once more as many as a cell has: zeros without status */
+    uint8_t beside[STATUS_BITS * RIME_MOST_SLOTS + RIME_MOST_SLOTS];
     uint64_t frames, cells, filled;
 
     int *sound;
@@ -35,7 +37,8 @@ static const struct argp_option options[] = {
     {"order", 'o', "0|1", 0, "order of the slots in a cell: 0 where this is left out", 0},
     {"number", 'n', "NUMBER", 0, "number of the first cell, 0 to 15: 0 where this is left out", 0},
     {"second", 's', "START", 0, "keep second numbers from START, 0 to 15, one more in each cell numbered 0 or 8", 0},
-    {"status", 'S', NULL, 0, "send channel status: professional use, frequency and word length of the file", 0},
+    {"status", 'S', NULL, 0, "send channel status, as is done without this where the format has ancillary bits", 0},
+    {"no-status", 'N', NULL, 0, "send no channel status: ancillary bits of 0, and no sampling frequency", 0},
     {"origin", 'O', "LETTERS", 0, "up to four letters of origin in the channel status (with it --status)", 0},
     {"destination", 'D', "LETTERS", 0, "up to four letters of destination in the channel status (with it --status)", 0},
     {"cut", 'c', NULL, 0, "drop the low bits of samples that have more bits than the format", 0},
@@ -55,17 +58,21 @@ static error_t parse(int key, char *word, struct argp_state *state) {
         send->second = option_number(state, "second", word, 10);
         break;
     case 'O':
-        send->status = true;
+        send->asked = true;
         send->origin = option_letters(state, "origin", word);
         break;
     case 'D':
-        send->status = true;
+        send->asked = true;
         send->destination = option_letters(state, "destination", word);
         break;
-    case 'S': send->status = true; break;
+    case 'S': send->asked = true; break;
+    case 'N': send->without = true; break;
     case 'c': send->cut = true; break;
     case 'F': send->force = true; break;
     case 'q': send->quiet = true; break;
+    case ARGP_KEY_SUCCESS:
+        if (send->asked && send->without) argp_error(state, "--no-status, and another option sends channel status");
+        break;
     default: return option_pair(state, key, word, &send->in_name, &send->out_name);
     }
     return 0;
@@ -74,17 +81,12 @@ static error_t parse(int key, char *word, struct argp_state *state) {
 /* The sound of one cell, silence where the file has ended. Returns the refusal. */
 static unsigned pack(struct send *send, const int *sound, size_t given, uint8_t *cell, bool *indication) {
     uint64_t samples[RIME_MOST_SLOTS] = {0};
-    uint8_t ancillary[RIME_MOST_SLOTS] = {0};
     unsigned bits = send->about.sample_bits;
     for (size_t at = 0; at < given; at++) {
         uint32_t top = (uint32_t)sound[at];
         samples[at] = bits > 32 ? (uint64_t)top << (bits - 32) : top >> (32 - bits);
     }
-    if (send->status) {
-        uint64_t time = send->cells * send->times;
-        for (size_t at = 0; at < send->entries; at++)
-            ancillary[at] = send->beside[(time + at / send->channels) % STATUS_BITS];
-    }
+    const uint8_t *ancillary = send->beside + send->cells * send->times % STATUS_BITS * send->channels;
     *indication = send->wanted && send->state[RIME_SENDER_NUMBER] % 8 == 0;
     return rime_send(send->state, *indication, samples, send->entries, ancillary, send->entries, cell,
                      RIME_CELL_OCTETS);
@@ -126,10 +128,17 @@ static int open_sender(struct send *send) {
               send->in.bits, send->format, send->about.sample_bits);
         return STATUS_REFUSED;
     }
+    unsigned bits = send->in.bits < send->about.sample_bits ? send->in.bits : send->about.sample_bits;
+    unsigned rate = (unsigned)send->in.about.samplerate;
+    send->status = send->asked || (send->about.ancillary && !send->without);
     if (send->status) {
-        unsigned bits = send->in.bits < send->about.sample_bits ? send->in.bits : send->about.sample_bits;
-        status_beside(send->beside, (unsigned)send->in.about.samplerate, bits, send->origin, send->destination);
+        uint8_t beside[STATUS_BITS];
+        status_beside(beside, rate, bits, send->origin, send->destination);
+        for (size_t at = 0; at < STATUS_BITS * send->channels + send->entries; at++)
+            send->beside[at] = beside[at / send->channels % STATUS_BITS];
     }
+    if (!status_codes(rate))
+        warnx("%s: %u Hz can't be carried in channel status: receive --rate %u", send->in_name, rate, rate);
     return STATUS_WELL;
 }
 
@@ -162,8 +171,11 @@ static void say_summary(const struct send *send) {
     fprintf(stderr, "%s: %u channel%s, %d Hz, %u bits, %s\n", send->in_name, send->channels, plural(send->channels),
             send->in.about.samplerate, send->in.bits,
             duration((double)send->frames / send->in.about.samplerate, length));
-    fprintf(stderr, "%s: format %02X hex, order %u, %llu cell%s\n", send->out_name, send->format, send->order,
-            (unsigned long long)send->cells, plural(send->cells));
+    fprintf(stderr, "%s: format %02X hex, order %u, %llu cell%s, %s channel status\n", send->out_name, send->format,
+            send->order, (unsigned long long)send->cells, plural(send->cells), send->status ? "with" : "without");
+    if (!send->status && send->in.about.samplerate != 48000 && status_codes((unsigned)send->in.about.samplerate))
+        fprintf(stderr, "%s: doesn't carry the sampling frequency: receive --rate %d\n", send->out_name,
+                send->in.about.samplerate);
     if (send->filled > 0)
         fprintf(stderr, "%s: the last cell is filled with %llu sample%s of silence in each channel\n", send->out_name,
                 (unsigned long long)send->filled, plural(send->filled));

@@ -6,6 +6,7 @@
 #include <stdio.h>
 #include <string.h>
 #include <strings.h>
+#include <sysexits.h>
 #include <unistd.h>
 
 #include "place.h"
@@ -52,23 +53,40 @@ int sound_whole(struct sound_in *in, uint64_t frames) {
     return STATUS_FILE;
 }
 
-/* The kind of file that a name asks for. As WAV a file over 4 GB is RF64, and any other plain WAV. */
-static int container_of(const char *name) {
-    static const struct {
-        const char *ending;
-        int container;
-    } known[] = {
-        {"wav", SF_FORMAT_RF64},  {"rf64", SF_FORMAT_RF64}, {"w64", SF_FORMAT_W64},
-        {"flac", SF_FORMAT_FLAC}, {"aif", SF_FORMAT_AIFF},  {"aiff", SF_FORMAT_AIFF},
-    };
+/*
+ * The most that a kind of file can hold. AIFF has its lengths in 32 bits, with no word where they are passed, and its
+ * header gets the rest of them; FLAC counts samples in 36 bits. RF64 and W64 have lengths of 64 bits.
+ */
+#ifndef SOUND_AIFF_OCTETS
+#define SOUND_AIFF_OCTETS 0xFFFF0000
+#endif
+#ifndef SOUND_FLAC_FRAMES
+#define SOUND_FLAC_FRAMES 0xFFFFFFFFF
+#endif
+
+/* The kinds of file, by the ending of a name. As WAV a file over 4 GB is RF64, and any other plain WAV. */
+static const struct kind {
+    const char *ending, *name;
+    int container;
+    uint64_t octets, frames; /* the most of sound, 0 where there is no limit */
+} kinds[] = {
+    {"wav", "WAV", SF_FORMAT_RF64, 0, 0},
+    {"rf64", "RF64", SF_FORMAT_RF64, 0, 0},
+    {"w64", "W64", SF_FORMAT_W64, 0, 0},
+    {"flac", "FLAC", SF_FORMAT_FLAC, 0, SOUND_FLAC_FRAMES},
+    {"aif", "AIFF", SF_FORMAT_AIFF, SOUND_AIFF_OCTETS, 0},
+    {"aiff", "AIFF", SF_FORMAT_AIFF, SOUND_AIFF_OCTETS, 0},
+};
+
+static const struct kind *kind_of(const char *name) {
     const char *ending = strrchr(name, '.');
-    for (size_t at = 0; ending != NULL && at < sizeof known / sizeof *known; at++)
-        if (strcasecmp(ending + 1, known[at].ending) == 0) return known[at].container;
-    return 0;
+    for (size_t at = 0; ending != NULL && at < sizeof kinds / sizeof *kinds; at++)
+        if (strcasecmp(ending + 1, kinds[at].ending) == 0) return &kinds[at];
+    return NULL;
 }
 
 static int subtype_of(unsigned bits) {
-    return bits == 16 ? SF_FORMAT_PCM_16 : bits == 24 ? SF_FORMAT_PCM_24 : SF_FORMAT_PCM_32;
+    return bits == 16 ? SF_FORMAT_PCM_16 : bits == 24 ? SF_FORMAT_PCM_24 : bits == 32 ? SF_FORMAT_PCM_32 : SF_FORMAT_DOUBLE;
 }
 
 /* libsndfile writes through these, so that the first error stays known. */
@@ -95,39 +113,71 @@ static sf_count_t tell(void *user) {
     return lseek(((struct output *)user)->fd, 0, SEEK_CUR);
 }
 
-int sound_create(struct sound_out *out, const char *name, SF_INFO about, unsigned bits, bool force) {
+/* A kind of file that has no samples as wide as these. */
+static int say_narrow(const char *name, const struct kind *kind, unsigned channels, unsigned bits) {
+    if (bits == SOUND_FLOAT) {
+        warnx("%s: %s has no floating point, which samples of 40 bits need: .wav has, and --cut 24 drops the low 16",
+              name, kind->name);
+        return EX_USAGE;
+    }
+    warnx("%s: such a file can't hold %u channel%s of %u bits", name, channels, plural(channels), bits);
+    return STATUS_FILE;
+}
+
+int sound_create(struct sound_out *out, const char *name, unsigned channels, unsigned bits, bool force) {
+    *out = (struct sound_out){.file = NULL, .most = UINT64_MAX};
+    if (place_is_stream(name)) return stream_create(out, name, channels, bits, force);
+    const struct kind *kind = kind_of(name);
+    if (kind == NULL) return say_unfit(name, "the name doesn't end in .wav, .rf64, .w64, .flac, .aif or .aiff");
+    out->kind = kind->name;
+    out->about = (SF_INFO){
+        .samplerate = 1, .channels = (int)channels, .format = kind->container | subtype_of(bits)};
+    if (!sf_format_check(&out->about)) return say_narrow(name, kind, channels, bits);
+    if (kind->frames != 0) out->most = kind->frames;
+    if (kind->octets != 0) out->most = kind->octets / (channels * bits / 8);
+    return output_open(&out->output, name, force);
+}
+
+int sound_begin(struct sound_out *out, unsigned rate) {
+    if (out->stream) return stream_begin(out, rate);
     static SF_VIRTUAL_IO through = {length_of, seek_to, read_some, write_all, tell};
-    *out = (struct sound_out){.file = NULL};
-    if (place_is_stream(name)) {
-        int status = stream_create(out, name, (unsigned)about.channels, bits, force);
-        return status == STATUS_WELL ? stream_begin(out, (unsigned)about.samplerate) : status;
-    }
-    int container = container_of(name);
-    if (container == 0) return say_unfit(name, "the name doesn't end in .wav, .rf64, .w64, .flac, .aif or .aiff");
-    about.format = container | subtype_of(bits);
-    if (!sf_format_check(&about)) {
-        warnx("%s: such a file can't hold %d channel%s of %u bits at %d Hz", name, about.channels,
-              plural((uint64_t)about.channels), bits, about.samplerate);
-        return STATUS_FILE;
-    }
-    int status = output_open(&out->output, name, force);
-    if (status != STATUS_WELL) return status;
-    out->file = sf_open_virtual(&through, SFM_WRITE, &about, &out->output);
+    const char *name = out->output.name;
+    out->about.samplerate = (int)rate;
+    out->file = sf_open_virtual(&through, SFM_WRITE, &out->about, &out->output);
     if (out->file == NULL) {
         errno = out->output.error;
-        status = errno != 0 ? say_failed(name) : say_unfit(name, sf_strerror(NULL));
-        output_drop(&out->output);
-        return status;
+        return errno != 0 ? say_failed(name) : say_unfit(name, sf_strerror(NULL));
     }
     if (strcasecmp(strrchr(name, '.'), ".wav") == 0) sf_command(out->file, SFC_RF64_AUTO_DOWNGRADE, NULL, SF_TRUE);
+    sf_command(out->file, SFC_SET_ADD_PEAK_CHUNK, NULL, SF_FALSE); /* it would have the time of day in it */
     return STATUS_WELL;
 }
 
-bool sound_write(struct sound_out *out, const int *samples, size_t frames) {
+static bool is_real(const struct sound_out *out) {
+    return (out->about.format & SF_FORMAT_SUBMASK) == SF_FORMAT_DOUBLE;
+}
+
+bool sound_write(struct sound_out *out, const void *samples, size_t frames) {
     if (out->stream) return stream_write(out, samples, frames);
-    bool good = sf_writef_int(out->file, samples, (sf_count_t)frames) == (sf_count_t)frames;
-    if (!good && out->output.error == 0) out->output.error = EIO;
+    if (frames > out->most - out->frames) out->full = true;
+    if (out->full) return false;
+    sf_count_t written = is_real(out) ? sf_writef_double(out->file, samples, (sf_count_t)frames)
+                                      : sf_writef_int(out->file, samples, (sf_count_t)frames);
+    if (written != (sf_count_t)frames && out->output.error == 0) out->output.error = EIO;
+    out->frames += frames;
     return out->output.error == 0;
+}
+
+/*
+ * A file of floating point has its peaks in a chunk, with the time of day, so that a log would make another file each
+ * time. In RF64 libsndfile can't be asked to leave it out: the time goes.
+ */
+static void forget_time(struct output *output) {
+    static const uint8_t none[4];
+    uint8_t head[512];
+    ssize_t got = pread(output->fd, head, sizeof head, 0);
+    for (ssize_t at = 12; at + 16 <= got; at += 8 + head[at + 4] + 256 * head[at + 5])
+        if (memcmp(head + at, "PEAK", 4) == 0 && pwrite(output->fd, none, sizeof none, at + 12) < 0) output->error = errno;
 }
 
 int sound_done(struct sound_out *out) {
@@ -137,7 +187,13 @@ int sound_done(struct sound_out *out) {
         closed = sf_close(out->file);
     }
     out->file = NULL;
+    if (is_real(out)) forget_time(&out->output);
     bool written = output_done(&out->output);
+    if (out->full) {
+        warnx("%s: %s holds at most %llu samples a channel here, and more came: .wav or .w64 holds them",
+              out->output.name, out->kind, (unsigned long long)out->most);
+        return STATUS_FILE;
+    }
     if (written && failed == SF_ERR_NO_ERROR && closed == SF_ERR_NO_ERROR) return STATUS_WELL;
     if (!written) return output_keep(&out->output);
     return say_unfit(out->output.name, sf_error_number(failed != SF_ERR_NO_ERROR ? failed : closed));

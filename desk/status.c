@@ -7,6 +7,8 @@
 #include <string.h>
 
 enum { PROFESSIONAL = 1, COORDINATION = 2, B = 8, C = 4 };
+enum { UP_TO_24 = 4 };                   /* of octet 2: samples may have 24 bits, and how many they have isn't told */
+enum { FLAGS = 22, FLAG_0_TO_5 = 0x10 }; /* the octet of the flags, and bit 4 of it */
 
 static const struct {
     unsigned rate;
@@ -21,6 +23,20 @@ static const struct {
     {16, 0x08}, {17, 0x30}, {18, 0x10}, {19, 0x20}, {20, 0x28},
     {21, 0x34}, {22, 0x14}, {23, 0x24}, {24, 0x2C}, {20, 0x0C},
 };
+
+bool status_flagged(const uint8_t *block) {
+    return (block[FLAGS] & FLAG_0_TO_5) != 0;
+}
+
+bool status_counts(const uint8_t out[RIME_OUT]) {
+    return out[RIME_OUT_ANSWER] == RIME_STATUS_FITS && !status_flagged(out + RIME_OUT_OCTETS);
+}
+
+bool status_codes(unsigned rate) {
+    for (size_t at = 0; at < sizeof rates / sizeof *rates; at++)
+        if (rates[at].rate == rate) return true;
+    return false;
+}
 
 unsigned status_rate(const uint8_t *block) {
     for (size_t at = 0; at < sizeof rates / sizeof *rates; at++)
@@ -39,6 +55,7 @@ unsigned status_sample_bits(const uint8_t *block) {
 static void make(uint8_t *block, unsigned rate, unsigned bits, const char *origin, const char *destination) {
     memset(block, 0, RIME_STATUS_OCTETS);
     block[0] = PROFESSIONAL;
+    block[2] = bits > 24 ? UP_TO_24 : 0;
     for (size_t at = 0; at < sizeof rates / sizeof *rates; at++)
         if (rates[at].rate == rate) block[0] |= rates[at].code;
     for (size_t at = 0; at < sizeof lengths / sizeof *lengths && block[2] == 0; at++)

@@ -2,11 +2,12 @@
 #include "stretches.h"
 
 #include <stdio.h>
+#include <string.h>
 
 /* What stands at one sample time: missing, damaged in some channels, or sound. */
-static struct stretch at_time(const struct reading *reading, uint64_t time, const uint8_t *marks) {
+static struct stretch at_time(unsigned channels, uint64_t time, const uint8_t *marks) {
     struct stretch here = {.mark = RIME_MARK_SOUND, .from = time, .past = time + 1};
-    for (unsigned channel = 0; channel < reading->channels; channel++) {
+    for (unsigned channel = 0; channel < channels; channel++) {
         if (marks[channel] == RIME_MARK_SOUND) continue;
         here.mark = marks[channel];
         if (marks[channel] == RIME_MARK_DOUBTFUL) here.channels |= (uint64_t)1 << channel;
@@ -19,26 +20,32 @@ void stretches_end(struct stretches *stretches, stretch_told *told, void *user) 
     stretches->open.mark = RIME_MARK_SOUND;
 }
 
-uint64_t stretches_take(struct stretches *stretches, const struct reading *reading, stretch_told *told, void *user) {
-    uint64_t damaged = 0;
-    unsigned any = 0;
-    for (size_t at = 0; at < reading->given; at++) {
-        any |= reading->marks[at];
-        damaged += reading->marks[at] == RIME_MARK_DOUBTFUL;
+/* Whether all marks are RIME_MARK_SOUND, which is 0. Nearly always they are. */
+static bool are_sound(const uint8_t *marks, size_t count) {
+    uint64_t any = 0, eight;
+    for (; count >= sizeof eight; count -= sizeof eight, marks += sizeof eight) {
+        memcpy(&eight, marks, sizeof eight);
+        any |= eight;
     }
-    if (any == RIME_MARK_SOUND) {
+    while (count > 0) any |= marks[--count];
+    return any == RIME_MARK_SOUND;
+}
+
+uint64_t stretches_take(struct stretches *stretches, unsigned channels, const struct handed *handed, stretch_told *told,
+                        void *user) {
+    if (are_sound(handed->marks, handed->given)) {
         stretches_end(stretches, told, user);
         return 0;
     }
-    uint64_t time = reading->time;
-    for (size_t at = 0; at < reading->given; at += reading->channels, time++) {
-        struct stretch here = at_time(reading, time, reading->marks + at), *open = &stretches->open;
-        if (here.mark != open->mark) {
+    uint64_t damaged = 0, time = handed->time;
+    for (size_t at = 0; at < handed->given; at++) damaged += handed->marks[at] == RIME_MARK_DOUBTFUL;
+    for (size_t at = 0; at < handed->given; at += channels, time++) {
+        struct stretch here = at_time(channels, time, handed->marks + at), *open = &stretches->open;
+        if (here.mark == open->mark && here.channels == open->channels) {
+            open->past = here.past;
+        } else {
             stretches_end(stretches, told, user);
             *open = here;
-        } else {
-            open->past = here.past;
-            open->channels |= here.channels;
         }
     }
     return damaged;

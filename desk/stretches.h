@@ -2,12 +2,12 @@
 #ifndef STRETCHES_H
 #define STRETCHES_H
 
-#include "desk.h"
+#include "frequency.h"
 
 struct stretch {
     unsigned mark;       /* RIME_MARK_MISSING or RIME_MARK_DOUBTFUL, or RIME_MARK_SOUND where none is open */
     uint64_t from, past; /* sample times: the first, and the first after it */
-    uint64_t channels;   /* those that are damaged, one bit each */
+    uint64_t channels;   /* those that are damaged, one bit each: the same ones at each of its times */
 };
 
 struct stretches {
@@ -16,8 +16,9 @@ struct stretches {
 
 typedef void stretch_told(const struct stretch *stretch, void *user);
 
-/* Takes what the last record handed out; tells each stretch that has ended. Returns how many samples are damaged. */
-uint64_t stretches_take(struct stretches *stretches, const struct reading *reading, stretch_told *told, void *user);
+/* Takes what is handed out; tells each stretch that has ended. Returns how many samples are damaged. */
+uint64_t stretches_take(struct stretches *stretches, unsigned channels, const struct handed *handed, stretch_told *told,
+                        void *user);
 void stretches_end(struct stretches *stretches, stretch_told *told, void *user);
 
 /* A line of an Audacity label track: start and end in seconds, and what. Returns its length. */

@@ -89,6 +89,24 @@ def salvaged(folder, name, listed, sheet, answer):
         fail(f'{sheet} and {answer} of\n{listed}')
 
 
+def at_length(folder, name, marks, channels, times):
+    """Ended at some length, and with some bits: the same marks up to there, or all of them."""
+    whole = len(marks) // channels
+    length = chance.choice([chance.randrange(whole + 2 * times), max(0, whole - chance.randrange(times))])
+    some = folder / 'some.marks'
+    some.unlink(missing_ok=True)
+    kind = chance.choice(['wav', 'w64', 'aiff', 'flac'])
+    more = chance.choice([['--bits', chance.choice(['16', '24', '32'])], ['--cut', chance.choice(['16', '24', '32'])]])
+    may = (0, 1, 2) if kind != 'flac' else (0, 1, 2, 3)  # which has at most 24 bits
+    done = run('receive', '-q', '--force', name, str(folder / f'some.{kind}'), '--marks', str(some), '--length', str(length),
+               '--rate', '44100', *more, may=may)
+    if not some.exists():
+        if done.returncode < 2 or (kind != 'flac' and b'drops them' not in done.stderr):
+            fail(f'nothing was received with {more}: {done.stderr!r}')
+    elif some.read_bytes() != marks[:length * channels if whole - times < length <= whole else None]:
+        fail(f'{len(some.read_bytes())} marks up to {length} of {whole} times {channels}')
+
+
 def try_log(folder, log):
     name = str(folder / 'spoiled.log')
     pathlib.Path(name).write_bytes(log)
@@ -106,16 +124,16 @@ def try_log(folder, log):
         salvaged(folder, name, listed, sheet, answer)
     run('picture', '-q', '--force', name, str(folder / 'out.png'))
     marks = folder / 'out.marks'
-    received = run('receive', '-q', '--force', name, str(folder / 'out.wav'), '--marks', str(marks), '--labels',
-                   str(folder / 'out.txt'))
+    run('receive', '-q', '--force', name, str(folder / 'out.wav'), '--marks', str(marks), '--labels', str(folder / 'out.txt'))
     lines = listed.splitlines()
-    if not lines[0].startswith('format') or b'no sound file holds' in received.stderr:
+    if not lines[0].startswith('format'):
         return
     octet, channels, _ = map(int, lines[0].split()[1:])
     bits = 4 * (octet % 16) + 4 * (octet // 64) + 4 * (octet // 16 % 4)
     entries = channels * (48 * 8 // bits // channels)
     _, sound, _, missing, *_ = lines[-1].split()
     told = marks.read_bytes()
+    at_length(folder, name, told, channels, entries // channels)
     if len(told) != (int(sound) + int(missing)) * entries or told.count(2) != int(missing) * entries:
         fail(f'{len(told)} marks, {told.count(2)} of them missing, of\n{listed}')
 

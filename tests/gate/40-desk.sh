@@ -92,7 +92,8 @@ python3 -c 'd = open("whole.raw", "rb").read()
 open("top.raw", "wb").write(b"".join(d[at + 2:at + 4] for at in range(0, len(d), 4)))'
 sox out.wav -t s16 - | cmp top.raw - || fail "the top 16 bits of 24"
 "$desk" send -q in-24-2.wav other.log --format 5A --force
-ends 2 "no sound file holds more than 32" "$desk" receive other.log no.wav
+"$desk" receive -q other.log out.wav --force
+[ "$(soxi -b out.wav)" = 64 ] || fail "64 bits of floating point"
 
 # Cells taken out, repeated and spoiled: what stands is in its place, and the labels name the rest to the sample.
 made long.wav 24 2 48000
@@ -163,7 +164,9 @@ channel 1: 0.000000 to 1.000000 s, 250 blocks: fits, professional, 48000 Hz, 24 
 channel 2: 0.000000 to 1.000000 s, 250 blocks: fits, professional, 48000 Hz, 24 bits, origin "STUD", destination "ARCH"
 TXT
 "$desk" labels long.log | diff expected.txt -
-ends 0 "channel 5: no channel status block" "$desk" labels in-16-5.log
+"$desk" send -q in-16-5.wav bare.log --no-status
+ends 0 "channel 5: no channel status block" "$desk" labels bare.log
+rm bare.log
 
 # Requests 7, 9 and 3: their vectors, and the logs that were made here.
 python3 "$here/tests/desk_vectors.py" "$desk" "$here/tests/vectors"

@@ -1,0 +1,128 @@
+/* The sampling frequency of a log, by what its channel status says at its beginning. */
+#include "frequency.h"
+
+#include <err.h>
+#include <stdio.h>
+#include <stdlib.h>
+#include <string.h>
+
+#include "status.h"
+
+/* A block of one channel: the first of all that tells a frequency decides. */
+static void take_block(struct frequency *frequency, unsigned channel, const uint8_t out[RIME_OUT]) {
+    if (!status_counts(out)) return;
+    frequency->lengths |= (uint64_t)1 << status_sample_bits(out + RIME_OUT_OCTETS);
+    unsigned rate = status_rate(out + RIME_OUT_OCTETS);
+    if (rate == 0) return;
+    struct told *told = frequency->told;
+    while (told->rate != 0 && told->rate != rate) told++;
+    if (told->rate == 0) *told = (struct told){.rate = rate, .channel = channel};
+    told->blocks++;
+}
+
+/* The blocks that end in the first sample times of what is held. */
+static void take_blocks(struct frequency *frequency) {
+    uint8_t blocks[RIME_MOST_SLOTS][RIME_BLOCK] = {{0}};
+    unsigned channels = frequency->reading->channels;
+    for (size_t at = 0; at < frequency->held && at < (size_t)FREQUENCY_TIMES * channels; at++) {
+        uint8_t out[RIME_OUT];
+        unsigned channel = (unsigned)(at % channels);
+        rime_status_step(blocks[channel], frequency->ancillary[at], frequency->marks[at], out);
+        if (out[RIME_OUT_ANSWER] != RIME_STATUS_NONE) take_block(frequency, channel, out);
+    }
+}
+
+static void settle(struct frequency *frequency) {
+    const struct told *told = frequency->told;
+    frequency->rate = frequency->asked != 0 ? frequency->asked : told->rate != 0 ? told->rate : FREQUENCY_ASSUMED;
+    for (; told < frequency->told + FREQUENCY_CODES && told->rate != 0; told++) {
+        if (told->rate == frequency->rate) continue;
+        progress_clear();
+        warnx("%s: channel status says %u Hz in %llu block%s, the first of them in channel %u: %s%u Hz is used",
+              frequency->reading->name, told->rate, (unsigned long long)told->blocks, plural(told->blocks),
+              told->channel + 1, frequency->asked != 0 ? "--rate " : "", frequency->rate);
+        frequency->contradicted = true;
+    }
+}
+
+static void hold(struct frequency *frequency) {
+    const struct reading *reading = frequency->reading;
+    memcpy(frequency->samples + frequency->held, reading->samples, reading->given * sizeof *reading->samples);
+    memcpy(frequency->ancillary + frequency->held, reading->ancillary, reading->given);
+    memcpy(frequency->marks + frequency->held, reading->marks, reading->given);
+    frequency->held += reading->given;
+}
+
+void frequency_find(struct frequency *frequency, struct reading *reading) {
+    size_t enough = (size_t)FREQUENCY_TIMES * reading->channels, room = enough + DESK_ROOM;
+    frequency->reading = reading;
+    frequency->samples = malloc(room * sizeof *frequency->samples);
+    frequency->ancillary = malloc(2 * room);
+    if (frequency->samples == NULL || frequency->ancillary == NULL) err(STATUS_FILE, "%s", reading->name);
+    frequency->marks = frequency->ancillary + room;
+    do {
+        frequency->step = reading_step(reading);
+        if (frequency->step == STEP_SOUND) hold(frequency);
+    } while (frequency->held < enough && (frequency->step == STEP_SOUND || frequency->step == STEP_REFUSED));
+    take_blocks(frequency);
+    settle(frequency);
+}
+
+static bool hand_held(const struct frequency *frequency, handed_taken *take, void *user) {
+    const struct reading *reading = frequency->reading;
+    size_t most = DESK_ROOM / reading->entries * reading->entries;
+    for (size_t at = 0; at < frequency->held; at += most) {
+        struct handed handed = {
+            .samples = frequency->samples + at,
+            .ancillary = frequency->ancillary + at,
+            .marks = frequency->marks + at,
+            .given = frequency->held - at < most ? frequency->held - at : most,
+            .time = at / reading->channels,
+        };
+        if (!take(&handed, user)) return false;
+    }
+    return true;
+}
+
+enum step frequency_walk(struct frequency *frequency, handed_taken *take, void *user) {
+    struct reading *reading = frequency->reading;
+    enum step step = frequency->step;
+    if (!hand_held(frequency, take, user)) return step;
+    struct handed handed = {.samples = reading->samples, .ancillary = reading->ancillary, .marks = reading->marks};
+    while (step == STEP_SOUND || step == STEP_REFUSED) {
+        step = reading_step(reading);
+        if (step != STEP_SOUND) continue;
+        handed.given = reading->given;
+        handed.time = reading->time;
+        if (!take(&handed, user)) break;
+    }
+    return step;
+}
+
+bool frequency_assumed(const struct frequency *frequency) {
+    return frequency->asked == 0 && frequency->told[0].rate == 0;
+}
+
+const char *frequency_words(const struct frequency *frequency, char words[FREQUENCY_WORDS]) {
+    snprintf(words, FREQUENCY_WORDS, "%u Hz%s", frequency->rate,
+             frequency->asked != 0 ? "" : frequency_assumed(frequency) ? ", assumed" : ", by channel status");
+    return words;
+}
+
+void frequency_say(const struct frequency *frequency) {
+    if (frequency->lengths == 0) return;
+    fprintf(stderr, "%s: channel status says", frequency->reading->name);
+    for (unsigned at = 0; at < FREQUENCY_CODES && frequency->told[at].rate != 0; at++)
+        fprintf(stderr, "%s %u Hz", at > 0 ? "," : "", frequency->told[at].rate);
+    if (frequency->told[0].rate == 0) fprintf(stderr, " no frequency");
+    for (unsigned bits = 1; bits < 64; bits++)
+        if ((frequency->lengths >> bits & 1) != 0) fprintf(stderr, ", %u bits", bits);
+    fprintf(stderr, "%s\n", frequency->lengths == 1 ? ", no word length" : "");
+}
+
+void frequency_close(struct frequency *frequency) {
+    free(frequency->samples);
+    free(frequency->ancillary);
+    frequency->samples = NULL;
+    frequency->ancillary = NULL;
+}
