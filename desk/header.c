@@ -79,6 +79,7 @@ static bool is_no_length(uint64_t said, bool aiff) {
 
 /* Whether a chunk of letters, and not sound, stands behind one of no length. */
 static bool more_chunks(struct chunks chunks) {
+    chunks.length = 0;
     if (!go_on(&chunks) || chunks.length > chunks.end - chunks.at) return false;
     for (unsigned at = 0; at < 4; at++)
         if (chunks.name[at] < 0x20 || chunks.name[at] > 0x7E) return false;

@@ -78,10 +78,17 @@ for name, length in (('never', 0), ('large', 0xC0000000), ('stream', 0xFFFFFFFF)
     wav[at:at + 4] = length.to_bytes(4, 'little')
     open(f'{name}.wav', 'wb').write(wav)
 open('nothing.wav', 'wb').write(wav[:at] + bytes(4) + b'LIST\x04\0\0\0INFO')
+rf64 = bytearray(open('in.rf64', 'rb').read())
+at = rf64.index(b'data') + 8
+rf64[28:36] = bytes(8)  # the length of the sound, in the chunk ds64
+open('never.rf64', 'wb').write(rf64)
+open('nothing.rf64', 'wb').write(rf64[:at] + b'LIST\x04\0\0\0INFO')
 PY
 ends 3 "was never finished: its header tells of no sound, and more is there" "$desk" send never.wav none/x.log
 ends 3 "is cut off" "$desk" send large.wav none/x.log
 ends 0 "0 cells" "$desk" send nothing.wav none/x.log
+ends 3 "was never finished" "$desk" send never.rf64 none/y.log
+ends 0 "0 cells" "$desk" send nothing.rf64 none/x.log --force
 for name in stream sox; do
     ends 0 "whether it was cut off can't be seen from its header" piped $name.wav "$desk" send - none/x.log --force
     same in.log none/x.log "sound from a header without a length"
