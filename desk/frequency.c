@@ -53,18 +53,27 @@ static void hold(struct frequency *frequency) {
     frequency->held += reading->given;
 }
 
-void frequency_find(struct frequency *frequency, struct reading *reading) {
+/* Reads and holds the first sample times, or all that there are. */
+static void hold_first(struct frequency *frequency) {
+    struct reading *reading = frequency->reading;
     size_t enough = (size_t)FREQUENCY_TIMES * reading->channels, room = enough + DESK_ROOM;
-    frequency->reading = reading;
     frequency->samples = malloc(room * sizeof *frequency->samples);
     frequency->ancillary = malloc(2 * room);
     if (frequency->samples == NULL || frequency->ancillary == NULL) err(STATUS_FILE, "%s", reading->name);
     frequency->marks = frequency->ancillary + room;
-    do {
+    while (frequency->held < enough && (frequency->step == STEP_SOUND || frequency->step == STEP_REFUSED)) {
         frequency->step = reading_step(reading);
         if (frequency->step == STEP_SOUND) hold(frequency);
-    } while (frequency->held < enough && (frequency->step == STEP_SOUND || frequency->step == STEP_REFUSED));
-    take_blocks(frequency);
+    }
+}
+
+void frequency_find(struct frequency *frequency, struct reading *reading) {
+    frequency->reading = reading;
+    frequency->step = STEP_SOUND;
+    if (reading->format.ancillary) {
+        hold_first(frequency);
+        take_blocks(frequency);
+    }
     settle(frequency);
 }
 

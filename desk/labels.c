@@ -70,12 +70,18 @@ static void say_professional(const uint8_t *octets) {
     say_letters("destination", octets + STATUS_DESTINATION);
 }
 
-/* The frequency that a line counts seconds by: its own blocks' where it counts, else the log's. */
+/*
+ * The frequency that a line counts seconds by: what its own blocks name. Where they don't fit or are flagged, the log's
+ * goes before it, if anything names that.
+ */
 static unsigned rate_of(struct labels *labels, const uint8_t said[RIME_OUT]) {
-    unsigned own = status_counts(said) ? status_rate(said + RIME_OUT_OCTETS) : 0;
-    if (labels->frequency.asked != 0) return labels->frequency.asked;
-    if (own == 0 && frequency_assumed(&labels->frequency)) labels->assumed = true;
-    return own != 0 ? own : labels->frequency.rate;
+    const struct frequency *frequency = &labels->frequency;
+    bool professional = said[RIME_OUT_ANSWER] != RIME_STATUS_NONE_CARRIED;
+    unsigned own = professional ? status_rate(said + RIME_OUT_OCTETS) : 0;
+    if (frequency->asked != 0) return frequency->asked;
+    if (own != 0 && (status_counts(said) || frequency_assumed(frequency))) return own;
+    labels->assumed |= frequency_assumed(frequency);
+    return frequency->rate;
 }
 
 static void say_blocks(struct labels *labels, unsigned number) {

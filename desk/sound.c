@@ -86,7 +86,12 @@ static const struct kind *kind_of(const char *name) {
 }
 
 static int subtype_of(unsigned bits) {
-    return bits == 16 ? SF_FORMAT_PCM_16 : bits == 24 ? SF_FORMAT_PCM_24 : bits == 32 ? SF_FORMAT_PCM_32 : SF_FORMAT_DOUBLE;
+    switch (bits) {
+    case 16: return SF_FORMAT_PCM_16;
+    case 24: return SF_FORMAT_PCM_24;
+    case 32: return SF_FORMAT_PCM_32;
+    default: return SF_FORMAT_DOUBLE;
+    }
 }
 
 /* libsndfile writes through these, so that the first error stays known. */
@@ -120,7 +125,9 @@ static int say_narrow(const char *name, const struct kind *kind, unsigned channe
               name, kind->name);
         return EX_USAGE;
     }
-    warnx("%s: such a file can't hold %u channel%s of %u bits", name, channels, plural(channels), bits);
+    SF_INFO narrower = {.samplerate = 1, .channels = (int)channels, .format = kind->container | subtype_of(24)};
+    warnx("%s: such a file can't hold %u channel%s of %u bits%s", name, channels, plural(channels), bits,
+          sf_format_check(&narrower) ? " (--cut 24 drops the low ones)" : "");
     return STATUS_FILE;
 }
 

@@ -203,6 +203,10 @@ def labels_by_their_own_frequency():
     status, out, said = ran('labels', status_log('s.log', 1920, [[(192, block(0)), (384, block(0, flags=0x10))]]))
     assert 'seconds are counted at 48000 Hz, which is assumed (--rate)' in said
     assert '24 bits (flagged as unreliable), origin' in out and out.count('1 block: fits') == 2
+    unfit = block(HZ_32000, fits=False)
+    out = ends(0, f'channel 1: {192 / 44100:.6f} to {384 / 44100:.6f} s, 1 block: doesn\'t fit, professional, 32000 Hz', 'labels',
+               status_log('s.log', 1920, [[(0, block(HZ_44100)), (192, unfit)]]))
+    assert ran('labels', status_log('s.log', 1920, [[(192, unfit)]]))[1].startswith('channel 1: 0.006000 to 0.012000 s, ')
     status_log('s.log', 9600, [[(at, block(HZ_44100 if at > 3000 else 0)) for at in range(0, 9600, 192)]])
     with open('s.log', 'rb') as log:
         out = ends(0, 'channel 1: 0.000000 to', 'labels', '-', given=log.read())
