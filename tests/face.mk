@@ -19,6 +19,7 @@ LINELIST := target/bin/linelist
 ANYTHING := target/bin/anything
 EXAMPLES := target/examples
 include bindings/names.mk
+VERSION := $(shell sed -n 's/^.define RIME_VERSION "\(.*\)"/\1/p' include/rimesatchel.h)
 GATE_CALLS := 400000
 GATE_SEED := 1
 # Fewer than N: memcheck is slow.
