@@ -2,7 +2,7 @@ export LC_ALL := C
 
 PROGRAMS := $(filter $(notdir $(wildcard crates/*)),linelist anything salvage sheet)
 
-.PHONY: all help programs demo lib module examples test mutants tables reading clean
+.PHONY: all help programs demo lib module examples install test mutants tables reading clean
 
 all:
 	@echo 'Proves every crate that changed and builds the programs: up to 13 minutes from nothing, on two cores. `make help` has more.'

@@ -22,7 +22,7 @@ INSTALL_PC := rimesatchel.pc rime_management.pc
 MODULE := $(addprefix bindings/python/rimesatchel/,__init__.py py.typed)
 MODULE_FOLDER = folder=$$($(PYTHON) bindings/python/where.py $(PREFIX)) && folder=$(DESTDIR)$$folder/rimesatchel
 
-.PHONY: install uninstall dist dist-test
+.PHONY: uninstall dist dist-test
 
 # Only what stands in target/ is copied: an install as root proves and builds nothing.
 install:

@@ -10,6 +10,5 @@ SHARED_MANAGEMENT := $(LIB)/librime_management.so
 # Where the bindings look for them.
 export RIMESATCHEL_LIB := $(abspath $(LIB))
 
-# The header has the version; its first number is that of the shared libraries.
-VERSION := $(shell sed -n 's/^.define RIME_VERSION "\(.*\)"/\1/p' include/rimesatchel.h)
-ABI := $(firstword $(subst ., ,$(VERSION)))
+# The shared libraries bear the version's first number.
+ABI = $(firstword $(subst ., ,$(VERSION)))

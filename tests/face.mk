@@ -20,6 +20,7 @@ LINELIST := target/bin/linelist
 ANYTHING := target/bin/anything
 EXAMPLES := target/examples
 include bindings/names.mk
+VERSION := $(shell sed -n 's/^.define RIME_VERSION "\(.*\)"/\1/p' include/rimesatchel.h)
 MACHINE := $(shell python3 tools/native.py machine 2>&1)
 ifneq ($(words $(MACHINE)),1)
 $(error $(MACHINE))
