@@ -8,16 +8,16 @@
 
 #include "status.h"
 
-/* A block of one channel: the first of all that tells a frequency decides. */
+/* A block of one channel: the first of all that names a frequency decides. */
 static void take_block(struct frequency *frequency, unsigned channel, const uint8_t out[RIME_OUT]) {
     if (!status_counts(out)) return;
     frequency->lengths |= (uint64_t)1 << status_sample_bits(out + RIME_OUT_OCTETS);
     unsigned rate = status_rate(out + RIME_OUT_OCTETS);
     if (rate == 0) return;
-    struct told *told = frequency->told;
-    while (told->rate != 0 && told->rate != rate) told++;
-    if (told->rate == 0) *told = (struct told){.rate = rate, .channel = channel};
-    told->blocks++;
+    struct named *named = frequency->named;
+    while (named->rate != 0 && named->rate != rate) named++;
+    if (named->rate == 0) *named = (struct named){.rate = rate, .channel = channel};
+    named->blocks++;
 }
 
 /* The blocks that end in the first sample times of what is held. */
@@ -33,14 +33,14 @@ static void take_blocks(struct frequency *frequency) {
 }
 
 static void settle(struct frequency *frequency) {
-    const struct told *told = frequency->told;
-    frequency->rate = frequency->asked != 0 ? frequency->asked : told->rate != 0 ? told->rate : FREQUENCY_ASSUMED;
-    for (; told < frequency->told + FREQUENCY_CODES && told->rate != 0; told++) {
-        if (told->rate == frequency->rate) continue;
+    const struct named *named = frequency->named;
+    frequency->rate = frequency->asked != 0 ? frequency->asked : named->rate != 0 ? named->rate : FREQUENCY_ASSUMED;
+    for (; named < frequency->named + FREQUENCY_CODES && named->rate != 0; named++) {
+        if (named->rate == frequency->rate) continue;
         progress_clear();
         warnx("%s: channel status says %u Hz in %llu block%s, the first of them in channel %u: %s%u Hz is used",
-              frequency->reading->name, told->rate, (unsigned long long)told->blocks, plural(told->blocks),
-              told->channel + 1, frequency->asked != 0 ? "--rate " : "", frequency->rate);
+              frequency->reading->name, named->rate, (unsigned long long)named->blocks, plural(named->blocks),
+              named->channel + 1, frequency->asked != 0 ? "--rate " : "", frequency->rate);
         frequency->contradicted = true;
     }
 }
@@ -109,7 +109,7 @@ enum step frequency_walk(struct frequency *frequency, handed_taken *take, void *
 }
 
 bool frequency_assumed(const struct frequency *frequency) {
-    return frequency->asked == 0 && frequency->told[0].rate == 0;
+    return frequency->asked == 0 && frequency->named[0].rate == 0;
 }
 
 const char *frequency_words(const struct frequency *frequency, char words[FREQUENCY_WORDS]) {
@@ -121,9 +121,9 @@ const char *frequency_words(const struct frequency *frequency, char words[FREQUE
 void frequency_say(const struct frequency *frequency) {
     if (frequency->lengths == 0) return;
     fprintf(stderr, "%s: channel status says", frequency->reading->name);
-    for (unsigned at = 0; at < FREQUENCY_CODES && frequency->told[at].rate != 0; at++)
-        fprintf(stderr, "%s %u Hz", at > 0 ? "," : "", frequency->told[at].rate);
-    if (frequency->told[0].rate == 0) fprintf(stderr, " no frequency");
+    for (unsigned at = 0; at < FREQUENCY_CODES && frequency->named[at].rate != 0; at++)
+        fprintf(stderr, "%s %u Hz", at > 0 ? "," : "", frequency->named[at].rate);
+    if (frequency->named[0].rate == 0) fprintf(stderr, " no frequency");
     for (unsigned bits = 1; bits < 64; bits++)
         if ((frequency->lengths >> bits & 1) != 0) fprintf(stderr, ", %u bits", bits);
     fprintf(stderr, "%s\n", frequency->lengths == 1 ? ", no word length" : "");

@@ -24,12 +24,12 @@ struct frequency {
     unsigned asked; /* by --rate, 0 where it isn't given */
 
     unsigned rate;      /* that is used */
-    uint64_t lengths;   /* bit N: channel status tells words of N bits */
-    bool contradicted;  /* channel status tells another than the one used; that was said */
-    struct told {
-        unsigned rate, channel; /* the channel that told it first, counted from 0 */
+    uint64_t lengths;   /* bit N: channel status says words of N bits */
+    bool contradicted;  /* channel status names another than the one used; that was said */
+    struct named {
+        unsigned rate, channel; /* the channel that named it first, counted from 0 */
         uint64_t blocks;
-    } told[FREQUENCY_CODES]; /* what channel status tells, the first first; a rate of 0 ends it */
+    } named[FREQUENCY_CODES]; /* what channel status names, the first first; a rate of 0 ends it */
 
     struct reading *reading;
     uint64_t *samples; /* what is held */
@@ -38,7 +38,7 @@ struct frequency {
     enum step step; /* the last that was made for it */
 };
 
-/* Reads the first sample times, settles the frequency, and says what channel status tells otherwise. */
+/* Reads the first sample times, settles the frequency, and says what channel status has otherwise. */
 void frequency_find(struct frequency *frequency, struct reading *reading);
 /* Hands out what is held, at most DESK_ROOM entries at a time, and then the rest of the log. Returns the last step. */
 enum step frequency_walk(struct frequency *frequency, handed_taken *take, void *user);

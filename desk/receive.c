@@ -46,8 +46,8 @@ static const struct argp_option options[] = {
     {"marks", 'm', "FILE", 0, "write the mark of each sample as one octet: 0 sound, 1 damaged, 2 missing", 0},
     {"rate", 'r', "HZ", 0, "sampling frequency, whatever channel status says; without both it is 48000", 0},
     {"bits", 'b', "16|24|32", 0, "bits of the file's samples; none that isn't 0 may be dropped for it", 0},
-    {"cut", 'c', "16|24|32", 0, "keep so many of the top bits of each sample, and count those that lose others", 0},
-    {"length", 'n', "SAMPLES", 0, "end after so many samples a channel, where that is in the last cell", 0},
+    {"cut", 'c', "16|24|32", 0, "keep the top bits of each sample, and count those that lose others which aren't 0", 0},
+    {"length", 'n', "SAMPLES", 0, "end after this number of samples a channel, where that is in the last cell", 0},
     {"strict", 's', NULL, 0, "end with status 1 where anything is missing, damaged, refused or contradicted", 0},
     {"force", 'F', NULL, 0, "write over files that are there", 0},
     {"quiet", 'q', NULL, 0, "no bar and no summary", 0},
@@ -204,12 +204,12 @@ static void say_summary(const struct receive *receive) {
     if (reading->refused_last > 0)
         fprintf(stderr, "  %llu of them after the last sound cell: no silence stands for them\n",
                 (unsigned long long)reading->refused_last);
-    char length[DURATION], told[FREQUENCY_WORDS];
+    char length[DURATION], rate[FREQUENCY_WORDS];
     unsigned long long missing = reading->missing * reading->entries;
     fprintf(stderr, "%s: %llu samples a channel, %s at %s%s; %llu sample%s missing, %llu damaged\n",
             receive->out_name, (unsigned long long)receive->times,
             duration((double)receive->times / receive->frequency.rate, length),
-            frequency_words(&receive->frequency, told),
+            frequency_words(&receive->frequency, rate),
             frequency_assumed(&receive->frequency) ? " (--rate, if it was another)" : "", missing, plural(missing),
             (unsigned long long)receive->damaged);
     frequency_say(&receive->frequency);

@@ -7,7 +7,7 @@
 #include <string.h>
 
 enum { PROFESSIONAL = 1, COORDINATION = 2, B = 8, C = 4 };
-enum { UP_TO_24 = 4 };                   /* of octet 2: samples may have 24 bits, and how many they have isn't told */
+enum { UP_TO_24 = 4 };                   /* of octet 2: samples may have 24 bits, and how many they have isn't said */
 enum { FLAGS = 22, FLAG_0_TO_5 = 0x10 }; /* the octet of the flags, and bit 4 of it */
 
 static const struct {

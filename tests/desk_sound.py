@@ -214,7 +214,7 @@ def labels_by_their_own_frequency():
 
 
 def pictures():
-    """The time line is drawn by the same frequency, and a frequency that contradicts is told."""
+    """The time line is drawn by the same frequency, and one that contradicts it is named."""
     def below_the_head(name):
         dots = subprocess.run(['pngtopnm', name], capture_output=True, check=True).stdout.split(b'\n', 3)[3]
         return dots[80 * 1600 * 3:]
