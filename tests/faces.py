@@ -147,6 +147,15 @@ def versions(files):
     return wrong
 
 
+def shown(call):
+    """A call as a line can show it."""
+    if call is None:
+        return 'missing'
+    arguments, answer = call
+    words = [part if isinstance(part, str) else f'{part[0]}: {part[1]}' for part in arguments]
+    return f'({", ".join(words)}) -> {answer}'
+
+
 def differences(files):
     ours = rattle(files)
     wrong = versions(files)
@@ -155,7 +164,7 @@ def differences(files):
     for face, theirs, expected in faces:
         for name in sorted(theirs.keys() | expected.keys()):
             if theirs.get(name) != expected.get(name):
-                wrong.append(f'{face}: {name} is {theirs.get(name, "missing")}, and in Rattle {expected.get(name, "missing")}')
+                wrong.append(f'{face}: {name} is {shown(theirs.get(name))}, and in Rattle {shown(expected.get(name))}')
     return wrong, len(ours)
 
 
