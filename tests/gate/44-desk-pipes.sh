@@ -4,7 +4,7 @@
 . tests/desk_try.sh
 
 # Standard input and output, wherever a file is read or written.
-cd none
+cd none || exit 1
 through() { # WHAT EXPECTED COMMAND..: standard output is that file
     local what=$1 expected=$2
     shift 2

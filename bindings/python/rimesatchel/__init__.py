@@ -70,8 +70,8 @@ _ARGUMENTS: dict[str, list[Any]] = {
     "rime_circuits_plan": [c_uint32, c_uint32, *_RUN32],
     "rime_equipment": [*_RUN8, *_RUN8, *_RUN8, POINTER(c_uint64 * 4)],
     "rime_controller": [*_RUN8, *_RUN8],
-    "rime_port_settings": [_OCTETS, _NUMBERS],
-    "rime_port_packing": [*_SETTINGS, _OCTETS],
+    "rime_port_settings": [POINTER(c_uint8 * 28), POINTER(c_uint32 * 3)],
+    "rime_port_packing": [*_SETTINGS, POINTER(c_uint8)],
 }
 _ANSWERS: dict[str, Any] = {"rime_receiver_placed": c_uint32}  # every other call returns an octet
 _ABI = 2  # the first number of the version: a library of another one is another library
@@ -609,6 +609,6 @@ def port_packing(setup: Setup) -> int:
     >>> [hex(port_packing(Setup(0x56, channels, 1))) for channels in (1, 2, 12)]
     ['0x1', '0x42', '0xc']
     """
-    packing = (c_uint8 * 1)()
+    packing = c_uint8()
     _call("rime_port_packing", *map(_setting, setup), packing, library=_port())
-    return packing[0]
+    return packing.value

@@ -5,7 +5,7 @@ export LC_ALL=C
 bash tests/need.sh shellcheck
 mapfile -t scripts < <(grep -rlE --exclude-dir=target --exclude-dir=.git '^#!.*\<(bash|sh)$' .)
 [ "${#scripts[@]}" -gt 10 ] || { echo "style: the scripts weren't found" >&2; exit 1; }
-shellcheck --severity=warning --format=gcc "${scripts[@]}"
+shellcheck --severity=warning --external-sources --format=gcc "${scripts[@]}"
 
 cargo fmt --version > /dev/null 2>&1 && cargo clippy --version > /dev/null 2>&1 || {
     echo "style: cargo fmt and clippy are missing: rustup component add rustfmt clippy" >&2
