@@ -83,7 +83,7 @@ def calls():
 @functools.cache
 def refusals():
     return {int(number) for number in re.findall(r'\bRIME_\w+ = (\d+)', ''.join(
-        block for block in re.findall(r'/\* Refusal numbers\. \*/\s*enum \{(.*?)\};', headers(), re.S)))}
+        block for block in re.findall(r'/\* Refusal numbers\.[^*]*\*/\s*enum \{(.*?)\};', headers(), re.S)))}
 
 
 @functools.cache
