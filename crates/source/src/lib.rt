@@ -8,6 +8,15 @@ ghost use Prim.Native.Nat.{_≤_};
 ghost use lib.ListN.{length};
 ghost use Rattle.source.specs.Kinds.{kindOf};
 
+mod turns; // turns.rt: what a program does behind a read
+
+pub use turns::Turn;
+pub use turns::answered;
+pub use turns::first;
+pub use turns::goes_on;
+pub use turns::read;
+pub use turns::well;
+
 // A descriptor to read from, and how many octets of a lent name say what is read. Below 0: nothing is to be read, and why is said
 // already.
 pub struct Source {
@@ -45,6 +54,15 @@ pub fn told(program: &[u8], what: &[u8]) {
     io::write_all(STDERR_FILENO, program);
     io::write_all(STDERR_FILENO, b": ");
     os::fail(what);
+}
+
+// Says something of what is read, on standard error. It has no promise either.
+pub fn said(program: &[u8], name: &[u8], line: &[u8]) {
+    io::write_all(STDERR_FILENO, program);
+    io::write_all(STDERR_FILENO, b": ");
+    io::write_all(STDERR_FILENO, name);
+    io::write_all(STDERR_FILENO, b": ");
+    io::write_all(STDERR_FILENO, line);
 }
 
 fn nothing() -> Source
