@@ -68,7 +68,7 @@ pub fn read(program: &[u8], name: &[u8], fd: i32, buffer: &mut [u8], left: u64) 
         crate::told(program, name);
     }
     if turn.what == 4 {
-        crate::said(program, name, b"more octets than can be counted\n");
+        crate::said(program, name, b"more octets than can be counted\n", true);
     }
     turn
 }
