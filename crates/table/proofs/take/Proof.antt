@@ -10,11 +10,12 @@ use Rattle.table.proofs.take.Statement.{statement}
 use Rattle.table.proofs.take.Tie as tie
 
 abbrev Inv-loop : tie.InvT-loop
-Inv-loop held₀ rows₀ piece going₀ place₀ held rows going place =
-    Going (record { sheet = going₀; held = held₀; rows = rows₀ }) piece (record { sheet = going; held = held; rows = rows }) place
+Inv-loop held₀ rows₀ kept₀ piece going₀ place₀ held rows kept going place =
+    Going (record { sheet = going₀; held = held₀; rows = rows₀; kept = kept₀ }) piece
+    (record { sheet = going; held = held; rows = rows; kept = kept }) place
 
 abbrev μ-loop : tie.MeasureT-loop
-μ-loop held₀ rows₀ piece going₀ place₀ held rows going place = length piece - place
+μ-loop held₀ rows₀ kept₀ piece going₀ place₀ held rows kept going place = length piece - place
 
 loop-holds : tie.Need-loop-holds Inv-loop μ-loop
 loop-holds c = going-start _ _
