@@ -58,7 +58,8 @@ def built(program):
     ran = subprocess.run(['bash', 'tools/quick.sh', program], cwd=SCRATCH, capture_output=True, text=True, check=False)
     made = SCRATCH / 'target' / 'quick' / program
     if ran.returncode or not made.exists():
-        return f'{program} was not built: {(ran.stderr or ran.stdout)[-300:]}'
+        said = [line for line in (ran.stdout + ran.stderr).split('\n') if line.strip()]
+        return f'the trial run of {program} as it is built: {said[-1][:160] if said else "no word"}'
     shutil.copy(made, SCRATCH / 'programs' / program)
     return ''
 
@@ -72,7 +73,7 @@ def stopped_by(programs):
         except subprocess.TimeoutExpired:
             return f'{script}.sh, which did not end'
         if ran.returncode:
-            said = [line for line in (ran.stderr + ran.stdout).split('\n') if line.strip()]
+            said = [line for line in (ran.stdout + ran.stderr).split('\n') if line.strip()]
             return f'{script}.sh: {said[-1][:160] if said else "no word"}'
     return ''
 

@@ -13,7 +13,8 @@ prints() {
     printf '%s\n' "$2" | diff - "$dir/out" || { echo "salvage: $1" >&2; exit 1; }
 }
 
-# The session of README.md: a line that begins with `$` is typed, and what stands below it is what it prints.
+# The session of README.md: a line that begins with `$` is typed, and what stands below it is what it prints. The desk tool is in it.
+make --no-print-directory -s -f desk/desk.mk desk
 cp examples/reading.log "$dir/torn.log"
 python3 - "$dir" "$programs" << 'PYTHON'
 import os, subprocess, sys
@@ -27,8 +28,8 @@ for line in session:
         expected[typed] = ''
     else:
         expected[typed] += line + '\n'
-assert 'salvage < torn.log > whole.log' in expected and 'linelist < whole.log' in expected
-environment = dict(os.environ, PATH=sys.argv[2] + ':' + os.environ['PATH'])
+assert 'salvage < torn.log > whole.log' in expected and 'linelist < whole.log' in expected and 'cmp whole.log new.log' in expected
+environment = dict(os.environ, PATH=':'.join([sys.argv[2], os.getcwd() + '/target/desk', os.environ['PATH']]))
 for typed, words in expected.items():
     ran = subprocess.run(typed, shell=True, cwd=sys.argv[1], env=environment, stdout=subprocess.PIPE, stderr=subprocess.STDOUT)
     if ran.stdout.decode() != words:

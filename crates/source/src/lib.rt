@@ -89,20 +89,15 @@ fn nothing() -> Source
     Source { fd: -1, length: 0 }
 }
 
-fn from_start() -> Put
-    ensures { λ r. ⌜ r ≡ record { octets = 0; whole = true } ⌝ }
-{
-    Put {
-        octets: 0,
-        whole: true,
-    }
-}
-
 // Puts words into a name, and answers how many octets of it they are.
 fn words_in(name: &mut [u8], words: &[u8]) -> usize
     ensures { λ r. ⌜ r ≤ length (now (name .exit)) ⌝ }
 {
-    let put = text::put_all(name, from_start(), words);
+    let start = Put {
+        octets: 0,
+        whole: true,
+    };
+    let put = text::put_all(name, start, words);
     put.octets
 }
 
@@ -110,7 +105,11 @@ fn words_in(name: &mut [u8], words: &[u8]) -> usize
 pub fn numbered(log: usize, name: &mut [u8]) -> usize
     ensures { λ r. ⌜ r ≤ length (now (name .exit)) ⌝ }
 {
-    let put = text::put_item(name, from_start(), b"log ", log);
+    let start = Put {
+        octets: 0,
+        whole: true,
+    };
+    let put = text::put_item(name, start, b"log ", log);
     put.octets
 }
 

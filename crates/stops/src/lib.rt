@@ -83,5 +83,9 @@ pub fn kept(run: &[u64], log: usize) -> Stop
         return stop_of(0, 0, 0);
     }
     let at = 3 * log;
-    stop_of((run[at] % 256) as u8, (run[at + 1] % 256) as u8, run[at + 2])
+    stop_of(
+        (run[at] % 256) as u8,
+        (run[at + 1] % 256) as u8,
+        run[at + 2],
+    )
 }

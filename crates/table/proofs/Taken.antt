@@ -78,7 +78,7 @@ module _ (s : Sheet) (step : Step) (rows kept : List ℕ) {held octets held₁ :
     unfolding settledOf
     steps-whole {r} {rows₁} {kept₁} whole ends =
         let stopped : keptNext (sheetOf (step .input) t (s .totals)) held₁ kept
-            ≡ keptNext (sheetOf (step .input) (tallyAfter (s .tally) held octets) (s .totals)) (stoodOf (s .tally .standing) held octets .held) kept =
+        ≡ keptNext (sheetOf (step .input) (tallyAfter (s .tally) held octets) (s .totals)) (stoodOf (s .tally .standing) held octets .held) kept =
         λ j. keptNext (sheetOf (step .input) (takes .goes-on j) (s .totals)) (takes .holds j) kept in
         record {
           stands = rw whole (λ j. record {
