@@ -1,8 +1,8 @@
 #!/usr/bin/env bash
-# The loops of linelist, anything, salvage and sheet, which no promise covers: what each says of a directory, a file that it may not
-# read, a closed input, a full or closed output and an input that fails in the middle; that each goes to the end of a long log; 1,100
-# files; a name that is too long; what is said of a log that isn't whole, and that nothing is said of one that is.
-# 22-anything.sh tries that anything reads no further than its yes.
+# The loops of linelist, anything, salvage and sheet, which no promise covers: what each says of a directory, a file that it
+# may not read, a closed input, a full or closed output and an input that fails in the middle; that each goes to the end of a
+# long log; 1,100 files; a name that is too long; what is said of a log that isn't whole, and that nothing is said of one that
+# is. 22-anything.sh tries that anything reads no further than its yes.
 #
 # PROGRAMS is the folder of the programs (target/bin).
 set -eu -o pipefail
@@ -76,8 +76,8 @@ cp "$dir/late.log" "$dir/closed.log"
 chmod 000 "$dir/closed.log"
 as_nobody=()
 [ "$(id -u)" != 0 ] || as_nobody=(setpriv --reuid=65534 --regid=65534 --clear-groups)
-# A name of 4,095 octets for late.log: the longest that the system takes. With two octets more it names no file, and what is left of
-# it in 4,096 octets does.
+# A name of 4,095 octets for late.log: the longest that the system takes. With two octets more it names no file, and what is
+# left of it in 4,096 octets does.
 name=$dir
 while [ $((${#name} + 11)) -le 4095 ]; do name=$name/.; done
 while [ $((${#name} + 9)) -lt 4095 ]; do name=$name/; done
@@ -145,7 +145,8 @@ tried sheet "$dir/one.log" "${name}xx"
 said "the second name is too long" sheet "sheet: the name of the file: File name too long"
 silent "the second name is too long" sheet
 
-# What is said of a log that isn't whole: where it stopped and why, in the words of include/rimesatchel.h. Standard output is as ever.
+# What is said of a log that isn't whole: where it stopped and why, in the words of include/rimesatchel.h. Standard output is
+# as ever.
 words() { sed -n "s/^    case $1: return \"\(.*\)\";/\1/p" include/rimesatchel.h; }
 printf '\x02\x01\x00\x07' > "$dir/11.log"
 { printf '\x02\x01\x00'; blank 70000; head -c 30 /dev/zero; } > "$dir/12.log"

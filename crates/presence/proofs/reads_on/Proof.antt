@@ -11,7 +11,7 @@ returns c = rw (c .if1 .taken)
 
 returns-2 : tie.Need-returns-2
 unfolding readsOn
-returns-2 c = rw (c .before .if1 .left)
+returns-2 c = rw (c .before .before .if1 .left)
 
 pub reads-on-spec : {M : Type 1} → statement M
 reads-on-spec = tie.close (tie.spec returns returns-2)
