@@ -2,7 +2,7 @@ export LC_ALL := C
 
 PROGRAMS := $(filter $(notdir $(wildcard crates/*)),linelist anything salvage sheet)
 
-.PHONY: all help programs demo lib module examples install test mutants tables reading clean
+.PHONY: all help programs demo lib module examples install test mutants edits tables reading clean
 
 all:
 	@echo 'Proves every crate that changed and builds the programs: up to 13 minutes from nothing, on two cores. `make help` has more.'
@@ -26,6 +26,7 @@ help:
 	@echo '  make test             the gate: prove all from nothing, try the must-fail edits, run every test; 14 to 34 minutes'
 	@echo '  make dist-test        unpack that tarball elsewhere and run the gate there'
 	@echo '  make mutants          try the wrong programs of tests/mutants; CRATES="sender log" for some crates'
+	@echo '  make edits            wrong edits of the four programs (tests/edits), and the test that stops each; CRATES="sheet"'
 	@echo '  make fuzz             compare N=1000000 calls with another implementation, from SEED=2; memory checks'
 	@echo '  make sheet-19         one sheet over 626 MB, by the call and by the program: refused 19; a record less is given'
 	@echo '  make desk-fuzz        spoiled logs through the desk tool, with memory checks'
@@ -96,6 +97,9 @@ test:
 
 mutants:
 	python3 tests/mutants/run.py $(CRATES)
+
+edits:
+	python3 tests/edits/run.py $(CRATES)
 
 tables:
 	python3 tools/tables.py

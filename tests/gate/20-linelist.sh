@@ -3,7 +3,7 @@
 # one read; octets that come one at a time; what it says of wrong arguments, and of a file, an input and an output that fail.
 set -eu -o pipefail
 export LC_ALL=C
-linelist=target/bin/linelist
+linelist=${PROGRAMS:-target/bin}/linelist
 compare=target/compare/release/compare
 dir=$(mktemp -d)
 trap 'rm -rf "$dir"' EXIT

@@ -3,7 +3,7 @@
 # come one at a time, that it stops reading at the yes, and what it says of wrong arguments and of a file that isn't there.
 set -eu -o pipefail
 export LC_ALL=C
-anything=target/bin/anything
+anything=${PROGRAMS:-target/bin}/anything
 dir=$(mktemp -d)
 trap 'rm -rf "$dir"' EXIT
 
@@ -23,7 +23,7 @@ for line in open(sys.argv[2], encoding='ascii'):
     log = bytes.fromhex(words[1]) if len(words) > 1 and words[1] != '-' else b''
     refusal, yes, number = (int(word) for word in answer.split())
     expected = f'log refused {refusal}\n' if refusal else f"{'yes' if yes else 'no'} {number}\n"
-    told = subprocess.run([sys.argv[1]], input=log, stdout=subprocess.PIPE, check=True).stdout.decode('ascii')
+    told = subprocess.run([sys.argv[1]], input=log, capture_output=True, check=True).stdout.decode('ascii')
     if told != expected:
         sys.exit(f'anything: {line.strip()}: told {told!r}')
     count += 1
@@ -42,12 +42,16 @@ $anything "$dir/sound" > "$dir/out"
 prints "one sound cell among them" "yes 3000"
 { head -c 2; sleep 0.05; head -c 60; sleep 0.05; cat; } < "$dir/sound" | $anything - > "$dir/out"
 prints "uneven pieces" "yes 3000"
-$anything < /dev/null > "$dir/out"
+$anything < /dev/null > "$dir/out" 2> /dev/null
 prints "no octets" "log refused 11"
 
-# Behind a yes it doesn't read on: the other end of the pipe is told so.
-{ printf '\x02\x01\x00'; sound; silent 2000; sleep 1; ! silent 4000 2> /dev/null; } 2> /dev/null | $anything > "$dir/out" || true
+# Behind a yes it doesn't read on: the writer at the other end of the pipe is ended by SIGPIPE, and `anything` ends well.
+set +e
+{ printf '\x02\x01\x00'; sound; exec head -c 50000000 /dev/zero; } 2> /dev/null | timeout 60 "$anything" > "$dir/out"
+ended="${PIPESTATUS[*]}"
+set -e
 prints "stops at the yes" "yes 0"
+[ "$ended" = '141 0' ] || { echo "anything: behind its yes the writer and it ended with $ended" >&2; exit 1; }
 
 # What it says.
 $anything --help 2> "$dir/out" > "$dir/nothing" < /dev/null

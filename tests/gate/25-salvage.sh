@@ -3,7 +3,8 @@
 # read, octets that come one at a time, a new log salvaged again, and what it says of wrong arguments, files and devices.
 set -eu -o pipefail
 export LC_ALL=C
-salvage=$PWD/target/bin/salvage
+programs=$(realpath "${PROGRAMS:-target/bin}")
+salvage=$programs/salvage
 dir=$(mktemp -d)
 trap 'rm -rf "$dir"' EXIT
 
@@ -12,9 +13,10 @@ prints() {
     printf '%s\n' "$2" | diff - "$dir/out" || { echo "salvage: $1" >&2; exit 1; }
 }
 
-# The session of README.md: a line that begins with `$` is typed, and what stands below it is what it prints.
+# The session of README.md: a line that begins with `$` is typed, and what stands below it is what it prints. The desk tool is in it.
+make --no-print-directory -s -f desk/desk.mk desk
 cp examples/reading.log "$dir/torn.log"
-python3 - "$dir" << 'PYTHON'
+python3 - "$dir" "$programs" << 'PYTHON'
 import os, subprocess, sys
 with open('README.md', encoding='utf-8') as readme:
     section = readme.read().split('## Salvaging a log\n')[1].split('\n## ')[0]
@@ -26,8 +28,8 @@ for line in session:
         expected[typed] = ''
     else:
         expected[typed] += line + '\n'
-assert 'salvage < torn.log > whole.log' in expected and 'linelist < whole.log' in expected
-environment = dict(os.environ, PATH=os.getcwd() + '/target/bin:' + os.environ['PATH'])
+assert 'salvage < torn.log > whole.log' in expected and 'linelist < whole.log' in expected and 'cmp whole.log new.log' in expected
+environment = dict(os.environ, PATH=':'.join([sys.argv[2], os.getcwd() + '/target/desk', os.environ['PATH']]))
 for typed, words in expected.items():
     ran = subprocess.run(typed, shell=True, cwd=sys.argv[1], env=environment, stdout=subprocess.PIPE, stderr=subprocess.STDOUT)
     if ran.stdout.decode() != words:
@@ -74,8 +76,8 @@ $salvage "$dir/new" > "$dir/again" 2> "$dir/out"
 cmp "$dir/new" "$dir/again"
 prints "salvaged again" "end $kept kept 0 left out 0 cut"
 # What the receiver takes of the new log is what it takes of the old one.
-target/bin/linelist "$dir/long" | grep ' sound .* number ' | cut -d ' ' -f 2- > "$dir/old-sound"
-target/bin/linelist "$dir/new" | grep ' sound .* number ' | cut -d ' ' -f 2- | cmp - "$dir/old-sound"
+"$programs/linelist" "$dir/long" | grep ' sound .* number ' | cut -d ' ' -f 2- > "$dir/old-sound"
+"$programs/linelist" "$dir/new" | grep ' sound .* number ' | cut -d ' ' -f 2- | cmp - "$dir/old-sound"
 
 # One octet at a time, and octets behind a fault that come in other reads.
 python3 - << 'PYTHON' | $salvage > "$dir/new" 2> "$dir/out"

@@ -3,7 +3,7 @@
 # Python's csv; octets that come in uneven pieces, 4,096 logs and one more, lengths that are none, wrong arguments, files and devices.
 set -eu -o pipefail
 export LC_ALL=C
-sheet=target/bin/sheet
+sheet=${PROGRAMS:-target/bin}/sheet
 dir=$(mktemp -d)
 trap 'rm -rf "$dir"' EXIT
 names='log,sound,missing,refused 8,refused 9,refused 15,refused 20,marked 0,marked 1,marked 2,missing per million'
@@ -21,7 +21,7 @@ program, vectors, folder = sys.argv[1:]
 names = ['log', 'sound', 'missing', 'refused 8', 'refused 9', 'refused 15', 'refused 20', 'marked 0', 'marked 1', 'marked 2',
          'missing per million']
 def told(words, given):
-    out = subprocess.run([program] + words, input=given, stdout=subprocess.PIPE, check=True).stdout.decode('ascii')
+    out = subprocess.run([program] + words, input=given, capture_output=True, check=True).stdout.decode('ascii')
     if not out.endswith('\n') or '\r' in out:
         sys.exit(f'sheet: lines of {out!r}')
     return list(csv.reader(io.StringIO(out), strict=True))
@@ -62,10 +62,10 @@ PYTHON
 # No input, and a log of no octets.
 $sheet < /dev/null > "$dir/out"
 prints "no input" "$names" 'all,0,0,0,0,0,0,0,0,0,0'
-printf '0\n' | $sheet - > "$dir/out"
+printf '0\n' | $sheet - > "$dir/out" 2> "$dir/err"
 prints "a log of no octets" "$names" '0,0,0,0,0,0,0,0,0,0,0' 'all,0,0,0,0,0,0,0,0,0,0'
 
-$sheet examples/reading.log > "$dir/out"
+$sheet examples/reading.log > "$dir/out" 2> "$dir/err"
 prints "the table of README.md" "$names" '0,5,7,1,1,0,0,60,0,84,583333' 'all,5,7,1,1,0,0,60,0,84,583333'
 
 # Octets that come in uneven pieces, and a log longer than one read. 02 hex has no overhead: a cell of one channel has 48 samples.
@@ -80,11 +80,11 @@ prints "a file and standard input" "$names" '0,4000,0,0,0,0,0,192000,0,0,0' '1,4
     'all,8000,0,0,0,0,0,384000,0,0,0'
 
 # 4,096 logs are taken; anything behind them is 18, whatever it is.
-yes 0 | head -n 4096 > "$dir/most" || true
-$sheet < "$dir/most" > "$dir/out"
+seq 4096 | sed 's/.*/0/' > "$dir/most"
+$sheet < "$dir/most" > "$dir/out" 2> "$dir/err"
 [ "$(wc -l < "$dir/out")" = 4098 ]
 [ "$(sed -n 4097p "$dir/out")" = '4095,0,0,0,0,0,0,0,0,0,0' ]
-{ cat "$dir/most"; printf 'x'; } | $sheet > "$dir/out"
+{ cat "$dir/most"; printf 'x'; } | $sheet > "$dir/out" 2> "$dir/err"
 prints "4,097 logs" 'sheet refused 18'
 
 xargs -n 4097 $sheet < <(yes /dev/null | head -n 4097) > "$dir/out"
@@ -93,7 +93,7 @@ prints "4,097 files" 'sheet refused 18'
 # 5: no length, too long a one, and an input that ends early.
 for given in '\n' 'x\n' ' 3\nabc' '-1\n' '3' '3\nab' '4294967296\n' '00000000001\n' '3\nabcd' '+0\n' '0\r\n'; do
     # shellcheck disable=SC2059 # the words are a format
-    printf -- "$given" | $sheet > "$dir/out"
+    printf -- "$given" | $sheet > "$dir/out" 2> "$dir/err"
     prints "length $given" 'sheet refused 5'
 done
 printf '4294967295\n\x02\x01\x00' | $sheet > "$dir/out"
@@ -112,7 +112,7 @@ prints "a folder" "sheet: $dir: Is a directory"
 $sheet "$dir/long" -x 2> "$dir/out" > "$dir/nothing" < /dev/null
 prints "an option among files" 'usage: sheet [FILE..]'
 [ ! -s "$dir/nothing" ]
-$sheet examples/reading.log 2> "$dir/out" > /dev/full
+$sheet "$dir/long" 2> "$dir/out" > /dev/full
 prints "a full disk" 'sheet: standard output: No space left on device'
 python3 - "$sheet" > "$dir/out" << 'PYTHON'
 import pty, subprocess, sys

@@ -2,7 +2,8 @@
 """Tries the mutants: small wrong changes of the crates, each of which the prover must refuse.
 
   run.py [CRATE...]     try the mutants of these crates, or all: `make mutants`
-  run.py --applies      only see that each edit, and each must-fail edit, still fits the file that it changes: the gate
+  run.py --applies      only see that each edit, those of tests/edits and the must-fail edits too, still fits the file that it changes:
+                        the gate
 
 The crates are copied to target/mutants, with the mutants in the place of their must-fail edits; `rt must-fail` tries them
 there. It leaves what the prover said of each in target/mutants/target/must-fail/CRATE/NAME/.log.
@@ -28,7 +29,7 @@ def what_is_wrong(edit):
 
 def fault_of(edit, crate):
     """Why rt could not apply the edit, or nothing. An edit is read as rt reads it: `file:`, then pairs of `old:`, `new:`."""
-    if edit.is_relative_to(MUTANTS) and not what_is_wrong(edit):
+    if edit.parent.name != 'must-fail' and not what_is_wrong(edit):
         return 'its first line does not say what is wrong (`# ...`)'
     texts, file, old, pairs = {}, '', '', 0
     for line in edit.read_text(encoding='utf-8').split('\n'):
@@ -50,8 +51,8 @@ def fault_of(edit, crate):
 def check_edits():
     """Prints the edits that can't be applied; says whether there are none."""
     good = bad = 0
-    for edit in sorted([*MUTANTS.glob('*/*.edit'), *ROOT.glob('crates/*/must-fail/*.edit')]):
-        name = edit.parent.name if edit.is_relative_to(MUTANTS) else edit.parent.parent.name
+    for edit in sorted([*ROOT.glob('tests/*/*/*.edit'), *ROOT.glob('crates/*/must-fail/*.edit')]):
+        name = edit.parent.parent.name if edit.parent.name == 'must-fail' else edit.parent.name
         fault = fault_of(edit, ROOT / 'crates' / name)
         if fault:
             print(f'{edit.relative_to(ROOT)}: {fault}', file=sys.stderr)

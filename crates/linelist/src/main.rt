@@ -4,27 +4,16 @@
 use libc::STDOUT_FILENO;
 use listing::Listing;
 use listing::Printed;
+use source::Turn;
 ghost use mathlib.Core.Bool.{true};
 ghost use mathlib.Core.Path.{_≡_};
 ghost use Prim.Native.Nat.{_≤_};
 ghost use lib.ListN.{length, take};
-ghost use Rattle.io.specs.Counts.{clamped};
 ghost use Rattle.listing.specs.Taking.{Takes};
-ghost use Rattle.linelist.specs.Reads.{readsOn};
 
 // Says what failed, and the system's reason.
 fn told(what: &[u8]) {
     source::told(b"linelist", what);
-}
-
-// Whether to read on: not once an octet past the limit is read, nor behind a fault.
-fn reads_on(octets: u64, stage: u8) -> bool
-    ensures { λ r. ⌜ r ≡ readsOn octets stage ⌝ }
-{
-    if 4294967295 < octets {
-        return false;
-    }
-    stage < 2
 }
 
 // Writes lines to standard output, and answers whether it could. It asks that they are whole, and its callers prove that.
@@ -38,21 +27,21 @@ fn print(lines: &[u8], whole: bool) -> bool
     written
 }
 
-// Hands the list just what a read delivered: the first octets of the buffer, as many as the read said. The lines of so many are
-// whole in the text.
+// Hands the list just what a read delivered: the first octets of the buffer, as many as came. The lines of so many are whole in the
+// text.
 fn take_read(
     listing: Listing,
     held: &mut [u8; 49],
     buffer: &[u8],
-    got: isize,
+    turn: Turn,
     text: &mut [u8],
 ) -> Printed
-    requires { ⌜ (length (now buffer) ≤ 65536) × (131072 ≤ length (now text)) ⌝ }
-    ensures { λ r. ⌜ Takes listing (now (held .entry)) (take (clamped got (length (now (buffer .entry)))) (now (buffer .entry)))
+    requires { ⌜ (turn .octets ≤ length (now buffer)) × (length (now buffer) ≤ 65536) × (131072 ≤ length (now text)) ⌝ }
+    ensures { λ r. ⌜ Takes listing (now (held .entry)) (take (turn .octets) (now (buffer .entry)))
         (now (text .entry)) r (now (held .exit)) (now (text .exit))
         × (r .listed .whole ≡ true) × (r .listed .octets ≤ length (now (text .exit))) ⌝ }
 {
-    let n = io::count(got, buffer);
+    let n = turn.octets;
     listing::take(listing, held, &buffer[..n], text)
 }
 
@@ -69,30 +58,20 @@ fn finish(listing: Listing, held: [u8; 49], text: &mut [u8])
 fn list(fd: i32, name: &[u8], held: &mut [u8; 49], buffer: &mut [u8], text: &mut [u8])
     requires { ⌜ (length (now buffer) ≤ 65536) × (131072 ≤ length (now text)) ⌝ }
 {
-    let mut listing = listing::start(4294967295);
-    let mut octets: u64 = 0;
-    let mut stage: u8 = 0;
-    while reads_on(octets, stage) {
-        let got = libc::read(fd, buffer);
-        if got < 0 {
-            told(name);
-            return;
-        }
-        let more = io::count(got, buffer);
-        if more == 0 {
-            finish(listing, *held, text);
-            return;
-        }
-        let printed = take_read(listing, held, buffer, got, text);
+    let mut listing = listing::start_longest();
+    let mut turn = source::first();
+    while source::goes_on(turn, listing::reads_on(listing)) {
+        turn = source::read(b"linelist", name, fd, buffer, turn.left);
+        let printed = take_read(listing, held, buffer, turn, text);
         let listed = printed.listed;
         let length = listed.octets;
         if !print(&text[..length], listed.whole) {
             return;
         }
         listing = printed.listing;
-        let standing = listing.standing;
-        stage = standing.stage;
-        octets += more as u64;
+    }
+    if source::well(turn) {
+        finish(listing, *held, text);
     }
 }
 

@@ -1,6 +1,6 @@
 -- Wrong answers to the public functions: the contracts rule each of them out. Stated over the contracts themselves.
 -- Assumes nothing.
-use mathlib.Core.Bool.{true, true≢false}
+use mathlib.Core.Bool.{Bool, true, false, true≢false}
 use mathlib.Core.List.{List, [], _∷_}
 use mathlib.Core.Path.{_≡_, sym, _∙_, ap}
 use Prim.Native.Nat.{ℕ}
@@ -21,8 +21,12 @@ use Rattle.text.specs.Text.{digitsOf}
 use Rattle.text.specs.Words.{words}
 use Rattle.listing.proofs.end.Kinds as end-kinds
 use Rattle.listing.proofs.end.Reads as end-reads
+use Rattle.listing.proofs.reads_on.Kinds as reads-on-kinds
+use Rattle.listing.proofs.reads_on.Reads as reads-on-reads
 use Rattle.listing.proofs.start.Kinds as start-kinds
 use Rattle.listing.proofs.start.Reads as start-reads
+use Rattle.listing.proofs.start_longest.Kinds as start-longest-kinds
+use Rattle.listing.proofs.start_longest.Reads as start-longest-reads
 use Rattle.listing.proofs.take.Kinds as take-kinds
 use Rattle.listing.proofs.take.Reads as take-reads
 
@@ -118,3 +122,27 @@ module _ (κs : Lfts 0) where
 
   pub start-counts-nothing : Started (λ x. x .tally .records ≡ 1)
   start-counts-nothing x v wrong s = let right : x .tally .records ≡ 0 = ap (λ (l : Listing). l .tally .records) s in omega arith
+
+module _ (κs : Lfts 0) where
+  -- a limit of 4,000,000 octets in the place of request 14's
+  pub longest-no-less : Never start-longest-kinds.ps start-longest-kinds.r start-longest-reads.Post κs tt (λ x v.
+      x .standing .left ≡ 4000000)
+  longest-no-less x v wrong s =
+      let right : x .standing .left ≡ 4294967295 = ap (λ (l : Listing). l .standing .left) s in omega arith
+
+  -- a list that reads no octet, and one that reads on behind a broken record
+  abbrev Wanted : Listing → (Bool → Type 0) → Type 0
+  Wanted listing Wrong = Never reads-on-kinds.ps reads-on-kinds.r reads-on-reads.Post κs (listing, tt) (λ x v. Wrong x)
+
+  abbrev at-stage : ℕ → Listing
+  at-stage stage =
+      record {
+        standing = record { stage = stage; fault = 11; count = 0; left = 7; records = 0 };
+        tally = startOf 10 .tally;
+      }
+
+  pub reads-the-first : Wanted (startOf 10) (λ x. x ≡ false)
+  reads-the-first x v wrong s = true≢false (sym s ∙ wrong)
+
+  pub broken-reads-no-more : Wanted (at-stage 3) (λ x. x ≡ true)
+  broken-reads-no-more x v wrong s = true≢false (sym wrong ∙ s)

@@ -4,6 +4,7 @@ use pieces::Standing;
 use receiver::Receiver;
 use text::Put;
 ghost use mathlib.Core.Path.{_≡_};
+ghost use lib.Dec.{ltb};
 ghost use Rattle.listing.specs.Taking.{startOf, Takes, Ends};
 
 mod lines; // lines.rt: the lines of a list
@@ -45,6 +46,21 @@ pub fn start(limit: u64) -> Listing
         refused: 0,
     };
     Listing { standing, tally }
+}
+
+// "It shall take a log of up to 4,294,967,295 octets": a list before the first octet of a log, as `linelist` makes it.
+pub fn start_longest() -> Listing
+    ensures { λ r. ⌜ r ≡ startOf 4294967295 ⌝ }
+{
+    start(4294967295)
+}
+
+// Whether more octets of the log could change the list: not behind a fault.
+pub fn reads_on(listing: Listing) -> bool
+    ensures { λ r. ⌜ r ≡ ltb (listing .standing .stage) 2 ⌝ }
+{
+    let standing = listing.standing;
+    standing.stage < 2
 }
 
 // Takes a piece of the log and writes the lines that it makes whole into the run, from its start, as far as it goes: what is past

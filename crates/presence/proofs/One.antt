@@ -9,6 +9,8 @@ use Rattle.presence.proofs.end.Kinds as end-kinds
 use Rattle.presence.proofs.end.Reads as end-reads
 use Rattle.presence.proofs.put_line.Kinds as put-line-kinds
 use Rattle.presence.proofs.put_line.Reads as put-line-reads
+use Rattle.presence.proofs.reads_on.Kinds as reads-on-kinds
+use Rattle.presence.proofs.reads_on.Reads as reads-on-reads
 use Rattle.presence.proofs.start.Kinds as start-kinds
 use Rattle.presence.proofs.start.Reads as start-reads
 use Rattle.presence.proofs.take.Kinds as take-kinds
@@ -19,6 +21,9 @@ anything-one κs a x y v w pre p q = (p ∙ sym q, refl)
 
 pub start-one : One start-kinds.ps start-kinds.r start-reads.Pre start-reads.Post
 start-one κs a x y v w pre p q = (p ∙ sym q, refl)
+
+pub reads-on-one : One reads-on-kinds.ps reads-on-kinds.r reads-on-reads.Pre reads-on-reads.Post
+reads-on-one κs a x y v w pre p q = (p ∙ sym q, refl)
 
 pub take-one : One take-kinds.ps take-kinds.r take-reads.Pre take-reads.Post
 take-one κs a x y v w pre p q = (p .goes-on ∙ sym (q .goes-on), λ i. (tt, ((p .holds ∙ sym (q .holds)) i, (tt, tt))))

@@ -1,6 +1,6 @@
 -- Wrong answers to the public functions: the contract rules each of them out.
 -- Assumes nothing.
-use mathlib.Core.Bool.{true, false, true≢false}
+use mathlib.Core.Bool.{Bool, true, false, true≢false}
 use mathlib.Core.List.{List, [], _∷_, _++_}
 use mathlib.Core.Path.{_≡_, sym, _∙_, ap}
 use Prim.Native.Nat.{ℕ}
@@ -21,13 +21,15 @@ use Rattle.presence.specs.declared.Presence.{Presence}
 use Rattle.presence.specs.declared.Search.{Search}
 use Rattle.presence.specs.Presence.{sounds, someOf, firstOf, yesAt, answerOf, presenceOf}
 use Rattle.presence.specs.Line.{lineOf}
-use Rattle.presence.specs.Taking.{pastHeard, pastRecord, pastPart, soughtOf, searchStart}
+use Rattle.presence.specs.Taking.{readsOn, pastHeard, pastRecord, pastPart, soughtOf, searchStart}
 use Rattle.presence.proofs.anything.Kinds as anything-kinds
 use Rattle.presence.proofs.anything.Reads as anything-reads
 use Rattle.presence.proofs.end.Kinds as end-kinds
 use Rattle.presence.proofs.end.Reads as end-reads
 use Rattle.presence.proofs.put_line.Kinds as put-line-kinds
 use Rattle.presence.proofs.put_line.Reads as put-line-reads
+use Rattle.presence.proofs.reads_on.Kinds as reads-on-kinds
+use Rattle.presence.proofs.reads_on.Reads as reads-on-reads
 use Rattle.presence.proofs.start.Kinds as start-kinds
 use Rattle.presence.proofs.start.Reads as start-reads
 use Rattle.presence.proofs.take.Kinds as take-kinds
@@ -152,3 +154,28 @@ module _ (κs : Lfts 0) where
 
   pub start-counts-nothing : Start (λ x. x .sought .number ≡ 1)
   start-counts-nothing x v wrong s = let right : x .sought .number ≡ 0 = ap (λ (l : Search). l .sought .number) s in omega arith
+
+module _ (κs : Lfts 0) where
+  -- a search at this stage of the log, with a yes or without
+  abbrev standsAt : ℕ → Bool → Search
+  standsAt stage found =
+      record {
+        standing = record { stage = stage; fault = 0; count = 0; left = 7; records = 0 };
+        sought = record { state = searchStart .sought .state; refusal = 0; found = found; number = 0 };
+      }
+
+  abbrev Wanted : Search → (Bool → Type 0) → Type 0
+  Wanted search Wrong = Never reads-on-kinds.ps reads-on-kinds.r reads-on-reads.Post κs (search, tt) (λ x v. Wrong x)
+
+  -- a search that reads on behind its yes, or behind a broken record, and one that stops among silent records
+  pub yes-reads-no-more : Wanted (standsAt 1 true) (λ x. x ≡ true)
+  unfolding readsOn
+  yes-reads-no-more x v wrong s = true≢false (sym wrong ∙ s)
+
+  pub broken-reads-no-more : Wanted (standsAt 3 false) (λ x. x ≡ true)
+  unfolding readsOn
+  broken-reads-no-more x v wrong s = true≢false (sym wrong ∙ s)
+
+  pub silence-reads-on : Wanted (standsAt 1 false) (λ x. x ≡ false)
+  unfolding readsOn
+  silence-reads-on x v wrong s = true≢false (sym s ∙ wrong)

@@ -1,9 +1,10 @@
 -- The answer for a log that is taken in pieces: what is known behind each part of it.
 -- Assumes nothing.
-use mathlib.Core.Bool.{true, false, cond}
+use mathlib.Core.Bool.{Bool, true, false, cond, not, _&&_}
 use mathlib.Core.List.{List, [], _∷_}
 use mathlib.Core.Path.{_≡_}
 use Prim.Native.Nat.{ℕ, _+_, _%_, _^_}
+use lib.Dec.{ltb}
 use Rattle.log.specs.declared.Header.{Header}
 use Rattle.receiver.specs.Receiver.{openedOf}
 use Rattle.reading.specs.Heard.{Heard, hear, onward}
@@ -17,6 +18,11 @@ use Rattle.presence.specs.declared.Presence.{Presence}
 use Rattle.presence.specs.declared.Search.{Search}
 use Rattle.presence.specs.declared.Sought.{Sought}
 use Rattle.presence.specs.Presence.{sounds}
+
+-- "It should stop at the first one": more octets can change the answer until a record says yes, or a fault ends the log, stages 2
+-- and 3
+unfoldable pub readsOn : Search → Bool
+readsOn s = not (s .sought .found) && ltb (s .standing .stage) 2
 
 -- a receiver opened by a header, and nothing found yet
 abbrev pub freshSought : Header → Sought

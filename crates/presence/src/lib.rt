@@ -11,7 +11,7 @@ ghost use Rattle.text.specs.Text.{item};
 ghost use Rattle.text.specs.Words.{words};
 ghost use Rattle.presence.specs.Line.{Writes};
 ghost use Rattle.presence.specs.Presence.{presenceOf, readFrom};
-ghost use Rattle.presence.specs.Taking.{searchStart, Takes, answerAtEnd};
+ghost use Rattle.presence.specs.Taking.{searchStart, readsOn, Takes, answerAtEnd};
 
 mod parts; // parts.rt: a log's parts one after the other
 mod sounds; // sounds.rt: what one record says
@@ -99,6 +99,18 @@ pub fn start() -> Search
         number: 0,
     };
     Search { standing, sought }
+}
+
+// "It should stop at the first one": whether more octets of the log could change the answer. Not behind a yes, nor behind a fault.
+pub fn reads_on(search: Search) -> bool
+    ensures { λ r. ⌜ r ≡ readsOn search ⌝ }
+{
+    let sought = search.sought;
+    if sought.found {
+        return false;
+    }
+    let standing = search.standing;
+    standing.stage < 2
 }
 
 // Takes a piece of the log. The octets of a record that isn't whole yet are held in `held`. Behind a yes no record is judged, and

@@ -5,18 +5,14 @@ use libc::STDERR_FILENO;
 use libc::STDOUT_FILENO;
 use salvaging::Salvaging;
 use salvaging::Wrote;
+use source::Turn;
 use text::Put;
 ghost use mathlib.Core.Bool.{true};
 ghost use mathlib.Core.Path.{_≡_};
 ghost use Prim.Native.Nat.{_≤_};
 ghost use lib.ListN.{length, take};
-ghost use Rattle.io.specs.Counts.{clamped};
 ghost use Rattle.salvaging.specs.Taking.{Takes};
 ghost use Rattle.salvage.specs.Whole.{Whole};
-
-fn uncounted() {
-    io::write_all(STDERR_FILENO, b"salvage: more octets than can be counted\n");
-}
 
 // Says what failed, and the system's reason.
 fn told(what: &[u8]) {
@@ -56,22 +52,23 @@ fn print_both(out: &[u8], saved: Put, notes: &[u8], noted: Put) -> bool
     )
 }
 
-// Hands the salvage just what a read delivered: the first octets of the buffer, as many as the read said. What so many make is whole
-// in the two runs.
+// Hands the salvage just what a read delivered: the first octets of the buffer, as many as came. What so many make is whole in the
+// two runs.
 fn take_read(
     salvaging: Salvaging,
     held: &mut [u8; 49],
     buffer: &[u8],
-    got: isize,
+    turn: Turn,
     out: &mut [u8],
     notes: &mut [u8],
 ) -> Wrote
-    requires { ⌜ (length (now buffer) ≤ 65536) × (131072 ≤ length (now out)) × (131072 ≤ length (now notes)) ⌝ }
-    ensures { λ r. ⌜ Takes salvaging (now (held .entry)) (take (clamped got (length (now (buffer .entry)))) (now (buffer .entry)))
+    requires { ⌜ (turn .octets ≤ length (now buffer)) × (length (now buffer) ≤ 65536) × (131072 ≤ length (now out))
+        × (131072 ≤ length (now notes)) ⌝ }
+    ensures { λ r. ⌜ Takes salvaging (now (held .entry)) (take (turn .octets) (now (buffer .entry)))
         (now (out .entry)) (now (notes .entry)) r (now (held .exit)) (now (out .exit)) (now (notes .exit))
         × Whole (r .saved) (length (now (out .exit))) × Whole (r .noted) (length (now (notes .exit))) ⌝ }
 {
-    let n = io::count(got, buffer);
+    let n = turn.octets;
     salvaging::take(salvaging, held, &buffer[..n], out, notes)
 }
 
@@ -89,8 +86,7 @@ fn finish(salvaging: Salvaging, held: [u8; 49], notes: &mut [u8])
     );
 }
 
-// Reads a log piece by piece to its end, and writes what comes of it as it goes. `name` is what a failed read is told of. The octets
-// are counted in 64 bits.
+// Reads a log piece by piece to its end, and writes what comes of it as it goes. `name` is what a failed read is told of.
 fn save(
     fd: i32,
     name: &[u8],
@@ -102,28 +98,20 @@ fn save(
     requires { ⌜ (length (now buffer) ≤ 65536) × (131072 ≤ length (now out)) × (131072 ≤ length (now notes)) ⌝ }
 {
     let mut salvaging = salvaging::start();
-    let mut octets: u64 = 0;
-    while octets <= 18446744073709486079 {
-        let got = libc::read(fd, buffer);
-        if got < 0 {
-            told(name);
-            return;
-        }
-        let more = io::count(got, buffer);
-        if more == 0 {
-            finish(salvaging, *held, notes);
-            return;
-        }
-        let wrote = take_read(salvaging, held, buffer, got, out, notes);
+    let mut turn = source::first();
+    while source::goes_on(turn, true) {
+        turn = source::read(b"salvage", name, fd, buffer, turn.left);
+        let wrote = take_read(salvaging, held, buffer, turn, out, notes);
         let saved = wrote.saved;
         let noted = wrote.noted;
         if !print_both(out, saved, notes, noted) {
             return;
         }
         salvaging = wrote.salvaging;
-        octets += more as u64;
     }
-    uncounted();
+    if source::well(turn) {
+        finish(salvaging, *held, notes);
+    }
 }
 
 fn save_from(fd: i32, name: &[u8]) {

@@ -3,13 +3,14 @@
 // written when all are read.
 use libc::STDOUT_FILENO;
 use source::Source;
+use source::Turn;
+use stops::Stop;
 use table::Ended;
 use table::Sheet;
 ghost use mathlib.Core.Bool.{true};
 ghost use mathlib.Core.Path.{_≡_};
 ghost use Prim.Native.Nat.{_≤_, _<_};
 ghost use lib.ListN.{length, take};
-ghost use Rattle.io.specs.Counts.{clamped};
 ghost use Rattle.table.specs.Taking.{Takes};
 
 // Says what failed, and the system's reason.
@@ -51,35 +52,21 @@ fn print_sheet(sheet: Sheet, rows: &[u32]) {
     }
 }
 
-// How many octets may still be read: none at the end or behind a refusal. No input is so long that they come to an end.
-fn left_of(left: u64, more: u64, stops: bool) -> u64
-    ensures { λ r. ⌜ ((left ≡ 0 → ⊥) → r < left) ⌝ }
-{
-    if stops {
-        return 0;
-    }
-    if more == 0 {
-        return 0;
-    }
-    if left < more {
-        return 0;
-    }
-    left - more
-}
-
-// Takes just what a read delivered: the first octets of the buffer, as many as the read said.
+// Takes just what a read delivered: the first octets of the buffer, as many as came.
 fn take_read(
     sheet: Sheet,
     held: &mut [u8; 49],
     rows: &mut [u32],
+    kept: &mut [u64],
     buffer: &[u8],
-    got: isize,
+    turn: Turn,
 ) -> Sheet
-    ensures { λ r. ⌜ Takes sheet (now (held .entry)) (now (rows .entry))
-        (take (clamped got (length (now (buffer .entry)))) (now (buffer .entry))) r (now (held .exit)) (now (rows .exit)) ⌝ }
+    requires { ⌜ turn .octets ≤ length (now buffer) ⌝ }
+    ensures { λ r. ⌜ Takes sheet (now (held .entry)) (now (rows .entry)) (now (kept .entry)) (take (turn .octets) (now (buffer .entry)))
+        r (now (held .exit)) (now (rows .exit)) (now (kept .exit)) ⌝ }
 {
-    let n = io::count(got, buffer);
-    table::take(sheet, held, rows, &buffer[..n])
+    let n = turn.octets;
+    table::take(sheet, held, rows, kept, &buffer[..n])
 }
 
 // Reads to the end, or to a refusal. `name` is what a failed read is told of; `read` is false then.
@@ -90,22 +77,16 @@ fn read_all(
     held: &mut [u8; 49],
     buffer: &mut [u8],
     rows: &mut [u32],
+    kept: &mut [u64],
     read: &mut bool,
 ) -> Sheet {
     let mut sheet = start;
-    let mut left: u64 = 18446744073709551615;
-    while left != 0 {
-        let got = libc::read(fd, buffer);
-        if got < 0 {
-            told(name);
-            *read = false;
-            return sheet;
-        }
-        let more = io::count(got, buffer);
-        sheet = take_read(sheet, held, rows, buffer, got);
-        let input = sheet.input;
-        left = left_of(left, more as u64, input.refusal != 0);
+    let mut turn = source::first();
+    while source::goes_on(turn, table::reads_on(sheet)) {
+        turn = source::read(b"sheet", name, fd, buffer, turn.left);
+        sheet = take_read(sheet, held, rows, kept, buffer, turn);
     }
+    *read = source::well(turn);
     sheet
 }
 
@@ -126,6 +107,7 @@ fn read_source(
     held: &mut [u8; 49],
     buffer: &mut [u8],
     rows: &mut [u32],
+    kept: &mut [u64],
     read: &mut bool,
 ) -> Sheet {
     let mut name = io::buffer();
@@ -135,16 +117,56 @@ fn read_source(
         return sheet;
     }
     let length = source.length;
-    let behind = read_all(sheet, source.fd, &name[..length], held, buffer, rows, read);
+    let behind = read_all(
+        sheet,
+        source.fd,
+        &name[..length],
+        held,
+        buffer,
+        rows,
+        kept,
+        read,
+    );
     source::done(source);
     behind
 }
 
+// How a log is called: by its number, where it came on standard input, or by its file's name.
+fn log_name(log: usize, files: usize, name: &mut [u8]) -> usize
+    ensures { λ r. ⌜ r ≤ length (now (name .exit)) ⌝ }
+{
+    if files == 0 {
+        return source::numbered(log, name);
+    }
+    source::name_of(std::num::wrapping_add_usize(log, 1), name)
+}
+
+// Says where a log stopped that didn't end well.
+fn say_stop(log: usize, files: usize, stop: Stop) {
+    if stop.what == 0 {
+        return;
+    }
+    let mut name = io::buffer();
+    let length = log_name(log, files, &mut name);
+    source::stopped(b"sheet", &name[..length], stop);
+}
+
+fn say_stops(sheet: Sheet, files: usize, kept: &[u64]) {
+    let input = sheet.input;
+    let logs = input.logs;
+    let mut i = 0;
+    while i < logs {
+        say_stop(i, files, stops::kept(kept, i));
+        i += 1;
+    }
+}
+
 // Makes the sheet of the logs on standard input.
-fn from_input(held: &mut [u8; 49], buffer: &mut [u8], rows: &mut [u32]) {
+fn from_input(held: &mut [u8; 49], buffer: &mut [u8], rows: &mut [u32], kept: &mut [u64]) {
     let mut read = true;
-    let sheet = read_source(table::start(0), 0, held, buffer, rows, &mut read);
+    let sheet = read_source(table::start(0), 0, held, buffer, rows, kept, &mut read);
     if read {
+        say_stops(sheet, 0, kept);
         print_sheet(sheet, rows);
     }
 }
@@ -156,26 +178,33 @@ fn read_file(
     held: &mut [u8; 49],
     buffer: &mut [u8],
     rows: &mut [u32],
+    kept: &mut [u64],
     read: &mut bool,
 ) -> Sheet {
     let opened = table::open_log(sheet);
-    let behind = read_source(opened, index, held, buffer, rows, read);
-    table::next_log(behind, rows)
+    let behind = read_source(opened, index, held, buffer, rows, kept, read);
+    table::next_log(behind, *held, rows, kept)
 }
 
 // Makes the sheet of so many files. Where one can't be read, there is none.
-fn from_files(files: usize, held: &mut [u8; 49], buffer: &mut [u8], rows: &mut [u32]) {
+fn from_files(
+    files: usize,
+    held: &mut [u8; 49],
+    buffer: &mut [u8],
+    rows: &mut [u32],
+    kept: &mut [u64],
+) {
     let mut read = true;
     let mut sheet = table::start(files);
-    let input = sheet.input;
-    let mut i = if input.refusal == 0 { 0 } else { files };
+    let mut i = if table::reads_on(sheet) { 0 } else { files };
     while i < files {
         i += 1;
-        sheet = read_file(sheet, i, held, buffer, rows, &mut read);
+        sheet = read_file(sheet, i, held, buffer, rows, kept, &mut read);
         if !read {
             return;
         }
     }
+    say_stops(sheet, files, kept);
     print_sheet(sheet, rows);
 }
 
@@ -197,12 +226,12 @@ fn files_named() -> usize {
 }
 
 // Makes the sheet of the logs on standard input or of the files that the arguments name.
-fn make_sheet(held: &mut [u8; 49], buffer: &mut [u8], rows: &mut [u32]) {
+fn make_sheet(held: &mut [u8; 49], buffer: &mut [u8], rows: &mut [u32], kept: &mut [u64]) {
     let files = files_named();
     if files == 0 {
-        from_input(held, buffer, rows);
+        from_input(held, buffer, rows, kept);
     } else {
-        from_files(files, held, buffer, rows);
+        from_files(files, held, buffer, rows, kept);
     }
 }
 
@@ -210,5 +239,6 @@ fn main() {
     let mut held = [0u8; 49];
     let mut buffer = io::large_buffer();
     let mut rows = [0u32; 40960];
-    make_sheet(&mut held, &mut buffer, &mut rows);
+    let mut kept = [0u64; 12288];
+    make_sheet(&mut held, &mut buffer, &mut rows, &mut kept);
 }

@@ -30,9 +30,9 @@ pub record Counted (rows₀ : List ℕ) (s : Stood) (done : List (List ℕ)) (pa
       → addedOver (s .sheet .totals) (s .rows) (length done) more ≡ addedOver noCounts rows₀ 0 (done ++ more)
 
 module _ (rows₀ : List ℕ) where
-  pub counted-start : (files : ℕ) (held : List ℕ) → length held ≡ 49 → Counted rows₀ (standing files held rows₀) [] []
+  pub counted-start : (files : ℕ) (held kept : List ℕ) → length held ≡ 49 → Counted rows₀ (standing files held rows₀ kept) [] []
   unfolding firstOf
-  counted-start files held size =
+  counted-start files held kept size =
       record {
         size = size;
         logs = split (ltb 4096 files) (λ t. rw t refl) (λ t. rw t refl);

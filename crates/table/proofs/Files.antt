@@ -160,34 +160,34 @@ all-refused s (file ∷ files) is =
     (ends-refused (takenOver (logOpened s) file) (pieces-refused (logOpened s) file is))
 
 -- "`sheet FILE..` takes many, each a whole log": however each is divided among the reads, their table is printed
-module _ (held rows : List ℕ) where
+module _ (held rows kept : List ℕ) where
   many-files : (s : Stood) → inputOf s .refusal ≡ 18 → linesOf s ≡ refusedLine 18
   many-files s is = one-line s (stopped-last (inputOf s) (λ e. omega (arith, e, is)) ∙ is) (λ e. omega (arith, e))
 
-  too-many : (files : ℕ) → 4096 < files → inputOf (standing files held rows) .refusal ≡ 18
+  too-many : (files : ℕ) → 4096 < files → inputOf (standing files held rows kept) .refusal ≡ 18
   unfolding firstOf
   too-many files many = rw (lt-ltb 4096 files many)
 
   -- more than 4,096 are refused before one is read
-  pub refused-unread : (files : ℕ) → 4096 < files → linesOf (standing files held rows) ≡ refusedLine 18
-  refused-unread files many = many-files (standing files held rows) (too-many files many)
+  pub refused-unread : (files : ℕ) → 4096 < files → linesOf (standing files held rows kept) ≡ refusedLine 18
+  refused-unread files many = many-files (standing files held rows kept) (too-many files many)
 
   few-files : (files : List (List (List ℕ))) → length files ≤ 4096 → length held ≡ 49 → 40960 ≤ length rows → Short files
-      → printedOverFiles held rows files ≡ tableOf (map joinedOf files)
+      → printedOverFiles held rows kept files ≡ tableOf (map joinedOf files)
   unfolding firstOf lastOf
   few-files files few size room short =
-      let past : Stood = filesOver (standing (length files) held rows) files in
-      let begun : Filed rows (standing (length files) held rows) [] =
-      record { counted = counted-start rows (length files) held size; here = rw (le-ltb 4096 (length files) few) } in
+      let past : Stood = filesOver (standing (length files) held rows kept) files in
+      let begun : Filed rows (standing (length files) held rows kept) [] =
+      record { counted = counted-start rows (length files) held kept size; here = rw (le-ltb 4096 (length files) few) } in
       let filed : Filed rows past (map joinedOf files) =
-      past-files rows (standing (length files) held rows) [] files short (omega (arith, few)) begun in
+      past-files rows (standing (length files) held rows kept) [] files short (omega (arith, few)) begun in
       lines-table rows room (filed .counted) (omega (arith, few, length-map files joinedOf)) (ap lastOf (filed .here))
 
   pub any-division-files : (files : List (List (List ℕ))) → length held ≡ 49 → 40960 ≤ length rows → Short files
-      → printedOverFiles held rows files ≡ printedOfFiles (map joinedOf files)
+      → printedOverFiles held rows kept files ≡ printedOfFiles (map joinedOf files)
   unfolding printedOfFiles
   any-division-files files size room short =
-      let start : Stood = standing (length files) held rows in
+      let start : Stood = standing (length files) held rows kept in
       let same : length (map joinedOf files) ≡ length files = length-map files joinedOf in
       split (ltb 4096 (length files))
       (λ t.

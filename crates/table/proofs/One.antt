@@ -11,6 +11,8 @@ use Rattle.table.proofs.next_log.Kinds as next-kinds
 use Rattle.table.proofs.next_log.Reads as next-reads
 use Rattle.table.proofs.open_log.Kinds as open-kinds
 use Rattle.table.proofs.open_log.Reads as open-reads
+use Rattle.table.proofs.reads_on.Kinds as reads-on-kinds
+use Rattle.table.proofs.reads_on.Reads as reads-on-reads
 use Rattle.table.proofs.start.Kinds as start-kinds
 use Rattle.table.proofs.start.Reads as start-reads
 use Rattle.table.proofs.take.Kinds as take-kinds
@@ -22,7 +24,10 @@ start-one κs a x y v w pre p q = (p ∙ sym q, refl)
 pub take-one : One take-kinds.ps take-kinds.r take-reads.Pre take-reads.Post
 take-one κs a x y v w pre p q =
     let same = p .stands ∙ sym (q .stands) in
-    (λ i. same i .sheet, λ i. (tt, (same i .held, (same i .rows, (tt, tt)))))
+    (λ i. same i .sheet, λ i. (tt, (same i .held, (same i .rows, (same i .kept, (tt, tt))))))
+
+pub reads-on-one : One reads-on-kinds.ps reads-on-kinds.r reads-on-reads.Pre reads-on-reads.Post
+reads-on-one κs a x y v w pre p q = (p ∙ sym q, refl)
 
 pub open-log-one : One open-kinds.ps open-kinds.r open-reads.Pre open-reads.Post
 open-log-one κs a x y v w pre p q = (p ∙ sym q, refl)
@@ -30,7 +35,7 @@ open-log-one κs a x y v w pre p q = (p ∙ sym q, refl)
 pub next-log-one : One next-kinds.ps next-kinds.r next-reads.Pre next-reads.Post
 next-log-one κs a x y v w pre p q = (
   p .goes-on ∙ sym (q .goes-on),
-  λ i. (tt, ((p .rows-after ∙ sym (q .rows-after)) i, tt)),
+  λ i. (tt, (tt, ((p .rows-after ∙ sym (q .rows-after)) i, ((p .kept-after ∙ sym (q .kept-after)) i, tt)))),
 )
 
 pub end-one : One end-kinds.ps end-kinds.r end-reads.Pre end-reads.Post

@@ -16,7 +16,11 @@ use Rattle.figures.specs.declared.Tally.{Tally}
 use Rattle.figures.specs.Adding.{Adds, closedOf}
 use Rattle.figures.specs.Sheets.{refusedBy}
 use Rattle.figures.specs.Taking as figures
-use Rattle.figures.specs.Taking.{startTally}
+use Rattle.figures.specs.Taking.{startTally, tallyAfter}
+use Rattle.pieces.specs.Steps.{stoodOf}
+use Rattle.stops.specs.declared.Stop.{Stop}
+use Rattle.stops.specs.Kept.{keptWith}
+use Rattle.stops.specs.Stops.{stopOf}
 use Rattle.table.specs.declared.Input.{Input}
 use Rattle.table.specs.declared.Sheet.{Sheet}
 use Rattle.table.specs.declared.logs.Step.{Step}
@@ -32,6 +36,7 @@ use Rattle.table.specs.Taking.{
   Stood,
   nextOf,
   rowsNext,
+  keptNext,
   EndsLog,
   Steps,
   settledOf,
@@ -52,32 +57,39 @@ pub starts : (files : ℕ) {t : Tally} {i : Input} → t ≡ startTally → i �
 starts files tally input j = sheetOf (input j) (tally j) (tally j .noted .counts)
 
 -- a log's end
-pub ends-log : (s : Sheet) (rows : List ℕ) {i : Input} {t : Tally} {totals : Counts} {rows₁ : List ℕ}
+pub ends-log : (s : Sheet) (held rows kept : List ℕ) {i : Input} {t : Tally} {totals : Counts} {rows₁ kept₁ : List ℕ} {stop : Stop}
+    → stop ≡ stopOf (s .tally .standing) held → kept₁ ≡ keptWith kept (s .input .logs) stop
     → Adds rows (s .input .logs) (s .totals) (s .tally .noted .counts) totals rows₁ → i ≡ nextInput (s .input) → t ≡ startTally
-    → EndsLog s rows (sheetOf i t totals) rows₁
-ends-log s rows added input tally =
+    → EndsLog s held rows kept (sheetOf i t totals) rows₁ kept₁
+ends-log s held rows kept stops keeps added input tally =
     record {
       goes-on = λ j. sheetOf (input j) (tally j) (added .totals-are j);
       rows-after = added .rows-after;
+      kept-after = keeps ∙ ap (keptWith kept (s .input .logs)) stops;
     }
 
 -- a step: octets of the log are counted, and where it is whole it ends
-module _ (s : Sheet) (step : Step) (rows : List ℕ) {held octets held₁ : List ℕ} {t : Tally}
+module _ (s : Sheet) (step : Step) (rows kept : List ℕ) {held octets held₁ : List ℕ} {t : Tally}
     (takes : figures.Takes (s .tally) held octets t held₁)
   where
-    pub steps-whole : {r : Sheet} {rows₁ : List ℕ} → step .whole ≡ true → EndsLog (sheetOf (step .input) t (s .totals)) rows r rows₁
-        → Steps s step held rows octets r held₁ rows₁
+    pub steps-whole : {r : Sheet} {rows₁ kept₁ : List ℕ} → step .whole ≡ true
+        → EndsLog (sheetOf (step .input) t (s .totals)) held₁ rows kept r rows₁ kept₁
+        → Steps s step held rows kept octets r held₁ rows₁ kept₁
     unfolding settledOf
-    steps-whole {r} {rows₁} whole ends =
+    steps-whole {r} {rows₁} {kept₁} whole ends =
+        let stopped : keptNext (sheetOf (step .input) t (s .totals)) held₁ kept
+        ≡ keptNext (sheetOf (step .input) (tallyAfter (s .tally) held octets) (s .totals)) (stoodOf (s .tally .standing) held octets .held) kept =
+        λ j. keptNext (sheetOf (step .input) (takes .goes-on j) (s .totals)) (takes .holds j) kept in
         record {
           stands = rw whole (λ j. record {
             sheet = (ends .goes-on ∙ ap (λ (x : Tally). nextOf (sheetOf (step .input) x (s .totals))) (takes .goes-on)) j;
             held = takes .holds j;
             rows = (ends .rows-after ∙ ap (λ (x : Tally). rowsNext (sheetOf (step .input) x (s .totals)) rows) (takes .goes-on)) j;
+            kept = (ends .kept-after ∙ stopped) j;
           });
         }
 
-    pub steps-on : step .whole ≡ false → Steps s step held rows octets (sheetOf (step .input) t (s .totals)) held₁ rows
+    pub steps-on : step .whole ≡ false → Steps s step held rows kept octets (sheetOf (step .input) t (s .totals)) held₁ rows kept
     unfolding settledOf
     steps-on on =
         record {
@@ -85,6 +97,7 @@ module _ (s : Sheet) (step : Step) (rows : List ℕ) {held octets held₁ : List
             sheet = sheetOf (step .input) (takes .goes-on j) (s .totals);
             held = takes .holds j;
             rows = rows;
+            kept = kept;
           });
         }
 
@@ -151,9 +164,10 @@ pub record Going (s₀ : Stood) (piece : List ℕ) (s : Stood) (place : ℕ) : T
   pub within : place ≤ length piece
   pub stands : takenOf s (drop place piece) ≡ takenOf s₀ piece
   pub same : length (s .rows) ≡ length (s₀ .rows)
+  pub same-kept : length (s .kept) ≡ length (s₀ .kept)
 
 pub going-start : (s : Stood) (piece : List ℕ) → Going s piece s 0
-going-start s piece = record { within = omega arith; stands = refl; same = refl }
+going-start s piece = record { within = omega arith; stands = refl; same = refl; same-kept = refl }
 
 module _ {s₀ s : Stood} {piece : List ℕ} {place : ℕ} (g : Going s₀ piece s place) where
   module _ (here : place < length piece) {step : Step}
@@ -165,12 +179,12 @@ module _ {s₀ s : Stood} {piece : List ℕ} {place : ℕ} (g : Going s₀ piece
           (let facts = step-used (s .sheet .input) (getD piece place 0) (length piece - place) (omega (arith, here)) in
           (facts .0, omega (arith, facts .1, here), omega (arith, facts .2, here)))
 
-      pub going-turn : {r : Sheet} {held₁ rows₁ : List ℕ} {count : ℕ} → count ≡ step .octets
-          → Steps (s .sheet) step (s .held) (s .rows) (take count (drop place piece)) r held₁ rows₁
-          → length rows₁ ≡ length (s .rows)
-          → Going s₀ piece (record { sheet = r; held = held₁; rows = rows₁ }) (place + step .used)
+      pub going-turn : {r : Sheet} {held₁ rows₁ kept₁ : List ℕ} {count : ℕ} → count ≡ step .octets
+          → Steps (s .sheet) step (s .held) (s .rows) (s .kept) (take count (drop place piece)) r held₁ rows₁ kept₁
+          → length rows₁ ≡ length (s .rows) → length kept₁ ≡ length (s .kept)
+          → Going s₀ piece (record { sheet = r; held = held₁; rows = rows₁; kept = kept₁ }) (place + step .used)
       unfolding takenFrom
-      going-turn n steps kept =
+      going-turn n steps rows-same kept-same =
           let o : ℕ = getD piece place 0 in
           let os : List ℕ = drop (suc place) piece in
           let ahead : drop place piece ≡ o ∷ os = drop-cons piece place 0 here in
@@ -189,7 +203,8 @@ module _ {s₀ s : Stood} {piece : List ℕ} {place : ℕ} (g : Going s₀ piece
                 (is ∙ ap (stepOf (s .sheet .input) o) room)
                 ∙ ap (λ (l : List ℕ). takenOf s l) (sym ahead)
                 ∙ g .stands;
-            same = kept ∙ g .same;
+            same = rows-same ∙ g .same;
+            same-kept = kept-same ∙ g .same-kept;
           }
 
   pub going-end : length piece ≤ place → s ≡ takenOf s₀ piece

@@ -55,13 +55,13 @@ module _ {rows₀ : List ℕ} {all : Logs} where
       (is ∙ ap (withLogs done) (ends-in-log (4095 - length done) part (inputOf s .left) (w .some)))
 
 -- standard input
-module _ (held rows : List ℕ) (size : length held ≡ 49) where
+module _ (held rows kept : List ℕ) (size : length held ≡ 49) where
   started : (ps : List (List ℕ)) (rest : List ℕ)
-      → Stands rows (logsIn (joinedOf ps ++ rest)) (takenOver (standing 0 held rows) ps) rest
+      → Stands rows (logsIn (joinedOf ps ++ rest)) (takenOver (standing 0 held rows kept) ps) rest
   unfolding firstOf areDigits numberOn
   started ps rest =
-      past-pieces rows (logsIn (joinedOf ps ++ rest)) (standing 0 held rows) ps rest
-      (between [] [] (counted-start rows 0 held size)
+      past-pieces rows (logsIn (joinedOf ps ++ rest)) (standing 0 held rows kept) ps rest
+      (between [] [] (counted-start rows 0 held kept size)
       (record {
         none = refl;
         out = refl;
@@ -76,11 +76,11 @@ module _ (held rows : List ℕ) (size : length held ≡ 49) where
       refl)
 
   -- "what is printed is a definition over the log": however the input is divided among the reads, it is that of the whole input
-  pub any-division-table : (ps : List (List ℕ)) → 40960 ≤ length rows → printedOver held rows ps ≡ printedOf (joinedOf ps)
+  pub any-division-table : (ps : List (List ℕ)) → 40960 ≤ length rows → printedOver held rows kept ps ≡ printedOf (joinedOf ps)
   any-division-table ps room = ended room (started ps []) ∙ ap printedOf (append-nil (joinedOf ps))
 
   -- behind a refusal nothing more need be read: whatever comes, it is what is printed of the whole input
   pub refused-early : (ps : List (List ℕ)) (rest : List ℕ)
-      → (takenOver (standing 0 held rows) ps .sheet .input .refusal ≡ 0 → ⊥)
-      → printedOver held rows ps ≡ printedOf (joinedOf ps ++ rest)
+      → (takenOver (standing 0 held rows kept) ps .sheet .input .refusal ≡ 0 → ⊥)
+      → printedOver held rows kept ps ≡ printedOf (joinedOf ps ++ rest)
   refused-early ps rest some = stopped (started ps rest) some

@@ -1,6 +1,6 @@
 -- Wrong answers to the public functions: the contracts rule each of them out. Stated over the contracts themselves.
 -- Assumes nothing.
-use mathlib.Core.Bool.{true, true≢false}
+use mathlib.Core.Bool.{true, false, true≢false}
 use mathlib.Core.List.{List, [], _∷_}
 use mathlib.Core.Path.{_≡_, sym, _∙_, ap}
 use Prim.Native.Nat.{ℕ}
@@ -15,6 +15,8 @@ use Rattle.figures.specs.Adding.{rowsWith, closedOf}
 use Rattle.figures.specs.Code.{noCounts, capOf, capped, heldRow}
 use Rattle.figures.specs.Figures.{perMillion, rowOf, tooMany}
 use Rattle.figures.specs.Taking.{partNoted, notedBy, startTally}
+use Rattle.stops.specs.Kept.{keptWith}
+use Rattle.stops.specs.Stops.{endStop, stopOf}
 use Rattle.text.specs.declared.Put.{Put}
 use Rattle.text.specs.Text.{digitsOf}
 use Rattle.text.specs.Words.{words}
@@ -48,6 +50,8 @@ use Rattle.table.proofs.next_log.Kinds as next-kinds
 use Rattle.table.proofs.next_log.Reads as next-reads
 use Rattle.table.proofs.open_log.Kinds as open-kinds
 use Rattle.table.proofs.open_log.Reads as open-reads
+use Rattle.table.proofs.reads_on.Kinds as reads-on-kinds
+use Rattle.table.proofs.reads_on.Reads as reads-on-reads
 use Rattle.table.proofs.start.Kinds as start-kinds
 use Rattle.table.proofs.start.Reads as start-reads
 use Rattle.table.proofs.take.Kinds as take-kinds
@@ -62,6 +66,10 @@ counted : Unit {0}
 unfolding unfolded pieces.unfolded pieces.steps-unfolded stepsFrom stoodOf capOf capped heldRow perMillion rowOf tooMany rowsWith
     closedOf partNoted notedBy
 counted = tt
+
+stopped : Unit {0}
+unfolding unfolded pieces.unfolded pieces.steps-unfolded endStop stopOf keptWith
+stopped = tt
 
 printed : Unit {0}
 unfolding unfolded over digitsOf cellsOf
@@ -91,6 +99,13 @@ module _ (κs : Lfts 0) where
   unfolding unfolded
   most-files-not-refused x v wrong s = let right : x .input .refusal ≡ 0 = ap (λ (t : Sheet). t .input .refusal) s in omega arith
 
+  -- a sheet that reads on behind a refusal, and one that stops before
+  pub refused-reads-no-more : Never reads-on-kinds.ps reads-on-kinds.r reads-on-reads.Post κs (at (betweenOf 18 4096), tt) (λ x v. x ≡ true)
+  refused-reads-no-more x v wrong s = true≢false (sym wrong ∙ s)
+
+  pub whole-log-reads-on : Never reads-on-kinds.ps reads-on-kinds.r reads-on-reads.Post κs (at (betweenOf 0 7), tt) (λ x v. x ≡ false)
+  whole-log-reads-on x v wrong s = true≢false (sym s ∙ wrong)
+
   abbrev Opened : (Sheet → Type 0) → Type 0
   Opened Wrong = Never open-kinds.ps open-kinds.r open-reads.Post κs (at (betweenOf 0 2), tt) (λ x v. Wrong x)
 
@@ -119,12 +134,13 @@ module _ (κs : Lfts 0) where
   unfolding counted
   all-not-left-out x v wrong s = let right : x .lines ≡ 5 = ap (λ (e : Ended). e .lines) s in omega arith
 
-module _ (κs : Lfts 3) (p q r : Place) where
-  -- a piece of standard input, with twenty nines lent for rows
+module _ (κs : Lfts 4) (p q q₁ r : Place) where
+  -- a piece of standard input, with twenty nines lent for rows, and six for where logs stopped
   abbrev Taken : Sheet → List ℕ → (Sheet → List ℕ → Type 0) → Type 0
   Taken sheet piece Wrong =
       Never take-kinds.ps take-kinds.r take-reads.Post κs
-      (sheet, (lent p (replicate 49 0), (lent q (replicate 20 9), (lent r piece, tt)))) (λ x v. Wrong x (v .1 .1 .0))
+      (sheet, (lent p (replicate 49 0), (lent q (replicate 20 9), (lent q₁ (replicate 6 9), (lent r piece, tt)))))
+      (λ x v. Wrong x (v .1 .1 .0))
 
   -- a newline alone taken for a length of 0
   pub newline-no-length : Taken (startOf 0) (words "\n") (λ x rows. x .input .refusal ≡ 0)
@@ -172,21 +188,35 @@ module _ (κs : Lfts 3) (p q r : Place) where
   row-not-left-out x v wrong s =
       let right : getD (v .1 .1 .0) 0 0 ≡ 0 = ap (λ (t : Stood). getD (t .rows) 0 0) (s .stands) in omega arith
 
-module _ (κs : Lfts 1) (p : Place) where
-  abbrev Next : Input → (Sheet → List ℕ → Type 0) → Type 0
+module _ (κs : Lfts 2) (p q : Place) where
+  -- a log of no octets ends here: its header is refused by 11
+  abbrev Next : Input → (Sheet → List ℕ → List ℕ → Type 0) → Type 0
   Next i Wrong =
-      Never next-kinds.ps next-kinds.r next-reads.Post κs (at i, (lent p (replicate 30 9), tt)) (λ x v. Wrong x (v .1 .0))
+      Never next-kinds.ps next-kinds.r next-reads.Post κs
+      (at i, (replicate 49 0, (lent p (replicate 30 9), (lent q (replicate 9 9), tt)))) (λ x v. Wrong x (v .1 .1 .0) (v .1 .1 .1 .0))
+
+  -- a log whose header is refused, told as one that ended well
+  pub refused-log-not-well : Next (betweenOf 0 0) (λ x rows kept. getD kept 0 0 ≡ 0)
+  unfolding counted stopped
+  refused-log-not-well x v wrong s =
+      let right : getD (v .1 .1 .1 .0) 0 0 ≡ 1 = ap (λ (l : List ℕ). getD l 0 0) (s .kept-after) in omega arith
+
+  -- by which number, left out
+  pub refused-log-has-number : Next (betweenOf 0 0) (λ x rows kept. getD kept 1 0 ≡ 0)
+  unfolding counted stopped
+  refused-log-has-number x v wrong s =
+      let right : getD (v .1 .1 .1 .0) 1 0 ≡ 11 = ap (λ (l : List ℕ). getD l 1 0) (s .kept-after) in omega arith
 
   -- a whole log not counted, its row in the first log's place, and a log more than 4,096 taken
-  pub log-not-uncounted : Next seven (λ x rows. x .input .logs ≡ 2)
+  pub log-not-uncounted : Next seven (λ x rows kept. x .input .logs ≡ 2)
   unfolding counted
   log-not-uncounted x v wrong s = let right : x .input .logs ≡ 3 = ap (λ (t : Sheet). t .input .logs) (s .goes-on) in omega arith
 
-  pub row-not-first : Next seven (λ x rows. getD rows 0 0 ≡ 0)
+  pub row-not-first : Next seven (λ x rows kept. getD rows 0 0 ≡ 0)
   unfolding counted
-  row-not-first x v wrong s = let right : getD (v .1 .0) 0 0 ≡ 9 = ap (λ (l : List ℕ). getD l 0 0) (s .rows-after) in omega arith
+  row-not-first x v wrong s = let right : getD (v .1 .1 .0) 0 0 ≡ 9 = ap (λ (l : List ℕ). getD l 0 0) (s .rows-after) in omega arith
 
-  pub log-4097-not-taken : Next (betweenOf 0 4096) (λ x rows. x .input .refusal ≡ 0)
+  pub log-4097-not-taken : Next (betweenOf 0 4096) (λ x rows kept. x .input .refusal ≡ 0)
   unfolding counted
   log-4097-not-taken x v wrong s =
       let right : x .input .refusal ≡ 18 = ap (λ (t : Sheet). t .input .refusal) (s .goes-on) in omega arith

@@ -14,6 +14,8 @@ use Rattle.figures.specs.Code.{noCounts, capped}
 use Rattle.figures.specs.Figures.{plusOf}
 use Rattle.figures.specs.Sheets.{refusedBy}
 use Rattle.figures.specs.Taking.{startTally, tallyAfter}
+use Rattle.stops.specs.Kept.{keptWith}
+use Rattle.stops.specs.Stops.{stopOf}
 use Rattle.table.specs.declared.Ended.{Ended}
 use Rattle.table.specs.declared.Input.{Input}
 use Rattle.table.specs.declared.Sheet.{Sheet}
@@ -93,11 +95,12 @@ lastOf i =
 abbrev pub startOf : ℕ → Sheet
 startOf files = record { input = firstOf files; tally = startTally; totals = noCounts }
 
--- where a sheet stands: itself, and what the lent array and the lent rows hold
+-- where a sheet stands: itself, and what the lent array, the lent rows and the lent run of where logs stopped hold
 pub record Stood : Type 0 where
   pub sheet : Sheet
   pub held : List ℕ
   pub rows : List ℕ
+  pub kept : List ℕ
 
 -- with the log of a file that begins
 abbrev pub openedOf : Sheet → Sheet
@@ -115,10 +118,15 @@ nextOf s =
 abbrev pub rowsNext : Sheet → List ℕ → List ℕ
 rowsNext s rows = rowsWith rows (s .input .logs) (s .tally .noted .counts)
 
--- the whole promise of a log's end: the answer, and what the lent rows hold afterwards
-pub record EndsLog (s : Sheet) (rows : List ℕ) (answer : Sheet) (rows₁ : List ℕ) : Type 0 where
+-- and where it stopped
+abbrev pub keptNext : Sheet → List ℕ → List ℕ → List ℕ
+keptNext s held kept = keptWith kept (s .input .logs) (stopOf (s .tally .standing) held)
+
+-- the whole promise of a log's end: the answer, and what the lent runs hold afterwards
+pub record EndsLog (s : Sheet) (held rows kept : List ℕ) (answer : Sheet) (rows₁ kept₁ : List ℕ) : Type 0 where
   pub goes-on : answer ≡ nextOf s
   pub rows-after : rows₁ ≡ rowsNext s rows
+  pub kept-after : kept₁ ≡ keptNext s held kept
 
 -- where a sheet stands behind octets of a log, with the input there
 abbrev pub countedBy : Stood → Input → List ℕ → Stood
@@ -127,11 +135,18 @@ countedBy s i octets =
       sheet = record { input = i; tally = tallyAfter (s .sheet .tally) (s .held) octets; totals = s .sheet .totals };
       held = stoodOf (s .sheet .tally .standing) (s .held) octets .held;
       rows = s .rows;
+      kept = s .kept;
     }
 
 -- and behind a log's end
 abbrev pub logEnded : Stood → Stood
-logEnded s = record { sheet = nextOf (s .sheet); held = s .held; rows = rowsNext (s .sheet) (s .rows) }
+logEnded s =
+    record {
+      sheet = nextOf (s .sheet);
+      held = s .held;
+      rows = rowsNext (s .sheet) (s .rows);
+      kept = keptNext (s .sheet) (s .held) (s .kept);
+    }
 
 -- a step: the log ends where it is whole
 unfoldable pub settledOf : Bool → Stood → Stood
@@ -140,9 +155,9 @@ settledOf whole s = cond whole (logEnded s) s
 abbrev pub steppedBy : Step → Stood → List ℕ → Stood
 steppedBy step s octets = settledOf (step .whole) (countedBy s (step .input) octets)
 
-pub record Steps (s : Sheet) (step : Step) (held rows octets : List ℕ) (answer : Sheet) (held₁ rows₁ : List ℕ) : Type 0 where
-  pub stands : record { sheet = answer; held = held₁; rows = rows₁ }
-      ≡ steppedBy step (record { sheet = s; held = held; rows = rows }) octets
+pub record Steps (s : Sheet) (step : Step) (held rows kept octets : List ℕ) (answer : Sheet) (held₁ rows₁ kept₁ : List ℕ) : Type 0 where
+  pub stands : record { sheet = answer; held = held₁; rows = rows₁; kept = kept₁ }
+      ≡ steppedBy step (record { sheet = s; held = held; rows = rows; kept = kept }) octets
 
 -- what the octets ahead are
 abbrev pub stepAt : Stood → ℕ → List ℕ → Step
@@ -160,10 +175,10 @@ takenFrom zero s (octet ∷ octets) =
 abbrev pub takenOf : Stood → List ℕ → Stood
 takenOf s piece = takenFrom 0 s piece
 
--- the whole promise of a piece: the answer, and what the lent array and the lent rows hold afterwards
-pub record Takes (s : Sheet) (held rows piece : List ℕ) (answer : Sheet) (held₁ rows₁ : List ℕ) : Type 0 where
-  pub stands : record { sheet = answer; held = held₁; rows = rows₁ }
-      ≡ takenOf (record { sheet = s; held = held; rows = rows }) piece
+-- the whole promise of a piece: the answer, and what the lent array and the lent runs hold afterwards
+pub record Takes (s : Sheet) (held rows kept piece : List ℕ) (answer : Sheet) (held₁ rows₁ kept₁ : List ℕ) : Type 0 where
+  pub stands : record { sheet = answer; held = held₁; rows = rows₁; kept = kept₁ }
+      ≡ takenOf (record { sheet = s; held = held; rows = rows; kept = kept }) piece
 
 -- a sheet that is refused, and one that isn't, at its end
 abbrev pub refusedEnd : Answer → Ended
@@ -205,21 +220,21 @@ unfoldable pub takenOver : Stood → List (List ℕ) → Stood
 takenOver s [] = s
 takenOver s (piece ∷ pieces) = takenOver (takenOf s piece) pieces
 
-abbrev pub standing : ℕ → List ℕ → List ℕ → Stood
-standing files held rows = record { sheet = startOf files; held = held; rows = rows }
+abbrev pub standing : ℕ → List ℕ → List ℕ → List ℕ → Stood
+standing files held rows kept = record { sheet = startOf files; held = held; rows = rows; kept = kept }
 
 -- all that is printed of standard input in pieces
-abbrev pub printedOver : List ℕ → List ℕ → List (List ℕ) → List ℕ
-printedOver held rows pieces = linesOf (takenOver (standing 0 held rows) pieces)
+abbrev pub printedOver : List ℕ → List ℕ → List ℕ → List (List ℕ) → List ℕ
+printedOver held rows kept pieces = linesOf (takenOver (standing 0 held rows kept) pieces)
 
 -- files one after the other, each in pieces
 abbrev pub logOpened : Stood → Stood
-logOpened s = record { sheet = openedOf (s .sheet); held = s .held; rows = s .rows }
+logOpened s = record { sheet = openedOf (s .sheet); held = s .held; rows = s .rows; kept = s .kept }
 
 unfoldable pub filesOver : Stood → List (List (List ℕ)) → Stood
 filesOver s [] = s
 filesOver s (file ∷ files) = filesOver (logEnded (takenOver (logOpened s) file)) files
 
 -- and all that is printed of them
-abbrev pub printedOverFiles : List ℕ → List ℕ → List (List (List ℕ)) → List ℕ
-printedOverFiles held rows files = linesOf (filesOver (standing (length files) held rows) files)
+abbrev pub printedOverFiles : List ℕ → List ℕ → List ℕ → List (List (List ℕ)) → List ℕ
+printedOverFiles held rows kept files = linesOf (filesOver (standing (length files) held rows kept) files)

@@ -6,6 +6,7 @@ use figures::Tally;
 use logs::Step;
 use text::Put;
 ghost use mathlib.Core.Path.{_≡_};
+ghost use lib.Dec.{eqb};
 ghost use Rattle.table.specs.Table.{Prints};
 ghost use Rattle.table.specs.Taking.{startOf, openedOf, endedOf, lineOf, EndsLog, Steps, Takes};
 
@@ -71,13 +72,24 @@ pub fn open_log(sheet: Sheet) -> Sheet
     }
 }
 
-// Adds the log that is counted, which ends here, and writes its row. The next one may begin. 18 for a log behind the 4,096th.
-pub fn next_log(sheet: Sheet, rows: &mut [u32]) -> Sheet
-    ensures { λ r. ⌜ EndsLog sheet (now (rows .entry)) r (now (rows .exit)) ⌝ }
+// Whether more octets could change the sheet: not behind a refusal.
+pub fn reads_on(sheet: Sheet) -> bool
+    ensures { λ r. ⌜ r ≡ eqb (sheet .input .refusal) 0 ⌝ }
+{
+    let input = sheet.input;
+    input.refusal == 0
+}
+
+// Adds the log that is counted, which ends here, writes its row, and keeps where it stopped. The next one may begin. 18 for a log
+// behind the 4,096th.
+pub fn next_log(sheet: Sheet, held: [u8; 49], rows: &mut [u32], kept: &mut [u64]) -> Sheet
+    ensures { λ r. ⌜ EndsLog sheet held (now (rows .entry)) (now (kept .entry)) r (now (rows .exit)) (now (kept .exit)) ⌝ }
 {
     let input = sheet.input;
     let counted = sheet.tally;
     let noted = counted.noted;
+    let stop = stops::of(counted.standing, held);
+    stops::keep(kept, input.logs, stop);
     let totals = figures::add(rows, input.logs, sheet.totals, noted.counts);
     let behind = logs::next(input);
     let tally = figures::start();
@@ -89,9 +101,16 @@ pub fn next_log(sheet: Sheet, rows: &mut [u32]) -> Sheet
 }
 
 // Counts octets of a log, with the input behind them. Where the log is whole it is added.
-fn stepped(sheet: Sheet, step: Step, held: &mut [u8; 49], rows: &mut [u32], octets: &[u8]) -> Sheet
-    ensures { λ r. ⌜ Steps sheet step (now (held .entry)) (now (rows .entry)) (now (octets .entry)) r (now (held .exit))
-        (now (rows .exit)) ⌝ }
+fn stepped(
+    sheet: Sheet,
+    step: Step,
+    held: &mut [u8; 49],
+    rows: &mut [u32],
+    kept: &mut [u64],
+    octets: &[u8],
+) -> Sheet
+    ensures { λ r. ⌜ Steps sheet step (now (held .entry)) (now (rows .entry)) (now (kept .entry)) (now (octets .entry)) r
+        (now (held .exit)) (now (rows .exit)) (now (kept .exit)) ⌝ }
 {
     let input = step.input;
     let totals = sheet.totals;
@@ -102,23 +121,30 @@ fn stepped(sheet: Sheet, step: Step, held: &mut [u8; 49], rows: &mut [u32], octe
         totals,
     };
     if step.whole {
-        return next_log(counted, rows);
+        return next_log(counted, *held, rows, kept);
     }
     counted
 }
 
 // Takes a piece of standard input, digits of a length or octets of a log, or a piece of a file. The octets of a record that isn't
-// whole yet are held in `held`; each log that is whole has its row written into `rows`. Behind a refusal nothing is read.
-pub fn take(sheet: Sheet, held: &mut [u8; 49], rows: &mut [u32], piece: &[u8]) -> Sheet
-    ensures { λ r. ⌜ Takes sheet (now (held .entry)) (now (rows .entry)) (now (piece .entry)) r (now (held .exit))
-        (now (rows .exit)) ⌝ }
+// whole yet are held in `held`; each log that is whole has its row written into `rows`, and where it stopped into `kept`. Behind a
+// refusal nothing is read.
+pub fn take(
+    sheet: Sheet,
+    held: &mut [u8; 49],
+    rows: &mut [u32],
+    kept: &mut [u64],
+    piece: &[u8],
+) -> Sheet
+    ensures { λ r. ⌜ Takes sheet (now (held .entry)) (now (rows .entry)) (now (kept .entry)) (now (piece .entry)) r
+        (now (held .exit)) (now (rows .exit)) (now (kept .exit)) ⌝ }
 {
     let mut going = sheet;
     let mut place = 0;
     while place < piece.len() {
         let step = logs::ahead(going.input, piece[place], piece.len() - place);
         let end = place + step.octets;
-        going = stepped(going, step, held, rows, &piece[place..end]);
+        going = stepped(going, step, held, rows, kept, &piece[place..end]);
         place += step.used;
     }
     going

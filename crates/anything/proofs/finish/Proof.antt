@@ -24,5 +24,5 @@ print-requires c κs = writes-whole (c .before .before .put-line .ensures) (omeg
 pub finish-spec : {M : Type 1} → statement M
 finish-spec =
     tie.close
-    (tie.spec (search needs) (search needs) (search needs) array-share-prefix-text slice-aggregate-print print-requires
-    (search needs))
+    (tie.spec (search needs) (search needs) (search needs) array-share-prefix-text slice-aggregate-print print-requires (search needs)
+    (search needs) (search needs) (search needs) (search needs))

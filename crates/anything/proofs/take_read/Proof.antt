@@ -1,22 +1,16 @@
 -- `anything::take_read` meets its contract.
 -- Assumes nothing.
-use mathlib.Core.Path.{_∙_, ap}
+use mathlib.Core.Path.{sym}
 use borrow.Author.Needs.{needs}
-use lib.IntN.{ℤ}
-use lib.ListN.{length}
-use mir.Facts.{toZ-ofZ}
-use Rattle.io.specs.Counts.{clamped}
-use Rattle.anything.proofs.Laws.{handed-on}
+use lib.Seq.{length-take-le}
 use Rattle.anything.proofs.take_read.Statement.{statement}
 use Rattle.anything.proofs.take_read.Tie as tie
 
+slice-aggregate-take : tie.Need-slice-aggregate-take
+slice-aggregate-take c = sym (length-take-le _ _ (c .before .before .before .pre))
+
 returns : tie.Need-returns
-returns c =
-    let at-count = c .before .before .before in
-    let start = at-count .before .before in
-    let said = at-count .count .ensures .1 ∙ ap (λ (z : ℤ). clamped z (length (start .args .buffer .now)))
-    (toZ-ofZ (start .fits .got)) in
-    handed-on (start .args .buffer .now) said (c .take .ensures)
+returns c = c .take .ensures
 
 pub take-read-spec : {M : Type 1} → statement M
-take-read-spec = tie.close (tie.spec (search needs) (search needs) (search needs) returns)
+take-read-spec = tie.close (tie.spec slice-aggregate-take (search needs) returns)

@@ -1,0 +1,14 @@
+-- `source::goes_on` meets its contract.
+-- Assumes nothing.
+use borrow.Author.Tests.{eq-eqb, ne-eqb}
+use Rattle.source.proofs.turns.goes_on.Statement.{statement}
+use Rattle.source.proofs.turns.goes_on.Tie as tie
+
+returns : tie.Need-returns
+returns c = rw (ne-eqb _ _ (c .if1 .taken))
+
+returns-2 : tie.Need-returns-2
+returns-2 c = rw (eq-eqb _ _ (c .if1 .left))
+
+pub goes-on-spec : {M : Type 1} → statement M
+goes-on-spec = tie.close (tie.spec returns returns-2)

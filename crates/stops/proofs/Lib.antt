@@ -1,0 +1,4 @@
+pub mod One
+pub mod Places
+pub mod Said
+pub mod Wrong
