@@ -65,7 +65,7 @@ if [ "${RIME_LIB:-$PWD/target/staticlib}" != "$PWD/target/staticlib" ]; then
 fi
 make --no-print-directory lib "TARGET=$other"
 emulator=$(dirname "$(dirname "$(rt doc)")")/on/$machine/toolchain/bin/qemu-$other
-[ -x "$emulator" ] || emulator=$(command -v "qemu-$other" || command -v "qemu-$other-static" || true)
+[ -x "$emulator" ] || emulator=$(command -v "qemu-$other" || command -v "qemu-$other-static" || echo)
 if [ -n "$emulator" ]; then
     answers "$other" "target/$other" "$emulator"
 else

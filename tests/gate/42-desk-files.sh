@@ -40,7 +40,7 @@ mkfifo pipe
 exec 8<> pipe # so that it has a reader
 ends 0 "pipe: isn't a regular file: what is written into it can't be taken back" "$desk" salvage small.log pipe --force
 [ -p pipe ] || fail "a pipe was replaced by a file"
-timeout 5 head -c 983 <&8 > got || true
+timeout 5 head -c 983 <&8 > got || fail "a log through a pipe is shorter"
 same small.log got "a log through a pipe"
 if mknod null c 1 3 2> /dev/null && : 2> /dev/null > null; then
     ends 0 "end 20 kept 0 left out 0 cut" "$desk" salvage small.log null --force
@@ -55,7 +55,7 @@ same small.log got "a log by standard output's other name"
 "$desk" salvage -q small.log stdout --force >> got 2> said
 cat small.log small.log | cmp - got || fail "what is added to a file by standard output's other name"
 ends 3 "pipe: isn't whole, and what was written there can't be taken back" hooked 2 60000 "$desk" salvage read.log pipe --force
-timeout 5 head -c 50000 <&8 > got || true
+timeout 5 head -c 50000 <&8 > got || true # empties the pipe; what lies in it is no file
 
 # Links are followed, the mode and the owner stay, and everything reaches the disk before it is said to be well.
 mkdir near far

@@ -42,8 +42,8 @@ PY
 # Octet for octet what the program prints, which takes no log that can't be read and no more than 4,096.
 as_program() { # LOG..
     if [ ! -x "$here/target/bin/sheet" ]; then return; fi
-    { "$here/target/bin/sheet" "$@" 2> /dev/null || true; } > theirs
-    { "$desk" sheet -q --plain "$@" 2> /dev/null || true; } > ours
+    "$here/target/bin/sheet" "$@" > theirs 2> /dev/null # a program always ends with 0
+    "$desk" sheet -q --plain "$@" > ours 2> /dev/null || [ $? -le 3 ] || fail "a plain sheet ended with a signal"
     same theirs ours "a plain sheet isn't that of the program"
 }
 as_program "${logs[@]}"
@@ -57,7 +57,7 @@ parts() {
     local part
     for part in "small.log $1" "torn.log in.log" "empty.log"; do
         # shellcheck disable=SC2086
-        "$desk" sheet -q $part 2> /dev/null || true
+        "$desk" sheet -q $part 2> /dev/null || [ $? -le 3 ] || fail "the sheet of a part ended with a signal"
     done
 }
 parts nosuch.log > parts.csv

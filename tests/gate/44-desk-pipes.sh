@@ -56,7 +56,7 @@ mkfifo pipe.flac pipe.wav
 ends 64 "only WAV can be written into a pipe or a device" "$desk" receive small.log pipe.flac --force
 exec 9<> pipe.wav
 ends 0 "pipe.wav: isn't a regular file" "$desk" receive -q small.log pipe.wav --force
-timeout 5 head -c 764 <&9 > got.wav || true
+timeout 5 head -c 764 <&9 > got.wav || fail "WAV through a pipe is shorter"
 "$desk" receive -q small.log - | cmp - got.wav || fail "WAV through a pipe"
 to_full() { "$desk" "$@" > /dev/full; }
 ends 3 "standard output: No space left on device" to_full receive -q in.log -
