@@ -12,4 +12,5 @@ pub mod Refused
 pub mod Requests
 pub mod Sent
 pub mod Slots
+pub mod Streams
 pub mod WrongBoxes

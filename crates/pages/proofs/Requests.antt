@@ -1,15 +1,17 @@
 -- Requests 1, 3, 6, 7, 9, 11, 12, 13 and 14 of document 02, on one page: each sentence beside its theorem, of the C calls where there is
 -- one, each proof a citation. What a C call promises is the record that its `ensures` names.
 -- Assumes nothing.
-use mathlib.Core.List.{List, _++_}
+use mathlib.Core.List.{List, _∷_, _++_}
 use mathlib.Core.Path.{_≡_, ap}
-use Prim.Native.Nat.{ℕ, _*_, _≤_, _<_}
+use Prim.Native.Nat.{ℕ, _+_, _*_, _≤_, _<_}
 use denote.Ref.{now}
 use lib.ListN.{length, getD, take, drop}
+use Rattle.formats.specs.Formats.{formatOf}
 use Rattle.log.specs.Records.{headerOf}
 use Rattle.reading.specs.Heard.{soundIn}
 use Rattle.reading.specs.Reading.{readingOf, freshOf, behindHeader}
 use Rattle.reading.specs.Records.{recordsIn}
+use Rattle.reading.specs.Totals.{Each}
 use Rattle.pieces.specs.Taken.{joinedOf}
 use Rattle.listing.specs.declared.Tally.{Tally}
 use Rattle.listing.specs.List.{listTo}
@@ -26,6 +28,8 @@ use Rattle.salvaging.specs.Taking as T
 use Rattle.salvaging.proofs.Whole as salvaging
 use Rattle.figures.specs.Sheets.{sumOf, AddUp}
 use Rattle.cable.specs.Back.{Halves, SameFrame}
+use Rattle.cable.specs.Frames.{exportOf}
+use Rattle.cable.specs.Rows.{pairAt}
 use Rattle.units.specs.Back as U
 use Rattle.units.proofs.Back as units
 use Rattle.rimesatchel.specs.Contents.{presenceNumbers}
@@ -52,14 +56,35 @@ use Rattle.pages.specs.Papers.{
   MeetsUnitFace,
   readOfFace,
 }
+use Rattle.pages.specs.Rows.{
+  Cell,
+  Crosses,
+  samplesOut,
+  ancillaryOut,
+  TwoOf56,
+  CarriesFrames,
+  framesIn,
+  ExportsRow,
+  RowBack,
+}
 use Rattle.pages.proofs.Asked as Asked
 use Rattle.pages.proofs.Ended as Ended
+use Rattle.pages.proofs.Streams as Streams
 
 -- 1. "Export of an imported frame gives the same slots 4 to 31 and the same preambles."
 pub frame-back : (preambles subframes samples ancillary preambles₁ subframes₁ : List ℕ) (x y : ℕ) → Halves preambles subframes
     → ImportedFrame preambles subframes x samples ancillary → x ≡ 0 → ExportedFrame samples ancillary y preambles₁ subframes₁
     → SameFrame preambles subframes (record { refusal = y; preambles = preambles₁; subframes = subframes₁ })
 frame-back = Asked.frame-back
+
+-- "Demands 2 and 3 read on as they are": of a row of cells of 56 hex with two channels, taken unaltered with whatever was missing before
+-- each, every frame that was imported into one of them stands behind the frames of the cells before it, and is exported as it came.
+pub frames-arrive : (before : List Cell) (x : Cell) (later : List Cell) → Each TwoOf56 before → TwoOf56 x
+    → (preambles subframes : ℕ → List ℕ) → CarriesFrames preambles subframes x → (k : ℕ) → k < 6
+    → SameFrame (preambles k) (subframes k)
+    (exportOf (pairAt (samplesOut (before ++ (x ∷ later))) (framesIn before + (x .got .answer .missing * 6 + k)))
+    (pairAt (ancillaryOut (before ++ (x ∷ later))) (framesIn before + (x .got .answer .missing * 6 + k))))
+frames-arrive = Streams.frames-back
 
 -- 3. "sheets of two lists joined add up to the sheet of the joined list, if that isn't refused, the per-million line apart"
 pub sheets-add-up : {octets more lengths others rows rows′ rows″ rows-a rows-b rows-joined a b joined : List ℕ} {x y z : ℕ}
@@ -155,6 +180,13 @@ pub back-whole : (e : UnitsFace) → MeetsUnitsFace e → e .refusal ≡ 0 → (
 back-whole e meets left reads each =
     units.back-whole (exportOfFace e) (Asked.units-as e meets) left (λ k. readOfFace (reads k))
     (λ k less. (each k less .0, Asked.unit-as (reads k) (each k less .1)))
+
+-- "Export what the receiver wrote": of a row of cells without overhead, taken unaltered, all that was handed out leaves as data units, and
+-- reading them gives every sample and ancillary number that was sent.
+pub units-come-back : (cells : List Cell) → Each (λ x. Crosses x × (formatOf (x .sent .state .format) .«overhead_bits» ≡ 0)) cells
+    → (e : U.ExportCall) → ExportsRow cells e → U.MeetsExport e → e .answer .refusal ≡ 0 → (reads : ℕ → U.ReadCall)
+    → ((k : ℕ) → k < e .answer .units → U.ReadsUnit e k (reads k) × U.MeetsRead (reads k)) → RowBack cells e reads
+units-come-back = Streams.units-back
 
 -- 14. "However the log is divided among the reads, the lines printed and the state at the end are those of the whole": the state is that of
 -- a fresh receiver behind all records within the limit, and the counts are counts over them.
