@@ -7,7 +7,9 @@ use lib.ListN.{length, getD, take, drop}
 use Rattle.runs.specs.Runs.{over}
 use Rattle.log.specs.Records.{headerOf}
 use Rattle.pieces.specs.Taken.{joinedOf}
+use Rattle.text.specs.Words.{words}
 use Rattle.listing.specs.Lines.{logRefusedLine}
+use Rattle.listing.specs.List.{listOf}
 use Rattle.listing.specs.Taking.{startOf, writtenOver}
 use Rattle.listing.proofs.Refused as listing
 use Rattle.status.specs.Bits.{bitOf}
@@ -20,9 +22,11 @@ use Rattle.rimesatchel.specs.Kept.{ListedOctets}
 use Rattle.rimesatchel.specs.Statuses.{SteppedOctets}
 use Rattle.line.specs.Contracts.{MeetsReadCell, MeetsNextPlace}
 use Rattle.line.specs.Demands.{recordTable}
+use Rattle.pages.specs.Papers.{paper'sLog}
 use Rattle.pages.proofs.Asked as Asked
 use Rattle.pages.proofs.Characters as Characters
 use Rattle.pages.proofs.Logged as Logged
+use Rattle.pages.proofs.Printed as Printed
 
 -- "After 192 bits .. the block of 24 octets is handed out by value": calls of `rime_status_step` in a row, each with the block that the one
 -- before it left, whatever block was under assembly. A sender's 192 C bits, B set on the first, with marks 0 or 1, bring out those octets
@@ -73,3 +77,7 @@ list-refused = listing.refused-over
 pub list-refused-whole : (log run : List ℕ) (refusal : ℕ) (after numbers : List ℕ) → ListedOctets log run refusal after numbers
     → (headerOf log .refusal ≡ 0 → ⊥) → after ≡ over (take (length run) (logRefusedLine (headerOf log .refusal))) run
 list-refused-whole = Logged.refused-listed
+
+-- "For 56 02 00, then twice 00 and the zero cell below, it prints exactly": the four lines
+pub prints-exactly : listOf paper'sLog ≡ words "format 86 2 0\n0 sound 0 number 0\n1 refused 9\nend 1 sound 0 missing 1 refused\n"
+prints-exactly = Printed.prints-exactly

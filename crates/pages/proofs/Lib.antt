@@ -7,6 +7,7 @@ pub mod Ended
 pub mod Face
 pub mod Linked
 pub mod Logged
+pub mod Printed
 pub mod Read
 pub mod Refused
 pub mod Requests

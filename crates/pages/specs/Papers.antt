@@ -1,6 +1,6 @@
 -- Words of the pages on channel status, the log, its list and the requests, of the C calls where there is one.
 -- Assumes nothing.
-use mathlib.Core.List.{List, []}
+use mathlib.Core.List.{List, [], _∷_}
 use mathlib.Core.Path.{_≡_}
 use Prim.Native.Nat.{ℕ, suc, _+_, _≤_, _<_}
 use lib.ListN.{length, getD, take, drop}
@@ -97,3 +97,13 @@ readOfFace c =
       samples-after = c .samples-after;
       ancillary-after = c .ancillary-after;
     }
+
+-- document 01: "For 56 02 00, then twice 00 and the zero cell": 00 00 00 07 four times, 00 00 00 0F four times, 00 00 00 07 four times
+abbrev pub fourSlots : ℕ → List ℕ → List ℕ
+fourSlots low rest = 0 ∷ 0 ∷ 0 ∷ low ∷ 0 ∷ 0 ∷ 0 ∷ low ∷ 0 ∷ 0 ∷ 0 ∷ low ∷ 0 ∷ 0 ∷ 0 ∷ low ∷ rest
+
+abbrev pub zeroRecord : List ℕ → List ℕ
+zeroRecord rest = 0 ∷ fourSlots 7 (fourSlots 15 (fourSlots 7 rest))
+
+abbrev pub paper'sLog : List ℕ
+paper'sLog = 0x56 ∷ 2 ∷ 0 ∷ zeroRecord (zeroRecord [])
