@@ -5,17 +5,15 @@ use mathlib.Core.List.{List, [], _∷_, _++_}
 use mathlib.Core.Path.{_≡_, refl, sym, _∙_, ap, subst}
 use Prim.Native.Nat.{ℕ, zero, suc, _+_, _≤_, _<_}
 use native.Mathlib.Omega.{arith}
-use borrow.Author.Tests.{eq-eqb, ne-eqb, eqb-true, eqb-false}
+use borrow.Author.Tests.{eq-eqb, ne-eqb, eqb-true}
 use lib.Dec.{eqb, ltb}
 use lib.ListN.{length, getD, take, drop}
-use Rattle.runs.specs.Runs.{joined}
 use Rattle.runs.proofs.Laws.{split}
 use Rattle.log.specs.declared.Header.{Header}
 use Rattle.log.specs.Records.{headerOf}
-use Rattle.reading.specs.Heard.{soundIn, isSound}
+use Rattle.reading.specs.Heard.{soundIn}
 use Rattle.reading.specs.Reading.{readingOf, freshOf, behindHeader}
 use Rattle.reading.specs.Records.{recordsIn}
-use Rattle.presence.specs.declared.Presence.{Presence}
 use Rattle.presence.specs.Handed.{FirstIn, AllSilent}
 use Rattle.presence.specs.Presence.{presenceOf}
 use Rattle.presence.proofs.Theorems as presence
@@ -33,19 +31,18 @@ use Rattle.status.specs.Step.{bOf, cOf, noBlock, fitOf, unfinished, finished, i
 use Rattle.status.specs.declared.step.Block.{Block}
 use Rattle.status.specs.declared.step.Stepped.{Stepped}
 use Rattle.status.proofs.Sent as status
-use Rattle.cable.specs.declared.Exported.{Exported}
 use Rattle.cable.specs.Back.{Halves, SameFrame}
 use Rattle.cable.specs.Frames.{importOf, exportOf}
 use Rattle.cable.proofs.Back as cable
 use Rattle.circuits.specs.declared.Verdict.{Verdict}
 use Rattle.circuits.specs.declared.Verdict.the-variants.{Refused, Yes, Share, Allowance, Sum}
-use Rattle.circuits.specs.Circuits.{refusalOf, answerOf, circuitOf, checkedOf, checkRefusal, octetRefusal}
+use Rattle.circuits.specs.Circuits.{answerOf, circuitOf, checkedOf, checkRefusal, octetRefusal}
 use Rattle.circuits.proofs.Checked as circuits
 use Rattle.units.specs.Back as U
 use Rattle.rimesatchel.specs.Contents.{presenceNumbers}
 use Rattle.rimesatchel.specs.Frames.{ImportedFrame, ExportedFrame}
 use Rattle.rimesatchel.specs.Plans.{CheckedPlan}
-use Rattle.rimesatchel.specs.Salvages.{countNumbers, SalvagedLog}
+use Rattle.rimesatchel.specs.Salvages.{SalvagedLog}
 use Rattle.rimesatchel.specs.Statuses.{blockOf, SteppedOctets}
 use Rattle.line.proofs.Demands as line
 use Rattle.pages.specs.Papers.{

@@ -2,14 +2,10 @@
 -- back as it went in and nothing lent changes." Each statement is over the call's own `ensures`. What a call only reports through is zeros
 -- where it refuses ("any other reported number 0", "zeros from an opening"); a run with a length, a state and a block are as they were lent.
 -- Assumes nothing.
-use mathlib.Core.Bool.{cond, _||_}
-use mathlib.Core.List.{List, [], _∷_}
-use mathlib.Core.Path.{_≡_, sym, _∙_, ap}
-use Prim.Native.Nat.{ℕ}
-use borrow.Author.Tests.{ne-eqb}
+use mathlib.Core.Bool.{cond}
+use mathlib.Core.Path.{_≡_}
 use denote.Ref.{now}
-use lib.Dec.{eqb}
-use lib.ListN.{length, getD, drop, replicate}
+use lib.ListN.{length, getD, replicate}
 use Rattle.formats.specs.Formats.{settingsRefusal}
 use Rattle.sender.specs.Sender as S
 use Rattle.receiver.specs.Receiver as R
@@ -18,7 +14,6 @@ use Rattle.status.specs.Check.{checkCharacter}
 use Rattle.log.specs.Numbers.{numberAt}
 use Rattle.log.specs.Records.{headerRefusal, secondNumber, thirdNumber}
 use Rattle.log.specs.Written.{headerRefused, recordRefusal}
-use Rattle.listing.specs.List.{listOf}
 use Rattle.saving.specs.Salvage.{salvageRefusal}
 use Rattle.figures.specs.Sheets.{sheetRefusal}
 use Rattle.cable.specs.Frames.{importRefusal, exportRefusal}

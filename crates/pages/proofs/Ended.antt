@@ -2,7 +2,7 @@
 -- Assumes nothing.
 use mathlib.Core.Bool.{true, false, cond, not}
 use mathlib.Core.List.{List, [], _∷_, _++_, map}
-use mathlib.Core.Path.{_≡_, refl, sym, _∙_, ap}
+use mathlib.Core.Path.{_≡_, sym, _∙_, ap}
 use Prim.Native.Nat.{ℕ, suc, _+_, _*_, _%_, _-_, _^_, _≤_, _<_}
 use native.Mathlib.Nat.{mod-eq-of-lt}
 use native.Mathlib.Omega.{arith}
@@ -12,8 +12,7 @@ use Rattle.text.proofs.Short.{take-to}
 use Rattle.runs.proofs.Laws.{split}
 use Rattle.log.specs.Records.{headerOf}
 use Rattle.receiver.specs.declared.Receiver.{Receiver}
-use Rattle.receiver.specs.declared.Received.{Received}
-use Rattle.reading.specs.Records.{Whole, recordsIn}
+use Rattle.reading.specs.Records.{Whole}
 use Rattle.reading.specs.Heard.{Heard, heardBy, endBy, hear, onward, heardFrom, endOf, isSound, soundIn, missingIn, refusedIn}
 use Rattle.reading.specs.Reading.{freshOf, behindHeader}
 use Rattle.reading.specs.Totals.{totalOf}
@@ -21,7 +20,7 @@ use Rattle.reading.proofs.Heard.{missing-few, refused-missing}
 use Rattle.reading.proofs.Records.{octets-counted}
 use Rattle.pieces.specs.Limit.{Part, whole, recordsTo, faultTo, endPart, partsOf}
 use Rattle.pieces.specs.Steps.{takingOf, stoodOf, handedOver}
-use Rattle.pieces.specs.Taken.{Taking, endParts, joinedOf, handed}
+use Rattle.pieces.specs.Taken.{Taking, endParts, joinedOf}
 use Rattle.pieces.proofs.Walks.{division-parts}
 use Rattle.listing.specs.declared.Listing.{Listing}
 use Rattle.listing.specs.declared.Tally.{Tally}

@@ -1,7 +1,7 @@
 -- Demands 2 and 3 of the C calls, on one page: `rime_send` and `rime_receive` with their states of octets. Each proof is a citation.
 -- Assumes nothing.
 use mathlib.Core.List.{List, map, flatMap}
-use mathlib.Core.Path.{_≡_, refl, sym, _∙_, ap, ap₂, subst}
+use mathlib.Core.Path.{_≡_, sym, _∙_, ap, ap₂}
 use Prim.Native.Nat.{ℕ, _+_, _≤_}
 use denote.Ref.{now}
 use lib.Dec.{eqb}
@@ -15,9 +15,8 @@ use Rattle.rimesatchel.proofs.boxes.rime_send.Kinds as send-kinds
 use Rattle.rimesatchel.proofs.boxes.rime_send.Reads as send-reads
 use Rattle.rimesatchel.proofs.boxes.rime_receive.Kinds as receive-kinds
 use Rattle.rimesatchel.proofs.boxes.rime_receive.Reads as receive-reads
-use Rattle.line.specs.Contracts.{MeetsReceive}
 use Rattle.line.specs.Demands.{IsDocument01's, GivesBack, Tells}
-use Rattle.line.specs.Line.{Receiving, longest, toLast, fromFirst, ComesOut, Demand3, refusals, refusalsOf, CountsCells}
+use Rattle.line.specs.Line.{longest, toLast, fromFirst, ComesOut, Demand3, refusals, refusalsOf, CountsCells}
 use Rattle.line.specs.Losses.{Shows, AnyLoss}
 use Rattle.line.proofs.Beyond as beyond
 use Rattle.line.proofs.Demands as line

@@ -2,16 +2,15 @@
 -- Assumes nothing.
 use mathlib.Core.Bool.{false, cond}
 use mathlib.Core.List.{List, []}
-use mathlib.Core.Path.{_≡_, sym, _∙_, ap}
+use mathlib.Core.Path.{_≡_, _∙_, ap}
 use Prim.Native.Nat.{ℕ, _+_, _≤_, _<_}
 use borrow.Author.Tests.{le-leb, lt-leb}
-use lib.Dec.{eqb, leb, ltb}
+use lib.Dec.{leb, ltb}
 use lib.ListN.{length, getD, take, drop}
 use Rattle.runs.specs.Runs.{over}
 use Rattle.runs.proofs.Laws.{past}
 use Rattle.log.specs.Records.{headerOf, recordAt, cellAt, placeAfter}
 use Rattle.listing.specs.Lines.{logRefusedLine}
-use Rattle.listing.specs.List.{listOf}
 use Rattle.listing.proofs.Refused.{refused-list}
 use Rattle.rimesatchel.specs.Kept.{ListedOctets}
 use Rattle.line.specs.Contracts.{MeetsReadCell, MeetsNextPlace}

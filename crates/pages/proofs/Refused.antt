@@ -2,7 +2,7 @@
 -- Assumes nothing.
 use mathlib.Core.Bool.{Bool, cond}
 use mathlib.Core.List.{List, [], _∷_}
-use mathlib.Core.Path.{_≡_, refl, sym, _∙_, ap, ap₂}
+use mathlib.Core.Path.{_≡_, refl, _∙_, ap, ap₂}
 use Prim.Native.Nat.{ℕ}
 use native.Mathlib.Omega.{arith}
 use borrow.Author.Tests.{ne-eqb}
@@ -16,11 +16,11 @@ use Rattle.log.specs.Numbers.{numberAt}
 use Rattle.log.specs.Records.{headerRefusal, secondNumber, thirdNumber, headerOf, recordAt}
 use Rattle.log.specs.Written.{Keeps}
 use Rattle.presence.specs.Presence.{presenceOf}
-use Rattle.saving.specs.Salvage.{salvageRefusal, salvagedOf}
-use Rattle.figures.specs.Sheets.{sheetRefusal, sheetOf}
-use Rattle.cable.specs.Frames.{importRefusal, importOf, exportRefusal, exportOf}
+use Rattle.saving.specs.Salvage.{salvageRefusal}
+use Rattle.figures.specs.Sheets.{sheetRefusal}
+use Rattle.cable.specs.Frames.{importRefusal, exportRefusal}
 use Rattle.units.specs.Units as U
-use Rattle.circuits.specs.Circuits.{octetRefusal, checkRefusal, checkedOf, planRefusalOf, Plans}
+use Rattle.circuits.specs.Circuits.{octetRefusal, checkRefusal, planRefusalOf, Plans}
 use Rattle.rimesatchel.specs.Boxes.{
   yesNo,
   senderOf,

@@ -7,10 +7,9 @@ use Prim.Native.Nat.{ℕ, suc, _+_, _*_, _-_, _<_}
 use native.Mathlib.Nat.{suc-mul, zero-mul, add-mul}
 use native.Mathlib.Omega.{arith}
 use borrow.Author.Tests.{eq-eqb}
-use lib.Dec.{eqb}
 use lib.ListN.{length, take, drop, replicate, length-append, length-replicate}
 use lib.Seq.{take-at, drop-append-seam, drop-append-add}
-use Rattle.runs.specs.Runs.{over, joined}
+use Rattle.runs.specs.Runs.{over}
 use Rattle.formats.specs.Formats.{lengthOf, sampleBits, ancillaryBits, overheadBits, listedOctets, isAmong, isListed, widthOf, slotsOf, formatOf, timesOf}
 use Rattle.reading.specs.Totals.{totalOf, Each}
 use Rattle.sender.specs.Sender as S
@@ -18,7 +17,7 @@ use Rattle.receiver.specs.declared.Receiver.{Receiver}
 use Rattle.receiver.specs.Receiver as R
 use Rattle.cable.specs.Back.{SameFrame}
 use Rattle.cable.specs.Frames.{exportOf}
-use Rattle.cable.specs.Rows.{samplesOf, ancillaryOf, pairAt}
+use Rattle.cable.specs.Rows.{pairAt}
 use Rattle.cable.proofs.Rows.{row-back}
 use Rattle.units.specs.Back.{ExportCall, MeetsExport, ReadCall, MeetsRead, ReadsUnit}
 use Rattle.units.proofs.Back.{back-whole}

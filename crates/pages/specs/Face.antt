@@ -7,7 +7,6 @@ use Prim.Native.Nat.{ℕ, _<_, _≤_}
 use lib.ListN.{length, getD}
 use Rattle.formats.specs.Formats.{formatOf}
 use Rattle.receiver.specs.declared.Receiver.{Receiver}
-use Rattle.receiver.specs.Receiver as R
 use Rattle.reading.specs.Totals.{Each}
 use Rattle.rimesatchel.specs.Boxes.{isYes, senderOf, receiverOf, OpenedReceiver, SentOctets, ReceivedOctets}
 use Rattle.line.specs.Contracts.{SendCall, ReceiveCall}

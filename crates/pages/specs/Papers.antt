@@ -2,14 +2,13 @@
 -- Assumes nothing.
 use mathlib.Core.List.{List, [], _∷_}
 use mathlib.Core.Path.{_≡_}
-use Prim.Native.Nat.{ℕ, suc, _+_, _≤_, _<_}
-use lib.ListN.{length, getD, take, drop}
+use Prim.Native.Nat.{ℕ}
+use lib.ListN.{length, getD}
 use Rattle.log.specs.Records.{headerOf}
 use Rattle.reading.specs.Heard.{endOf, soundIn, missingIn, refusedIn}
 use Rattle.reading.specs.Reading.{freshOf}
 use Rattle.listing.specs.declared.Tally.{Tally}
 use Rattle.listing.specs.List.{heardTo}
-use Rattle.saving.specs.Demands.{SameLine}
 use Rattle.status.specs.Bits.{bitOf}
 use Rattle.status.specs.Check.{checkCharacter}
 use Rattle.circuits.specs.Circuits.{slotsOf}
