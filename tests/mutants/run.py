@@ -2,6 +2,7 @@
 """Tries the mutants: small wrong changes of the crates, each of which the prover must refuse.
 
   run.py [CRATE...]     try the mutants of these crates, or all: `make mutants`
+  run.py --joint [CRATE...]  try the joint edits of these crates, or all: those with a line `above: CRATE`
   run.py --applies      only see that each edit, those of tests/edits and the must-fail edits too, still fits the file that it changes:
                         the gate
 
@@ -48,6 +49,48 @@ def fault_of(edit, crate):
     return '' if pairs else 'it has no `old:` and `new:`'
 
 
+def above_of(edit):
+    """The crate with the page that must refuse a joint edit, or nothing."""
+    found = re.search(r'^above: (\w+)$', edit.read_text(encoding='utf-8'), re.M)
+    return found[1] if found else ''
+
+
+def apply(edit, crate):
+    """Applies an edit to a crate's files."""
+    file = old = ''
+    for line in edit.read_text(encoding='utf-8').split('\n'):
+        if line.startswith('file: '):
+            file = crate / line[6:]
+        elif line.startswith('old: '):
+            old = line[5:]
+        elif line.startswith('new:'):
+            file.write_text(file.read_text(encoding='utf-8').replace(old, line[4:].removeprefix(' ')), encoding='utf-8')
+
+
+def try_joint(crates):
+    """Tries each joint edit: its own crate must stay proved, and the crate above must not; says whether all did so."""
+    good = bad = 0
+    for edit in sorted(edit for crate in crates for edit in (MUTANTS / crate).glob('*.edit') if above_of(edit)):
+        own, above, name = edit.parent.name, above_of(edit), f'{edit.parent.name}/{edit.stem}'
+        prepare([])
+        apply(edit, SCRATCH / 'crates' / own)
+        first = subprocess.run(['rt', 'check', own], cwd=SCRATCH, capture_output=True, text=True, errors='replace', check=False)
+        if first.returncode != 0:
+            bad += 1
+            print(f'NOT COUNTED  {name}: its own crate refuses it', flush=True)
+            continue
+        second = subprocess.run(['rt', 'check', above], cwd=SCRATCH, capture_output=True, text=True, errors='replace', check=False)
+        found = re.search(r'crates/(\S*?): error: (?:`([^`]*)`)?', second.stdout + second.stderr)
+        if second.returncode == 0 or not found:
+            bad += 1
+            print(f'NOT REFUSED  {name}: {what_is_wrong(edit)}', flush=True)
+        else:
+            good += 1
+            print(f'refused      {name}: {what_is_wrong(edit)} ({found[1]} {found[2] or ""})', flush=True)
+    print(f'joint edits: {good} refused above, {bad} not')
+    return not bad
+
+
 def check_edits():
     """Prints the edits that can't be applied; says whether there are none."""
     good = bad = 0
@@ -72,7 +115,11 @@ def prepare(crates):
     for part in ('rlib', 'stamp'):
         shutil.copytree(ROOT / 'target' / part, SCRATCH / 'target' / part)
     for crate in crates:
-        shutil.copytree(MUTANTS / crate, SCRATCH / 'crates' / crate / 'must-fail')
+        place = SCRATCH / 'crates' / crate / 'must-fail'
+        place.mkdir()
+        for edit in (MUTANTS / crate).glob('*.edit'):
+            if not above_of(edit):
+                shutil.copy(edit, place)
 
 
 def first_error(name):
@@ -111,8 +158,9 @@ def try_mutants(crates):
 def main():
     if sys.argv[1:] == ['--applies']:
         return check_edits()
-    with_mutants = sorted(folder.name for folder in MUTANTS.iterdir() if any(folder.glob('*.edit')))
-    crates = sys.argv[1:] or with_mutants
+    joint = sys.argv[1:2] == ['--joint']
+    with_mutants = sorted(folder.name for folder in MUTANTS.iterdir() if any(bool(above_of(edit)) == joint for edit in folder.glob('*.edit')))
+    crates = sys.argv[2 if joint else 1:] or with_mutants
     for crate in crates:
         if crate not in with_mutants:
             print(f'mutants: {crate} has none (there are: {" ".join(with_mutants)})', file=sys.stderr)
@@ -127,6 +175,8 @@ def main():
     if subprocess.run(prove, cwd=ROOT, stdout=subprocess.DEVNULL, check=False).returncode != 0:
         print('mutants: a crate is not proved as it stands; see `rt check`', file=sys.stderr)
         return False
+    if joint:
+        return try_joint(crates)
     prepare(crates)
     return try_mutants(crates)
 

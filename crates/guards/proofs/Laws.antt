@@ -14,7 +14,7 @@ use lib.Pow.{pow-add, pow-pos}
 use Rattle.runs.specs.Division.{coefficients, divided, takenDown, remainder}
 use Rattle.runs.specs.Runs.{tab}
 use Rattle.runs.specs.Test.{every}
-use Rattle.runs.proofs.Laws.{every-at, split}
+use Rattle.runs.proofs.Laws.{every-at, split, getD-tab}
 use Rattle.guards.specs.Guards.{VOrNone, noV, withV, vOf, nineOf, protectedBits, tenGuard, guardOf}
 use Rattle.guards.specs.Code.{sevenGuards}
 
@@ -103,10 +103,28 @@ nine-down bits sample long =
 
 -- ten bits have the bits of the seven that they are folded to
 pub seven-guard : {ten : ℕ} → ten < 1024 → getD sevenGuards (bitXor ten (ten / 128) % 128) 0 ≡ tenGuard ten
-unfolding every sevenGuards tab tenGuard coefficients divided takenDown
+unfolding every sevenGuards tab guardOf nineOf protectedBits tenGuard coefficients divided takenDown
 seven-guard {ten} h =
     eqb→eq (getD sevenGuards (bitXor ten (ten / 128) % 128) 0) (tenGuard ten)
     (every-at (λ k. eqb (getD sevenGuards (bitXor k (k / 128) % 128) 0) (tenGuard k)) 1024 tt ten h)
+
+-- each entry, of a subframe with no V and of one with V
+pub seven-alone : {sample : ℕ} → sample < 128 → getD sevenGuards sample 0 ≡ guardOf 9 sample noV
+unfolding sevenGuards
+seven-alone h = getD-tab (λ n. guardOf 9 n noV) 128 h
+
+-- a sample of nine bits is its nine bits
+nine-itself : {sample : ℕ} → sample < 512 → nineOf 9 sample ≡ sample
+unfolding every nineOf
+nine-itself {sample} h = eqb→eq _ _ (every-at (λ k. eqb (nineOf 9 k) k) 512 tt sample h)
+
+pub seven-with-v : (sample v : ℕ) → sample < 64 → v < 2 → getD sevenGuards (sample * 2 + v) 0 ≡ guardOf 9 sample (withV v)
+unfolding guardOf protectedBits
+seven-with-v sample v h small =
+    let bits : nineOf 9 (sample * 2 + v) ≡ sample * 2 + v = nine-itself (omega arith) in
+    let nine : nineOf 9 sample ≡ sample = nine-itself (omega arith) in
+    let same : nineOf 9 (sample * 2 + v) ≡ nineOf 9 sample * 2 + v % 2 = omega (arith, bits, nine) in
+    seven-alone {sample = sample * 2 + v} (omega arith) ∙ ap tenGuard same
 
 -- what V adds to the bits of nine sample bits
 pub with-v : {nine : ℕ} (v : ℕ) → nine < 512

@@ -3,10 +3,9 @@
 use mathlib.Core.Bool.{Bool, false, cond, _||_}
 use mathlib.Core.List.{List, [], _∷_, flatMap}
 use mathlib.Core.Path.{_≡_}
-use Prim.Native.Nat.{ℕ, _%_}
+use Prim.Native.Nat.{ℕ}
 use native.Mathlib.Nat.{le-trans}
-use lib.ListN.{length, take, replicate}
-use Rattle.runs.specs.Runs.{over}
+use lib.ListN.{length, replicate}
 use Rattle.formats.specs.Formats.{settingsRefusal}
 use Rattle.sender.specs.declared.Ready as SR
 use Rattle.sender.specs.Sender as S
@@ -22,15 +21,11 @@ use Rattle.log.specs.declared.Header.{Header}
 use Rattle.log.specs.declared.Record.{Record}
 use Rattle.log.specs.declared.keep.Kept.{Kept}
 use Rattle.log.specs.Numbers.{isCut, isLong, isPadded, numberAt}
-use Rattle.log.specs.Records.{headerRefusal, headerOf, secondNumber, thirdNumber}
+use Rattle.log.specs.Records.{headerRefusal, secondNumber, thirdNumber}
 use Rattle.log.specs.Written.{numberRefusal, headerRefused, recordRefusal}
 use Rattle.presence.specs.declared.Presence.{Presence}
-use Rattle.text.specs.declared.Put.{Put}
-use Rattle.listing.specs.declared.Listing.{Listing}
-use Rattle.listing.specs.Lines.{logRefusedLine}
 use Rattle.saving.specs.declared.Salvaged.{Salvaged}
 use Rattle.saving.specs.Salvage.{salvageRefusal}
-use Rattle.text.specs.Put.{listed}
 use Rattle.cable.specs.declared.Imported.{Imported}
 use Rattle.cable.specs.declared.Exported.{Exported}
 use Rattle.cable.specs.Frames.{importRefusal, exportRefusal}
@@ -58,7 +53,6 @@ use Rattle.line.specs.Contracts.{
   MeetsWriteNumber,
   MeetsWriteHeader,
   MeetsWriteRecord,
-  MeetsEnd,
   MeetsSalvage,
   MeetsImport,
   MeetsExport,
@@ -100,7 +94,6 @@ use Rattle.line.proofs.Refused.{
   reads-cell,
   next-stays,
   keeps,
-  lists,
   salvages,
   imports,
   exports,
@@ -112,7 +105,8 @@ use Rattle.line.proofs.Refused.{
 }
 
 -- 1. "Each public call takes arbitrary octets, numbers, run lengths and states, and ends with an answer. It refuses exactly where
--- document 01's table says so, under that number; the state then comes back as it went in and nothing lent changes."
+-- document 01's table says so, under that number; the state then comes back as it went in and nothing lent changes." The same of the C
+-- calls stands in pages/Calls, and what a list says of a log that is refused in pages/Document.
 pub demand-1-send : (s : SendCall) → MeetsSend s → Refuses (s .answer .refusal) (sendTable s) (SentNothing s)
 demand-1-send = sends-or-nothing
 
@@ -177,12 +171,6 @@ pub demand-1-write-record : (log : List ℕ) (place : ℕ) (indication : Bool) (
     → MeetsWriteRecord log place indication cell r after
     → Refuses (r .refusal) (recordRefusal log place cell) ((r .next ≡ 0) × (after ≡ log))
 demand-1-write-record log place indication cell r after meets = keeps meets
-
--- a list has no number of its own to refuse with: of a log that ends in its header just the line is written that says why
-pub demand-1-list : (l : Listing) (held run : List ℕ) (r : Put) (after : List ℕ) → MeetsEnd l held run r after → l .standing .stage ≡ 0
-    → (r ≡ listed (length run) (logRefusedLine (headerOf (take (l .standing .count % 9) held) .refusal)))
-    × (after ≡ over (take (length run) (logRefusedLine (headerOf (take (l .standing .count % 9) held) .refusal))) run)
-demand-1-list = lists
 
 pub demand-1-salvage : (log out list : List ℕ) (r : Salvaged) (out₁ list₁ : List ℕ) → MeetsSalvage log out list r out₁ list₁
     → Refuses (r .refusal) (salvageRefusal log (length out) (length list))

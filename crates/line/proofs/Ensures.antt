@@ -59,10 +59,6 @@ use Rattle.log.proofs.reader.cell as cell
 use Rattle.log.proofs.reader.past_record as past-record
 use Rattle.log.proofs.reader.read as read
 use Rattle.log.proofs.One.{RecordEnsures, CellEnsures, PastEnsures, ReadEnsures}
-use Rattle.listing.proofs.end.Kinds as list-end-kinds
-use Rattle.listing.proofs.end.Reads as list-end-reads
-use Rattle.listing.proofs.take.Kinds as list-take-kinds
-use Rattle.listing.proofs.take.Reads as list-take-reads
 use Rattle.presence.proofs.anything.Kinds as anything-kinds
 use Rattle.presence.proofs.anything.Reads as anything-reads
 use Rattle.saving.proofs.salvage.Kinds as salvage-kinds
@@ -98,8 +94,6 @@ use Rattle.line.specs.Contracts.{
   MeetsWriteNumber,
   MeetsWriteHeader,
   MeetsWriteRecord,
-  MeetsEnd,
-  MeetsTake,
   MeetsSalvage,
   MeetsImport,
   MeetsExport,
@@ -203,14 +197,6 @@ write-header-ensures κs a x v p = p
 pub write-record-ensures : Ensured write-record-kinds.ps write-record-kinds.r write-record-reads.Post
     (λ κs a x v. MeetsWriteRecord (now (a .0)) (a .1 .0) (a .1 .1 .0) (now (a .1 .1 .1 .0)) x (v .0))
 write-record-ensures κs a x v p = p
-
-pub list-take-ensures : Ensured list-take-kinds.ps list-take-kinds.r list-take-reads.Post
-    (λ κs a x v. MeetsTake (a .0) (now (a .1 .0)) (now (a .1 .1 .0)) (now (a .1 .1 .1 .0)) x (v .1 .0) (v .1 .1 .1 .0))
-list-take-ensures κs a x v p = p
-
-pub list-end-ensures : Ensured list-end-kinds.ps list-end-kinds.r list-end-reads.Post
-    (λ κs a x v. MeetsEnd (a .0) (a .1 .0) (now (a .1 .1 .0)) x (v .1 .1 .0))
-list-end-ensures κs a x v p = p
 
 pub salvage-ensures : Ensured salvage-kinds.ps salvage-kinds.r salvage-reads.Post
     (λ κs a x v. MeetsSalvage (now (a .0)) (now (a .1 .0)) (now (a .1 .1 .0)) x (v .1 .0) (v .1 .1 .0))

@@ -3,11 +3,10 @@
 use mathlib.Core.Bool.{Bool, false, cond, _||_}
 use mathlib.Core.List.{List, [], _∷_}
 use mathlib.Core.Path.{_≡_, refl, sym, _∙_, ap}
-use Prim.Native.Nat.{ℕ, _+_, _%_}
+use Prim.Native.Nat.{ℕ, _+_}
 use borrow.Author.Tests.{eqb-true}
 use lib.Dec.{eqb, leb, ltb}
-use lib.ListN.{length, getD, take, replicate}
-use Rattle.runs.specs.Runs.{over}
+use lib.ListN.{length, getD, replicate}
 use Rattle.runs.proofs.Laws.{split}
 use Rattle.formats.specs.Formats.{settingsRefusal}
 use Rattle.sender.specs.declared.Ready as SR
@@ -30,11 +29,6 @@ use Rattle.log.specs.Written.{Keeps}
 use Rattle.log.proofs.Refused.{refused-number, refused-header, refused-record, refused-cell, refused-place, keeps-refusal, refused-keeps}
 use Rattle.presence.specs.declared.Presence.{Presence}
 use Rattle.presence.proofs.Theorems.{presence-refusal, presence-nothing}
-use Rattle.text.specs.declared.Put.{Put}
-use Rattle.listing.specs.declared.Listing.{Listing}
-use Rattle.listing.specs.Lines.{logRefusedLine}
-use Rattle.text.specs.Put.{listed}
-use Rattle.listing.proofs.Refused.{refused-end}
 use Rattle.saving.specs.declared.Salvaged.{Salvaged}
 use Rattle.saving.specs.Salvage.{salvageRefusal}
 use Rattle.saving.proofs.Refusals as saving
@@ -61,7 +55,6 @@ use Rattle.line.specs.Contracts.{
   MeetsReadRecord,
   MeetsReadCell,
   MeetsNextPlace,
-  MeetsEnd,
   MeetsSalvage,
   MeetsImport,
   MeetsExport,
@@ -185,13 +178,6 @@ pub keeps : {table place : ℕ} {octets log after : List ℕ} {r : Kept} → Kee
     → Refuses (r .refusal) table ((r .next ≡ 0) × (after ≡ log))
 keeps meets =
     record { by-the-table = keeps-refusal meets; then-nothing = λ some. refused-keeps meets (λ none. some (keeps-refusal meets ∙ none)) }
-
-pub lists : (l : Listing) (held run : List ℕ) (r : Put) (after : List ℕ) → MeetsEnd l held run r after → l .standing .stage ≡ 0
-    → (r ≡ listed (length run) (logRefusedLine (headerOf (take (l .standing .count % 9) held) .refusal)))
-    × (after ≡ over (take (length run) (logRefusedLine (headerOf (take (l .standing .count % 9) held) .refusal))) run)
-lists l held run r after meets z =
-    let line = refused-end l held z in
-    (meets .printed ∙ ap (listed (length run)) line, meets .wrote ∙ ap (λ (text : List ℕ). over (take (length run) text) run) line)
 
 pub salvages : (log out list : List ℕ) (r : Salvaged) (out₁ list₁ : List ℕ) → MeetsSalvage log out list r out₁ list₁
     → Refuses (r .refusal) (salvageRefusal log (length out) (length list))

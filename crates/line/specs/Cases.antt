@@ -1,8 +1,8 @@
--- The cases of document 01 marked P, two of request 4, and one whole cell beside them: what the definitions give, and what is
--- printed, row by row.
+-- The cases of document 01 marked P, two of request 4, three of request 6, and one whole cell beside them: what the definitions give, and
+-- what is printed, row by row.
 -- Assumes nothing.
 use mathlib.Core.Bool.{false, true}
-use mathlib.Core.List.{List, [], _∷_, map}
+use mathlib.Core.List.{List, [], _∷_, _++_, map}
 use Prim.Native.Nat.{ℕ, _^_}
 use lib.ListN.{replicate}
 use Rattle.formats.specs.Formats.{slotsOf, timesOf}
@@ -10,12 +10,22 @@ use Rattle.numbers.specs.Numbers.{entryOf, dividedEntry}
 use Rattle.guards.specs.Guards.{noV, withV, guardOf}
 use Rattle.cells.specs.Placement.{slotOf}
 use Rattle.sender.specs.Sender.{openState, cellNow}
+use Rattle.status.specs.declared.step.Stepped.{Stepped}
+use Rattle.status.specs.Step.{stepOf}
 
 sixNumbers : List ℕ
 sixNumbers = 0 ∷ 1 ∷ 2 ∷ 3 ∷ 4 ∷ 8 ∷ []
 
+-- a block of 191 bits with this first octet, Appendix 2's others and the check character's first seven bits, brought forward by this
+-- ancillary number: the answer and the octets
+finishedBy : ℕ → ℕ → List ℕ
+finishedBy first ancillary =
+    let octets : List ℕ = first ∷ 0x02 ∷ 0 ∷ 0 ∷ 0x02 ∷ (replicate 18 0 ++ (0x1B ∷ [])) in
+    let step : Stepped = stepOf (record { bits = 191; octets = octets }) ancillary 0 in
+    step .handed .answer ∷ step .handed .octets
+
 unfoldable pub defined : List (List ℕ)
-unfolding sixNumbers
+unfolding sixNumbers finishedBy
 defined =
     map entryOf sixNumbers
     ∷ map dividedEntry sixNumbers
@@ -28,6 +38,9 @@ defined =
     ∷ cellNow (openState 0x56 5 1 5 true 12) false
     (0x7FFFFF ∷ 0xFFFFFF ∷ 0xFFFFFF ∷ 0x628062 ∷ 0x000000 ∷ 0x042E3B ∷ 0xF7F3B3 ∷ 0x800000 ∷ 0x000001 ∷ 0x856AE2 ∷ [])
     (10 ∷ 4 ∷ 6 ∷ 15 ∷ 7 ∷ 7 ∷ 1 ∷ 14 ∷ 4 ∷ 8 ∷ [])
+    -- three blocks of channel status, each finished by its last bit: Appendix 2's first example with that bit 1 and with that bit 0, and
+    -- the first again without bit 0 of octet 0
+    ∷ finishedBy 0x3D 4 ∷ finishedBy 0x3D 0 ∷ finishedBy 0x3C 4
     ∷ []
 
 unfoldable pub printed : List (List ℕ)
@@ -50,4 +63,9 @@ printed =
     ∷ (0x7F ∷ 0xFF ∷ 0xFF ∷ 0xA9 ∷ 0x04 ∷ 0x2E ∷ 0x3B ∷ 0x75 ∷ 0xFF ∷ 0xFF ∷ 0xFF ∷ 0x4E ∷ 0xF7 ∷ 0xF3 ∷ 0xB3 ∷ 0x17
     ∷ 0xFF ∷ 0xFF ∷ 0xFF ∷ 0x6E ∷ 0x80 ∷ 0x00 ∷ 0x00 ∷ 0xE0 ∷ 0x62 ∷ 0x80 ∷ 0x62 ∷ 0xF2 ∷ 0x00 ∷ 0x00 ∷ 0x01 ∷ 0x4F
     ∷ 0x00 ∷ 0x00 ∷ 0x00 ∷ 0x74 ∷ 0x85 ∷ 0x6A ∷ 0xE2 ∷ 0x86 ∷ 0x00 ∷ 0x00 ∷ 0x00 ∷ 0x0F ∷ 0x00 ∷ 0x00 ∷ 0x00 ∷ 0x0F ∷ [])
+    -- document 02, request 6: "fits, doesn't fit, none carried", which are 2, 1 and 3; then the octets that are handed out, the last of
+    -- which is 9B hex, as Appendix 2 prints it, in the first
+    ∷ (2 ∷ 0x3D ∷ 0x02 ∷ 0 ∷ 0 ∷ 0x02 ∷ 0 ∷ 0 ∷ 0 ∷ 0 ∷ 0 ∷ 0 ∷ 0 ∷ 0 ∷ 0 ∷ 0 ∷ 0 ∷ 0 ∷ 0 ∷ 0 ∷ 0 ∷ 0 ∷ 0 ∷ 0 ∷ 0x9B ∷ [])
+    ∷ (1 ∷ 0x3D ∷ 0x02 ∷ 0 ∷ 0 ∷ 0x02 ∷ 0 ∷ 0 ∷ 0 ∷ 0 ∷ 0 ∷ 0 ∷ 0 ∷ 0 ∷ 0 ∷ 0 ∷ 0 ∷ 0 ∷ 0 ∷ 0 ∷ 0 ∷ 0 ∷ 0 ∷ 0 ∷ 0x1B ∷ [])
+    ∷ (3 ∷ 0x3C ∷ 0x02 ∷ 0 ∷ 0 ∷ 0x02 ∷ 0 ∷ 0 ∷ 0 ∷ 0 ∷ 0 ∷ 0 ∷ 0 ∷ 0 ∷ 0 ∷ 0 ∷ 0 ∷ 0 ∷ 0 ∷ 0 ∷ 0 ∷ 0 ∷ 0 ∷ 0 ∷ 0x9B ∷ [])
     ∷ []

@@ -1,7 +1,8 @@
--- The public calls, each with what it leaves, and what it is that a call meets its function's contract. These definitions need no trust.
--- The code is proved to meet the `ensures` of each function; proofs/Ensures proves that every call that meets the `ensures` meets the
--- definition here; the demands are proved of every call that meets the definition. So the demands hold of the code. A definition that
--- says more than the `ensures` is refused in proofs/Ensures, one that says too little for the demands in proofs/Demands.
+-- The public calls, each with what it leaves, and what it is that a call meets its function's contract. The code is proved to meet the
+-- `ensures` of each function; proofs/Ensures proves that every call that meets the `ensures` meets the definition here; the demands are
+-- proved of every call that meets the definition. So the demands hold of the code. A definition that says more than the `ensures` is
+-- refused in proofs/Ensures, one that says too little for the demands in proofs/Demands. docs/PROMISES.md says how many lines there are
+-- to read to trust the demands, proofs/Ensures with them, and how many to know what every call and program answers.
 -- Assumes nothing.
 use mathlib.Core.Bool.{Bool}
 use mathlib.Core.List.{List}
@@ -27,10 +28,6 @@ use Rattle.log.specs.Records.{headerOf, recordAt, cellAt, placeAfter}
 use Rattle.log.specs.Written.{Keeps, numberRefusal, headerOctets, headerRefused, recordOctets, recordRefusal}
 use Rattle.presence.specs.declared.Presence.{Presence}
 use Rattle.presence.specs.Presence.{presenceOf}
-use Rattle.text.specs.declared.Put.{Put}
-use Rattle.listing.specs.declared.Listing.{Listing}
-use Rattle.listing.specs.declared.Printed.{Printed}
-use Rattle.listing.specs.Taking.{Takes, Ends}
 use Rattle.saving.specs.declared.Salvaged.{Salvaged}
 use Rattle.saving.specs.Salvage.{Salvages}
 use Rattle.cable.specs.declared.Imported.{Imported}
@@ -124,13 +121,6 @@ MeetsWriteHeader log octet channels order r after =
 
 abbrev pub MeetsWriteRecord : List ℕ → ℕ → Bool → List ℕ → Kept → List ℕ → Type 0
 MeetsWriteRecord log place indication cell r after = Keeps (recordRefusal log place cell) place (recordOctets indication cell) log r after
-
--- the list of a log in pieces: `take` and `end`
-abbrev pub MeetsTake : Listing → List ℕ → List ℕ → List ℕ → Printed → List ℕ → List ℕ → Type 0
-MeetsTake l held piece run r held-after run-after = Takes l held piece run r held-after run-after
-
-abbrev pub MeetsEnd : Listing → List ℕ → List ℕ → Put → List ℕ → Type 0
-MeetsEnd l held run r after = Ends l held run r after
 
 -- `salvage`
 abbrev pub MeetsSalvage : List ℕ → List ℕ → List ℕ → Salvaged → List ℕ → List ℕ → Type 0

@@ -1,0 +1,17 @@
+pub mod Asked
+pub mod Boxes
+pub mod Calls
+pub mod Characters
+pub mod Document
+pub mod Ended
+pub mod Face
+pub mod Linked
+pub mod Logged
+pub mod Printed
+pub mod Read
+pub mod Refused
+pub mod Requests
+pub mod Sent
+pub mod Slots
+pub mod Streams
+pub mod WrongBoxes

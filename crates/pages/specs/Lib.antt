@@ -1,0 +1,4 @@
+pub mod Boxes
+pub mod Face
+pub mod Papers
+pub mod Rows
