@@ -7,7 +7,7 @@
  *
  * Every call but rime_check_character and rime_receiver_placed returns a refusal number, RIME_DONE (0) where there is none.
  * A call never does half of its work. A refusal leaves every lent run and the state as they were, and fills `report`,
- * `out` of rime_status_step, `header`, `record`, `*next`, `counts`, `totals`, `units`, `*entries`, `answer` or the two
+ * `out` of rime_status_step, `facts`, `header`, `record`, `*next`, `counts`, `totals`, `units`, `*entries`, `answer` or the two
  * entries or halves of a frame with zeros; an opening that is refused fills `state` with zeros, which is itself refused 1.
  * Where several refusals apply, the first in the order of the list at each function is given.
  *
@@ -45,6 +45,7 @@ enum {
     RIME_COUNTS = 3,
     RIME_UNITS = 3,
     RIME_ANSWER = 2,
+    RIME_FORMAT = 4,
     RIME_MOST_SLOTS = 48,
     RIME_MOST_MISSING = 14
 };
@@ -165,6 +166,9 @@ enum {
     RIME_RECEIVER_COUNT = 5       /* four octets, least significant first: cells placed since the opening */
 };
 
+/* Places in what rime_format says. */
+enum { RIME_FORMAT_SAMPLE_BITS = 0, RIME_FORMAT_ANCILLARY_BITS = 1, RIME_FORMAT_OVERHEAD_BITS = 2, RIME_FORMAT_SLOTS = 3 };
+
 /* Places in what rime_receive reports. */
 enum { RIME_REPORT_MISSING = 0, RIME_REPORT_NUMBER = 1, RIME_REPORT_SECOND = 2, RIME_REPORT_INDICATION = 3 };
 
@@ -184,6 +188,13 @@ enum { RIME_COUNTS_OCTETS = 0, RIME_COUNTS_LEFT_OUT = 1, RIME_COUNTS_CUT = 2 };
 
 /* Places in what rime_units_export tells. */
 enum { RIME_UNITS_OCTETS = 0, RIME_UNITS_FULL = 1, RIME_UNITS_COUNT = 2 };
+
+/*
+ * Says what a subframe octet means, as the table above has it. Leaves in `facts` the bits of a sample, the ancillary bits and
+ * the overhead bits beside it (each 0 or 4), and S, the slots in a cell. The octet is judged as it stands, never cut.
+ * Refused, with `facts` zeros: 1, the octet is none of the fourteen.
+ */
+uint8_t rime_format(uint32_t format, uint32_t facts[RIME_FORMAT]);
 
 /*
  * Opens a sender. Its first cell will have `number`. With `wanted` it keeps second numbers: `second` goes out in the

@@ -36,7 +36,7 @@ from ctypes import POINTER, c_bool, c_char_p, c_size_t, c_uint, c_uint8, c_uint3
 from typing import Any, Iterator, NamedTuple, Sequence
 
 __all__ = [
-    "VERSION", "Anything", "Block", "Deed", "Entry", "Figures", "Fit", "Frame", "Handed", "Log", "Mark", "Pair", "Receiver",
+    "VERSION", "Anything", "Block", "Deed", "Entry", "Figures", "Fit", "Format", "Frame", "Handed", "Log", "Mark", "Pair", "Receiver",
     "Record", "Refused", "Salvaged", "Sender", "Setup", "Sheet", "Status", "Units", "Verdict", "Writer", "anything",
     "check_character", "check_plan", "controller", "equipment", "export_frame", "export_units", "import_frame", "listing", "plan",
     "read_unit", "salvage", "sheet", "words",
@@ -46,6 +46,7 @@ _OCTETS, _NUMBERS, _LONG = POINTER(c_uint8), POINTER(c_uint32), POINTER(c_uint64
 _RUN8, _RUN32, _RUN64 = [_OCTETS, c_size_t], [_NUMBERS, c_size_t], [_LONG, c_size_t]
 _SETTINGS = [c_uint32, c_uint32, c_uint32]
 _ARGUMENTS: dict[str, list[Any]] = {
+    "rime_format": [c_uint32, _NUMBERS],
     "rime_sender_open": [*_SETTINGS, c_uint32, c_bool, c_uint32, _OCTETS],
     "rime_send": [_OCTETS, c_bool, *_RUN64, *_RUN8, *_RUN8],
     "rime_receiver_open": [*_SETTINGS, _OCTETS],
@@ -156,6 +157,31 @@ class Setup(NamedTuple):
     format: int
     channels: int
     order: int = 0
+
+
+class Format(NamedTuple):
+    """What a subframe octet says: the bits of a sample and of what stands beside it, and the slots in a cell."""
+
+    sample_bits: int
+    ancillary_bits: int
+    overhead_bits: int
+    slots: int
+
+    @classmethod
+    def of(cls, octet: int) -> Format:
+        """The format of this octet. Refused 1.
+
+        >>> Format.of(0x56)
+        Format(sample_bits=24, ancillary_bits=4, overhead_bits=4, slots=12)
+        """
+        facts = (c_uint32 * 4)()
+        _call("rime_format", _setting(octet), facts)
+        return cls(*facts)
+
+    @property
+    def octets(self) -> int:
+        """The octets that one entry fills."""
+        return (self.sample_bits + self.ancillary_bits + self.overhead_bits) // 8
 
 
 class Sender:
@@ -493,7 +519,7 @@ def export_units(form: int, channels: int, size: int, samples: Sequence[int], an
     ([12, 6], [(5, 0), (6, 0)])
     """
     beside = [0] * len(samples) if ancillary is None else ancillary
-    out, told = _Lent(c_uint8, 4 * len(samples)), (c_uint64 * 3)()  # no entry of these formats is longer
+    out, told = _Lent(c_uint8, Format.of(form).octets * len(samples)), (c_uint64 * 3)()
     lent = _Lent(c_uint64, samples), _Lent(c_uint8, beside)
     _call("rime_units_export", _setting(form), _setting(channels), size, *lent, out, told)
     return Units(bytes(out.array[:told[0]]), told[1])

@@ -21,6 +21,7 @@ mod raw {
     use super::{ReceiverState, Report, SenderState, StatusBlock, StatusOut};
 
     extern "C" {
+        pub fn rime_format(format: u32, facts: *mut [u32; 4]) -> u8;
         pub fn rime_sender_open(
             format: u32,
             channels: u32,
@@ -144,6 +145,10 @@ mod raw {
             totals: *mut [u32; 10],
         ) -> u8;
     }
+}
+
+pub fn format(octet: u32, facts: &mut [u32; 4]) -> u8 {
+    unsafe { raw::rime_format(octet, facts) }
 }
 
 pub fn sender_open(

@@ -6,6 +6,7 @@ use std::fmt;
 
 #[derive(Clone, Copy, Debug, PartialEq, Eq)]
 pub enum Kind {
+    Format,
     SenderOpen,
     ReceiverOpen,
     Send,
@@ -34,13 +35,18 @@ pub enum Kind {
 }
 
 impl Kind {
+    pub fn named(name: &str) -> Option<Kind> {
+        KINDS.iter().find(|row| row.1 == name).map(|row| row.0)
+    }
+
     pub fn name(self) -> &'static str {
         KINDS.iter().find(|row| row.0 == self).map_or("", |row| row.1)
     }
 }
 
 /// Kind, name, and the fields in and out: n a number, r a run of numbers or a state, o octets.
-const KINDS: [(Kind, &str, &str, &str); 25] = [
+const KINDS: [(Kind, &str, &str, &str); 26] = [
+    (Kind::Format, "format", "n", "nnnnn"),
     (Kind::SenderOpen, "sender_open", "nnnnnn", "nr"),
     (Kind::ReceiverOpen, "receiver_open", "nnn", "nr"),
     (Kind::Send, "send", "rnrro", "nro"),

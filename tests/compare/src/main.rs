@@ -9,6 +9,7 @@ mod random;
 mod story;
 mod vectors;
 
+use case::Kind;
 use rimesatchel::face;
 use std::error::Error;
 use std::io::{Read, Write};
@@ -22,6 +23,8 @@ compare fuzz COUNT [SEED [LINELIST]]
                                  compare COUNT pseudo-random calls, and listings with those of LINELIST
 compare replay SEED SCENARIO [LINELIST]
                                  play one scenario of a fuzz run again
+compare write KIND SCENARIOS SEED
+                                 print the cases of one kind among so many scenarios, as lines of the vectors
 compare list                     print the plain implementation's list of the log on standard input
 compare story                    play demand 3 and longer outages: a sender, a line that drops, spoils and repeats, a receiver;
                                  and the archive's copies of nothing";
@@ -51,6 +54,9 @@ fn run(words: &[&str]) -> Result<bool, Box<dyn Error>> {
         ["fuzz", count, seed, program] => Ok(fuzz::run(count.parse()?, seed.parse()?, built(program))),
         ["replay", seed, scenario] => Ok(fuzz::replay(seed.parse()?, scenario.parse()?, None)),
         ["replay", seed, scenario, program] => Ok(fuzz::replay(seed.parse()?, scenario.parse()?, built(program))),
+        ["write", kind, scenarios, seed] => {
+            Ok(fuzz::write(Kind::named(kind).ok_or("no such kind")?, scenarios.parse()?, seed.parse()?))
+        }
         ["list"] => list(),
         ["story"] => Ok([story::run(), archive::run()] == [true; 2]),
         _ => Err(USAGE.into()),

@@ -8,6 +8,7 @@ use crate::face::{self, ReceiverState, Runs};
 
 pub fn by_library(case: &Case) -> Option<Answer> {
     match case.kind {
+        Kind::Format if cfg!(feature = "boxes") => format(case),
         Kind::SenderOpen if cfg!(feature = "boxes") => sender_open(case),
         Kind::ReceiverOpen if cfg!(feature = "boxes") => receiver_open(case),
         Kind::Send if cfg!(feature = "boxes") => send(case),
@@ -79,6 +80,14 @@ fn narrow_array<T: TryFrom<u64>, const N: usize>(numbers: &[u64]) -> Option<[T; 
 
 fn wide<T: Copy + Into<u64>>(numbers: &[T]) -> Vec<u64> {
     numbers.iter().map(|&number| number.into()).collect()
+}
+
+fn format(case: &Case) -> Option<Answer> {
+    let mut facts = [u32::MAX; 4];
+    let refusal = face::format(u32::try_from(case.number(0)).ok()?, &mut facts);
+    let mut answer = values![u64::from(refusal)];
+    answer.extend(facts.map(|number| Value::Number(number.into())));
+    Some(answer)
 }
 
 fn sender_open(case: &Case) -> Option<Answer> {

@@ -4,10 +4,11 @@
 use super::line::line;
 use super::management;
 use crate::case::{values, Answer, Case, Kind, Value};
-use crate::plain::{self, Anything, Block, Fault, Receiver, Record, Refusal, Sender};
+use crate::plain::{self, Anything, Block, Fault, Receiver, Record, Refusal, Sender, Shape};
 
 pub fn by_plain(case: &Case) -> Answer {
     match case.kind {
+        Kind::Format => format(case),
         Kind::SenderOpen => sender_open(case),
         Kind::ReceiverOpen => receiver_open(case),
         Kind::Send => send(case),
@@ -60,6 +61,16 @@ fn receiver_of(state: &[u64]) -> Receiver {
 fn receiver_state(receiver: &Receiver) -> [u64; 6] {
     let Receiver { format, channels, order, started, last, count } = *receiver;
     [format, channels, order, u64::from(started), last, count]
+}
+
+fn format(case: &Case) -> Answer {
+    match Shape::new(case.number(0), 1, 0) {
+        Ok(Shape { format, .. }) => {
+            let four = |carried| if carried { 4 } else { 0u64 };
+            values![0, u64::from(format.sample_bits), four(format.ancillary), four(format.overhead), format.slots as u64]
+        }
+        Err(refusal) => values![u64::from(refusal), 0, 0, 0, 0],
+    }
 }
 
 /// The refusal of an opening, and its state: zeros where it was refused.
