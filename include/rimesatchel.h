@@ -7,7 +7,7 @@
  *
  * Every call but rime_check_character and rime_receiver_placed returns a refusal number, RIME_DONE (0) where there is none.
  * A call never does half of its work. A refusal leaves every lent run and the state as they were, and fills `report`,
- * `out` of rime_status_step, `facts`, `header`, `record`, `*next`, `counts`, `totals`, `units`, `*entries`, `answer` or the two
+ * `out` of rime_status_step and rime_status_run, `facts`, `header`, `record`, `*next`, `counts`, `totals`, `units`, `*entries`, `answer` or the two
  * entries or halves of a frame with zeros; an opening that is refused fills `state` with zeros, which is itself refused 1.
  * Where several refusals apply, the first in the order of the list at each function is given.
  *
@@ -270,6 +270,17 @@ uint32_t rime_receiver_placed(const uint8_t state[RIME_RECEIVER_STATE]);
  * begun.
  */
 uint8_t rime_status_step(uint8_t block[RIME_BLOCK], uint8_t ancillary, uint8_t mark, uint8_t out[RIME_OUT]);
+
+/*
+ * Brings one channel's status block forward as rime_status_step would, by the entries `from`, `from` + `step`, .. of two runs
+ * that the receiver wrote, until one hands out a block or the runs end: with C channels side by side, channel c is `from` c and
+ * `step` C. Leaves in `out` what that entry hands out, else RIME_STATUS_NONE and zeros, and in `*next` the last entry used plus
+ * `step`, cut at 18,446,744,073,709,551,615; `from` where none was used. The next call goes on from there.
+ * Refused, with `block` untouched, `out` zeros and `*next` 0: 5, the runs aren't equally long or `step` is 0; 14, as for
+ * rime_status_step, at any entry that the call would use.
+ */
+uint8_t rime_status_run(uint8_t block[RIME_BLOCK], const uint8_t *ancillary, size_t ancillary_len, const uint8_t *marks,
+                        size_t marks_len, uint64_t from, uint64_t step, uint8_t out[RIME_OUT], uint64_t *next);
 
 /*
  * Returns the check character of octets 0 to 22 of a channel status block (EBU Tech 3250, Appendix 2), in the bit

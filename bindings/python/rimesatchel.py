@@ -52,6 +52,7 @@ _ARGUMENTS: dict[str, list[Any]] = {
     "rime_receiver_open": [*_SETTINGS, _OCTETS],
     "rime_receive": [_OCTETS, *_RUN8, c_bool, *_RUN64, *_RUN8, *_RUN8, _OCTETS],
     "rime_status_step": [_OCTETS, c_uint8, c_uint8, _OCTETS],
+    "rime_status_run": [_OCTETS, *_RUN8, *_RUN8, c_uint64, c_uint64, _OCTETS, _LONG],
     "rime_log_header": [*_RUN8, _NUMBERS],
     "rime_log_record": [*_RUN8, c_size_t, _LONG],
     "rime_log_put_header": [*_RUN8, *_SETTINGS, _LONG],
@@ -289,6 +290,18 @@ class Status:
         out = (c_uint8 * 25)()
         _call("rime_status_step", self._block, *_fitting(c_uint8, [ancillary, mark]), out)
         return Block(bytes(out[1:]), Fit(out[0])) if out[0] else None
+
+    def run(self, ancillary: bytes | Sequence[int], marks: bytes | Sequence[int], first: int = 0, step: int = 1) -> tuple[Block | None, int]:
+        """Takes the entries first, first + step, .. of two runs until one hands out a block or the runs end: that block, and the
+        entry to go on from. Refused 5 or 14, and then nothing has moved.
+
+        >>> Status().run(bytes([8] + [0] * 383), bytes(384), 0, 2)[1]
+        384
+        """
+        out, after = (c_uint8 * 25)(), c_uint64()
+        where = _fitting(c_uint64, [first, step])
+        _call("rime_status_run", self._block, _octets(ancillary), _octets(marks), *where, out, after)
+        return (Block(bytes(out[1:]), Fit(out[0])) if out[0] else None), after.value
 
 
 def check_character(block: bytes) -> int:

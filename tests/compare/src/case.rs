@@ -13,6 +13,7 @@ pub enum Kind {
     Receive,
     Line,
     StatusStep,
+    StatusRun,
     CheckCharacter,
     ReadHeader,
     ReadRecord,
@@ -45,7 +46,7 @@ impl Kind {
 }
 
 /// Kind, name, and the fields in and out: n a number, r a run of numbers or a state, o octets.
-const KINDS: [(Kind, &str, &str, &str); 26] = [
+const KINDS: [(Kind, &str, &str, &str); 27] = [
     (Kind::Format, "format", "n", "nnnnn"),
     (Kind::SenderOpen, "sender_open", "nnnnnn", "nr"),
     (Kind::ReceiverOpen, "receiver_open", "nnn", "nr"),
@@ -53,6 +54,7 @@ const KINDS: [(Kind, &str, &str, &str); 26] = [
     (Kind::Receive, "receive", "ronrrr", "nrrrrnnnn"),
     (Kind::Line, "line", "nnno", "rrrrr"),
     (Kind::StatusStep, "status_step", "nonn", "nnono"),
+    (Kind::StatusRun, "status_run", "nooonn", "nnonon"),
     (Kind::CheckCharacter, "check_character", "o", "n"),
     (Kind::ReadHeader, "read_header", "o", "nnnnn"),
     (Kind::ReadRecord, "read_record", "on", "nnnnn"),

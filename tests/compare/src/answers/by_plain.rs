@@ -15,6 +15,7 @@ pub fn by_plain(case: &Case) -> Answer {
         Kind::Receive => receive(case),
         Kind::Line => line(case, |call| Some(by_plain(call))).expect("every call is answered"),
         Kind::StatusStep => status_step(case),
+        Kind::StatusRun => status_run(case),
         Kind::CheckCharacter => values![u64::from(plain::check_character(&case.octets(0)[..23]))],
         Kind::ReadHeader => read_header(case),
         Kind::ReadRecord => read_record(case),
@@ -128,14 +129,21 @@ fn status_step(case: &Case) -> Answer {
     match plain::step(&block, case.number(2), case.number(3)) {
         Ok((after, None)) => values![0, after.bits, &after.octets[..], 0, &[0u8; 24][..]],
         Ok((after, Some(handed))) => {
-            let answer = match handed.character {
-                plain::Character::DoesNotFit => 1,
-                plain::Character::Fits => 2,
-                plain::Character::NoneCarried => 3,
-            };
-            values![0, after.bits, &after.octets[..], answer, &handed.octets[..]]
+            values![0, after.bits, &after.octets[..], handed.character.number(), &handed.octets[..]]
         }
         Err(refusal) => values![u64::from(refusal), block.bits, &block.octets[..], 0, &[0u8; 24][..]],
+    }
+}
+
+fn status_run(case: &Case) -> Answer {
+    let octets = case.octets(1).try_into().expect("a block has 24 octets");
+    let block = Block { bits: case.number(0), octets };
+    match plain::run(&block, case.octets(2), case.octets(3), case.number(4), case.number(5)) {
+        Ok((after, handed, next)) => {
+            let (answer, out) = handed.map_or((0, [0; 24]), |handed| (handed.character.number(), handed.octets));
+            values![0, after.bits, &after.octets[..], answer, &out[..], next]
+        }
+        Err(refusal) => values![u64::from(refusal), block.bits, &block.octets[..], 0, &[0u8; 24][..], 0],
     }
 }
 
