@@ -7,8 +7,9 @@
  *
  * Every call but rime_check_character and rime_receiver_placed returns a refusal number, RIME_DONE (0) where there is none.
  * A call never does half of its work. A refusal leaves every lent run and the state as they were, and fills `report`,
- * `out` of rime_status_step, `header`, `*next`, `counts`, `totals`, `units`, `*entries`, `answer` or the two
- * entries or halves of a frame with zeros; an opening that is refused fills `state` with zeros, which is itself refused 1.
+ * `out` of rime_status_step and rime_status_run, `facts`, `header`, `*next`, `counts`, `totals`, `units`, `*entries`,
+ * `answer` or the two entries or halves of a frame with zeros; an opening that is refused fills `state` with zeros, which
+ * is itself refused 1.
  * Where several refusals apply, the first in the order of the list at each function is given.
  *
  * Lent memory: a run is a pointer and the number of its entries. A pointer is never NULL (a run of no entries may
@@ -48,6 +49,7 @@ enum {
     RIME_COUNTS = 3,
     RIME_UNITS = 3,
     RIME_ANSWER = 2,
+    RIME_FORMAT = 4,
     RIME_MOST_SLOTS = 48,
     RIME_MOST_MISSING = 14
 };
@@ -168,6 +170,9 @@ enum {
     RIME_RECEIVER_COUNT = 5       /* four octets, least significant first: cells placed since the opening */
 };
 
+/* Places in what rime_format says. */
+enum { RIME_FORMAT_SAMPLE_BITS = 0, RIME_FORMAT_ANCILLARY_BITS = 1, RIME_FORMAT_OVERHEAD_BITS = 2, RIME_FORMAT_SLOTS = 3 };
+
 /* Places in what rime_receive reports. */
 enum { RIME_REPORT_MISSING = 0, RIME_REPORT_NUMBER = 1, RIME_REPORT_SECOND = 2, RIME_REPORT_INDICATION = 3 };
 
@@ -187,6 +192,13 @@ enum { RIME_COUNTS_OCTETS = 0, RIME_COUNTS_LEFT_OUT = 1, RIME_COUNTS_CUT = 2 };
 
 /* Places in what rime_units_export tells. */
 enum { RIME_UNITS_OCTETS = 0, RIME_UNITS_FULL = 1, RIME_UNITS_COUNT = 2 };
+
+/*
+ * Says what a subframe octet means, as the table above has it. Leaves in `facts` the bits of a sample, the ancillary bits and
+ * the overhead bits beside it (each 0 or 4), and S, the slots in a cell. The octet is judged as it stands, never cut.
+ * Refused, with `facts` zeros: 1, the octet is none of the fourteen.
+ */
+uint8_t rime_format(uint32_t format, uint32_t facts[RIME_FORMAT]);
 
 /*
  * Opens a sender. Its first cell will have `number`. With `wanted` it keeps second numbers: `second` goes out in the
@@ -262,6 +274,17 @@ uint32_t rime_receiver_placed(const uint8_t state[RIME_RECEIVER_STATE]);
  * begun.
  */
 uint8_t rime_status_step(uint8_t block[RIME_BLOCK], uint8_t ancillary, uint8_t mark, uint8_t out[RIME_OUT]);
+
+/*
+ * Brings one channel's status block forward as rime_status_step would, by the entries `from`, `from` + `step`, .. of two runs
+ * that the receiver wrote, until one hands out a block or the runs end: with C channels side by side, channel c is `from` c and
+ * `step` C. Leaves in `out` what that entry hands out, else RIME_STATUS_NONE and zeros, and in `*next` the last entry used plus
+ * `step`, cut at 18,446,744,073,709,551,615; `from` where none was used. The next call goes on from there.
+ * Refused, with `block` untouched, `out` zeros and `*next` 0: 5, the runs aren't equally long or `step` is 0; 14, as for
+ * rime_status_step, at any entry that the call would use.
+ */
+uint8_t rime_status_run(uint8_t block[RIME_BLOCK], const uint8_t *ancillary, size_t ancillary_len, const uint8_t *marks,
+                        size_t marks_len, uint64_t from, uint64_t step, uint8_t out[RIME_OUT], uint64_t *next);
 
 /*
  * Returns the check character of octets 0 to 22 of a channel status block (EBU Tech 3250, Appendix 2), in the bit

@@ -37,7 +37,7 @@ from ctypes import POINTER, c_bool, c_char_p, c_size_t, c_uint, c_uint8, c_uint3
 from typing import Any, Iterator, NamedTuple, Sequence
 
 __all__ = [
-    "VERSION", "Anything", "Block", "Deed", "Entry", "Figures", "Fit", "Frame", "Handed", "Log", "Mark", "Pair", "Receiver",
+    "VERSION", "Anything", "Block", "Deed", "Entry", "Figures", "Fit", "Format", "Frame", "Handed", "Log", "Mark", "Pair", "Receiver",
     "Record", "Refused", "Salvaged", "Sender", "Setup", "Sheet", "Status", "Units", "Verdict", "Writer", "anything",
     "check_character", "check_plan", "controller", "equipment", "export_frame", "export_units", "import_frame", "listing", "plan",
     "port_packing", "port_settings", "read_unit", "salvage", "sheet", "words",
@@ -47,12 +47,14 @@ _RUN8, _RUN32, _RUN64 = ([POINTER(kind), c_size_t] for kind in (c_uint8, c_uint3
 _SETTINGS = [c_uint32, c_uint32, c_uint32]
 _SENDER, _RECEIVER, _REPORT, _STATUS = (POINTER(c_uint8 * octets) for octets in (7, 9, 4, 25))
 _ARGUMENTS: dict[str, list[Any]] = {
+    "rime_format": [c_uint32, POINTER(c_uint32 * 4)],
     "rime_sender_open": [*_SETTINGS, c_uint32, c_bool, c_uint32, _SENDER],
     "rime_send": [_SENDER, c_bool, *_RUN64, *_RUN8, *_RUN8],
     "rime_receiver_open": [*_SETTINGS, _RECEIVER],
     "rime_receive": [_RECEIVER, *_RUN8, c_bool, *_RUN64, *_RUN8, *_RUN8, _REPORT],
     "rime_receiver_placed": [_RECEIVER],
     "rime_status_step": [_STATUS, c_uint8, c_uint8, _STATUS],
+    "rime_status_run": [_STATUS, *_RUN8, *_RUN8, c_uint64, c_uint64, _STATUS, POINTER(c_uint64)],
     "rime_check_character": [POINTER(c_uint8 * 24)],
     "rime_log_header": [*_RUN8, POINTER(c_uint32 * 4)],
     "rime_log_record": [*_RUN8, c_size_t, POINTER(c_uint64 * 4)],
@@ -171,6 +173,31 @@ class Setup(NamedTuple):
     order: int = 0
 
 
+class Format(NamedTuple):
+    """What a subframe octet says: the bits of a sample and of what stands beside it, and the slots in a cell."""
+
+    sample_bits: int
+    ancillary_bits: int
+    overhead_bits: int
+    slots: int
+
+    @classmethod
+    def of(cls, octet: int) -> Format:
+        """The format of this octet. Refused 1.
+
+        >>> Format.of(0x56)
+        Format(sample_bits=24, ancillary_bits=4, overhead_bits=4, slots=12)
+        """
+        facts = (c_uint32 * 4)()
+        _call("rime_format", _setting(octet), facts)
+        return cls(*facts)
+
+    @property
+    def octets(self) -> int:
+        """The octets that one entry fills."""
+        return (self.sample_bits + self.ancillary_bits + self.overhead_bits) // 8
+
+
 class Sender:
     """Packs samples into cells. Refused 1 to 4.
 
@@ -276,6 +303,18 @@ class Status:
         out = (c_uint8 * 25)()
         _call("rime_status_step", self._block, *_fitting(c_uint8, [ancillary, mark]), out)
         return Block(bytes(out[1:]), Fit(out[0])) if out[0] else None
+
+    def run(self, ancillary: bytes | Sequence[int], marks: bytes | Sequence[int], first: int = 0, step: int = 1) -> tuple[Block | None, int]:
+        """Takes the entries first, first + step, .. of two runs until one hands out a block or the runs end: that block, and the
+        entry to go on from. Refused 5 or 14, and then nothing has moved.
+
+        >>> Status().run(bytes([8] + [0] * 383), bytes(384), 0, 2)[1]
+        384
+        """
+        out, after = (c_uint8 * 25)(), c_uint64()
+        where = _fitting(c_uint64, [first, step])
+        _call("rime_status_run", self._block, _octets(ancillary), _octets(marks), *where, out, after)
+        return (Block(bytes(out[1:]), Fit(out[0])) if out[0] else None), after.value
 
 
 def check_character(block: bytes) -> int:
@@ -506,7 +545,7 @@ def export_units(form: int, channels: int, size: int, samples: Sequence[int], an
     ([12, 6], [(5, 0), (6, 0)])
     """
     beside = [0] * len(samples) if ancillary is None else ancillary
-    out, told = _Lent(c_uint8, 4 * len(samples)), (c_uint64 * 3)()  # no entry of these formats is longer
+    out, told = _Lent(c_uint8, Format.of(form).octets * len(samples)), (c_uint64 * 3)()
     lent = _Lent(c_uint64, samples), _Lent(c_uint8, beside)
     _call("rime_units_export", _setting(form), _setting(channels), size, *lent, out, told)
     return Units(bytes(out.array[:told[0]]), told[1])

@@ -16,6 +16,39 @@ impl Setup {
     }
 }
 
+/// What a subframe octet says: the bits of a sample and of what stands beside it, and the slots in a cell.
+#[derive(Debug, Clone, Copy, PartialEq, Eq)]
+pub struct Format {
+    pub sample_bits: u32,
+    pub ancillary_bits: u32,
+    pub overhead_bits: u32,
+    pub slots: u32,
+}
+
+impl Format {
+    /// The format of this octet. Refused 1.
+    ///
+    /// ```
+    /// use rimesatchel::Format;
+    ///
+    /// let format = Format::of(0x56)?;
+    /// assert_eq!((format.sample_bits, format.slots), (24, 12));
+    /// assert_eq!(Format::of(0x156).unwrap_err().number(), 1);
+    /// # Ok::<(), rimesatchel::Refusal>(())
+    /// ```
+    pub fn of(octet: u32) -> Result<Format, Refusal> {
+        let mut facts = [0; 4];
+        let refusal = face::format(octet, &mut facts);
+        let [sample_bits, ancillary_bits, overhead_bits, slots] = facts;
+        unless_refused(refusal, Format { sample_bits, ancillary_bits, overhead_bits, slots })
+    }
+
+    /// The octets that one entry fills.
+    pub fn octets(self) -> usize {
+        (self.sample_bits + self.ancillary_bits + self.overhead_bits) as usize / 8
+    }
+}
+
 /// Packs samples into cells.
 #[derive(Debug, Clone, PartialEq, Eq)]
 pub struct Sender(face::SenderState);

@@ -21,6 +21,7 @@ mod raw {
     use super::{ReceiverState, Report, SenderState, StatusBlock, StatusOut};
 
     extern "C" {
+        pub fn rime_format(format: u32, facts: *mut [u32; 4]) -> u8;
         pub fn rime_sender_open(
             format: u32,
             channels: u32,
@@ -56,6 +57,17 @@ mod raw {
             report: *mut Report,
         ) -> u8;
         pub fn rime_status_step(block: *mut StatusBlock, ancillary: u8, mark: u8, out: *mut StatusOut) -> u8;
+        pub fn rime_status_run(
+            block: *mut StatusBlock,
+            ancillary: *const u8,
+            ancillary_len: usize,
+            marks: *const u8,
+            marks_len: usize,
+            from: u64,
+            step: u64,
+            out: *mut StatusOut,
+            next: *mut u64,
+        ) -> u8;
         pub fn rime_check_character(block: *const [u8; 24]) -> u8;
         pub fn rime_log_header(log: *const u8, log_len: usize, header: *mut [u32; 4]) -> u8;
         pub fn rime_log_record(log: *const u8, log_len: usize, place: usize, answer: *mut [u64; 4]) -> u8;
@@ -146,6 +158,10 @@ mod raw {
     }
 }
 
+pub fn format(octet: u32, facts: &mut [u32; 4]) -> u8 {
+    unsafe { raw::rime_format(octet, facts) }
+}
+
 pub fn sender_open(
     [format, channels, order]: [u32; 3],
     number: u32,
@@ -201,6 +217,22 @@ pub fn receive(state: &mut ReceiverState, cell: &[u8], indication: bool, runs: R
 
 pub fn status_step(block: &mut StatusBlock, ancillary: u8, mark: u8, out: &mut StatusOut) -> u8 {
     unsafe { raw::rime_status_step(block, ancillary, mark, out) }
+}
+
+/// Entries as the receiver wrote them, and which of them are a channel's: `from`, `from` + `step`, ..
+pub struct Entries<'a> {
+    pub ancillary: &'a [u8],
+    pub marks: &'a [u8],
+    pub from: u64,
+    pub step: u64,
+}
+
+pub fn status_run(block: &mut StatusBlock, entries: Entries, out: &mut StatusOut, next: &mut u64) -> u8 {
+    let Entries { ancillary, marks, from, step } = entries;
+    let (ancillary_len, marks_len) = (ancillary.len(), marks.len());
+    unsafe {
+        raw::rime_status_run(block, ancillary.as_ptr(), ancillary_len, marks.as_ptr(), marks_len, from, step, out, next)
+    }
 }
 
 pub fn check_character(block: &[u8; 24]) -> u8 {

@@ -1,6 +1,6 @@
 //! Data units for the other building's network (IEC 62379-5-2).
 
-use crate::{face, unless_refused, Refusal};
+use crate::{face, unless_refused, Format, Refusal};
 
 /// Data units end to end, all of them full but perhaps the last.
 #[derive(Debug, Clone, PartialEq, Eq)]
@@ -36,7 +36,7 @@ pub fn export_units(
     samples: &[u64],
     ancillary: &[u8],
 ) -> Result<Units, Refusal> {
-    let (mut octets, mut told) = (vec![0; 4 * samples.len()], [0; 3]); // no entry of these formats is longer
+    let (mut octets, mut told) = (vec![0; Format::of(format)?.octets() * samples.len()], [0; 3]);
     let refusal = face::units_export([format, channels], size, samples, ancillary, &mut octets, &mut told);
     octets.truncate(told[0] as usize);
     unless_refused(refusal, Units { octets, full: told[1] as usize })

@@ -45,16 +45,47 @@ impl Status {
     pub fn step(&mut self, ancillary: u8, mark: Mark) -> Result<Option<Block>, Refusal> {
         let mut out = [0; 25];
         let refusal = face::status_step(&mut self.0, ancillary, mark as u8, &mut out);
-        let fit = match out[0] {
-            face::status_answer::DOES_NOT_FIT => Some(Fit::DoesNotFit),
-            face::status_answer::FITS => Some(Fit::Fits),
-            face::status_answer::NONE_CARRIED => Some(Fit::NoneCarried),
-            _ => None,
-        };
-        let mut octets = [0; 24];
-        octets.copy_from_slice(&out[1..]);
-        unless_refused(refusal, fit.map(|fit| Block { octets, fit }))
+        unless_refused(refusal, handed(&out))
     }
+
+    /// Takes the entries `from`, `from` + `step`, .. of two runs, ancillary numbers and marks, until one hands out a block or the
+    /// runs end; that block, and the entry to go on from. Refused 5 or 14, and then nothing has moved.
+    ///
+    /// ```
+    /// use rimesatchel::Status;
+    ///
+    /// let (mut ancillary, marks) = ([0; 384], [0; 384]); // two channels side by side
+    /// ancillary[0] = 8; // B begins a block of the first one
+    /// let mut status = Status::new();
+    /// let (block, next) = status.run(&ancillary, &marks, 0, 2)?;
+    /// assert_eq!((block.is_some(), next), (true, 384));
+    /// # Ok::<(), rimesatchel::Refusal>(())
+    /// ```
+    pub fn run(
+        &mut self,
+        ancillary: &[u8],
+        marks: &[u8],
+        from: u64,
+        step: u64,
+    ) -> Result<(Option<Block>, u64), Refusal> {
+        let (mut out, mut next) = ([0; 25], 0);
+        let entries = face::Entries { ancillary, marks, from, step };
+        let refusal = face::status_run(&mut self.0, entries, &mut out, &mut next);
+        unless_refused(refusal, (handed(&out), next))
+    }
+}
+
+/// The block that a step hands out, if it does.
+fn handed(out: &face::StatusOut) -> Option<Block> {
+    let fit = match out[0] {
+        face::status_answer::DOES_NOT_FIT => Some(Fit::DoesNotFit),
+        face::status_answer::FITS => Some(Fit::Fits),
+        face::status_answer::NONE_CARRIED => Some(Fit::NoneCarried),
+        _ => None,
+    };
+    let mut octets = [0; 24];
+    octets.copy_from_slice(&out[1..]);
+    fit.map(|fit| Block { octets, fit })
 }
 
 impl Default for Status {

@@ -2,6 +2,9 @@ pub mod BoxesOne
 pub mod Bytes
 pub mod ContentsOne
 pub mod ContentsWrong
+pub mod FactsLaws
+pub mod FactsOne
+pub mod FactsWrong
 pub mod FramesOne
 pub mod FramesWrong
 pub mod KeptLaws

@@ -13,6 +13,8 @@ use Rattle.status.specs.declared.step.Stepped.{Stepped}
 use Rattle.rimesatchel.specs.Statuses.{blockOf, steppedOf, SteppedOctets}
 use Rattle.rimesatchel.proofs.statuses.rime_check_character.Kinds as check-character-kinds
 use Rattle.rimesatchel.proofs.statuses.rime_check_character.Reads as check-character-reads
+use Rattle.rimesatchel.proofs.statuses.rime_status_run.Kinds as status-run-kinds
+use Rattle.rimesatchel.proofs.statuses.rime_status_run.Reads as status-run-reads
 use Rattle.rimesatchel.proofs.statuses.rime_status_step.Kinds as status-step-kinds
 use Rattle.rimesatchel.proofs.statuses.rime_status_step.Reads as status-step-reads
 
@@ -22,6 +24,15 @@ rime-check-character-one κs a x y v w pre p q = (p ∙ sym q, refl)
 pub rime-status-step-one : One status-step-kinds.ps status-step-kinds.r status-step-reads.Pre status-step-reads.Post
 rime-status-step-one κs a x y v w pre p q =
     (p .refused ∙ sym (q .refused), λ i. ((p .leaves ∙ sym (q .leaves)) i, (tt, (tt, ((p .hands ∙ sym (q .hands)) i, tt)))))
+
+pub rime-status-run-one : One status-run-kinds.ps status-run-kinds.r status-run-reads.Pre status-run-reads.Post
+rime-status-run-one κs a x y v w pre p q = (
+  p .refused ∙ sym (q .refused),
+  λ i. (
+    (p .leaves ∙ sym (q .leaves)) i,
+    (tt, (tt, (tt, (tt, ((p .hands ∙ sym (q .hands)) i, ((p .goes-on ∙ sym (q .goes-on)) i, tt)))))),
+  ),
+)
 
 block-octets : (octets : List ℕ) → length octets ≡ 25 → blockOf octets .bits ∷ blockOf octets .octets ≡ octets
 block-octets [] long = absurd (omega (arith, long))

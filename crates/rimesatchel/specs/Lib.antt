@@ -1,5 +1,6 @@
 pub mod Boxes
 pub mod Contents
+pub mod Facts
 pub mod Frames
 pub mod Kept
 pub mod Logs

@@ -1,6 +1,7 @@
 // The face for C, Rust and Python: each function takes octets apart, calls the proved function and puts the answer back.
 pub mod boxes; // boxes.rt: opening and sending, opening and receiving
 pub mod contents; // contents.rt: what a log holds
+pub mod facts; // facts.rt: a format's facts
 pub mod frames; // frames.rt: frames of an AES3 cable
 pub mod kept; // kept.rt: writing a log, and the list of one
 pub mod logs; // logs.rt: a log's header and records

@@ -20,11 +20,16 @@ use Rattle.status.proofs.assembler.brought_forward.Kinds as brought-for
 use Rattle.status.proofs.assembler.brought_forward.Reads as brought-forward-reads
 use Rattle.status.proofs.check.check_character.Kinds as check-character-kinds
 use Rattle.status.proofs.check.check_character.Reads as check-character-reads
+use Rattle.status.proofs.run.run.Kinds as run-kinds
+use Rattle.status.proofs.run.run.Reads as run-reads
 use Rattle.status.proofs.step.step.Kinds as step-kinds
 use Rattle.status.proofs.step.step.Reads as step-reads
 
 pub check-character-one : One check-character-kinds.ps check-character-kinds.r check-character-reads.Pre check-character-reads.Post
 check-character-one κs a x y v w pre p q = (p ∙ sym q, refl)
+
+pub run-one : One run-kinds.ps run-kinds.r run-reads.Pre run-reads.Post
+run-one κs a x y v w pre p q = (p ∙ sym q, refl)
 
 pub step-one : One step-kinds.ps step-kinds.r step-reads.Pre step-reads.Post
 step-one κs a x y v w pre p q = (p ∙ sym q, refl)

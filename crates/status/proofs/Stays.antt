@@ -35,7 +35,7 @@ module _ (x k c : ℕ) where
   whole : x ≡ (x / 2 ^ k / 2 * 2 + x / 2 ^ k % 2) * 2 ^ k + x % 2 ^ k
   whole = rw (div-add-mod' (x / 2 ^ k) 2, div-add-mod' x (2 ^ k))
 
-  put : octetWith x k c ≡ (x / 2 ^ k / 2 * 2 + c) * 2 ^ k + x % 2 ^ k
+  pub put : octetWith x k c ≡ (x / 2 ^ k / 2 * 2 + c) * 2 ^ k + x % 2 ^ k
   unfolding octetWith
   put = omega (arith, whole)
 

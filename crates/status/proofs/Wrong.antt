@@ -1,5 +1,6 @@
 -- Wrong answers, two or more for each public function: its contract rules them out. Stated over the contracts themselves.
 -- Assumes nothing.
+use mathlib.Core.List.{List, [], _∷_}
 use mathlib.Core.Path.{_≡_, sym, _∙_, ap}
 use Prim.Native.Nat.{ℕ}
 use native.Mathlib.Omega.{arith}
@@ -19,9 +20,11 @@ use Rattle.runs.specs.Runs.{tab}
 use Rattle.runs.proofs.Wrong.{Never, Place, lent, ruled-out}
 use Rattle.status.specs.Bits.{bitOf, octetWith, withBit, zeros}
 use Rattle.status.specs.Check.{coefficientOf, checkCharacter}
+use Rattle.status.specs.Run.{ranFrom, ranOf}
 use Rattle.status.specs.Step.{fitOf, isRefused, addedTo, stepOf, noBlock}
 use Rattle.status.specs.declared.step.Block.{Block}
 use Rattle.status.specs.declared.step.Handed.{Handed}
+use Rattle.status.specs.declared.run.Ran.{Ran}
 use Rattle.status.specs.declared.step.Stepped.{Stepped}
 use Rattle.status.proofs.One.{Ensures, Says}
 use Rattle.status.proofs.assembler.bring_forward as bring-forward
@@ -29,12 +32,14 @@ use Rattle.status.proofs.assembler.brought_forward.Kinds as brought-for
 use Rattle.status.proofs.assembler.brought_forward.Reads as brought-forward-reads
 use Rattle.status.proofs.check.check_character.Kinds as check-character-kinds
 use Rattle.status.proofs.check.check_character.Reads as check-character-reads
+use Rattle.status.proofs.run.run.Kinds as run-kinds
+use Rattle.status.proofs.run.run.Reads as run-reads
 use Rattle.status.proofs.step.step.Kinds as step-kinds
 use Rattle.status.proofs.step.step.Reads as step-reads
 
 -- every definition on the way down to the numbers
 unfoldable pub unfolded : Unit {0}
-unfolding divided takenDown tab bitOf octetWith withBit coefficientOf checkCharacter fitOf isRefused addedTo stepOf
+unfolding divided takenDown tab bitOf octetWith withBit coefficientOf checkCharacter fitOf isRefused addedTo stepOf ranFrom ranOf
 unfolded = tt
 
 -- a block of three bits, all of them 0; and two of 191, one of professional use, its first bit 1, and one of consumer use
@@ -132,3 +137,34 @@ module _ {M : Type 1} (𝓤 : URA M) (H : Heap 𝓤) (A : Atoms 𝓤) (mem : Mem
   refused-not-cleared x v wrong =
       ruled-out 𝓤 (Says 𝓤 H A mem run κs (called 16 0) x v) (id⊢ 𝓤 _) (λ p.
       let right : v .0 .bits ≡ 3 = ap (λ (t : Block). t .bits) (p .1) in omega arith)
+
+-- many steps in one call: two runs, from entry 0 on, every second one
+module _ (κs : Lfts 2) (l k : Place) where
+  abbrev Run : Block → List ℕ → List ℕ → (Ran → Type 0) → Type 0
+  Run block ancillary marks Wrong =
+      Never run-kinds.ps run-kinds.r run-reads.Post κs (block, (lent l ancillary, (lent k marks, (0, (2, tt))))) (λ x v. Wrong x)
+
+  -- entries between taken too: three bits and one more, not three more
+  pub not-each-entry : Run begun (0 ∷ 0 ∷ 0 ∷ []) (0 ∷ 0 ∷ 0 ∷ []) (λ x. x .stepped .block .bits ≡ 6)
+  unfolding unfolded
+  not-each-entry x v wrong p = let right : x .stepped .block .bits ≡ 5 = ap (λ (r : Ran). r .stepped .block .bits) p in omega arith
+
+  -- the run's end for the entry after the last one used
+  pub next-not-the-end : Run begun (0 ∷ 0 ∷ 0 ∷ []) (0 ∷ 0 ∷ 0 ∷ []) (λ x. x .next ≡ 3)
+  unfolding unfolded
+  next-not-the-end x v wrong p = let right : x .next ≡ 4 = ap (λ (r : Ran). r .next) p in omega arith
+
+  -- a refused step's block moved on by those before it
+  pub refused-not-moved : Run begun (0 ∷ 0 ∷ 0 ∷ []) (0 ∷ 0 ∷ 3 ∷ []) (λ x. x .stepped .block .bits ≡ 4)
+  unfolding unfolded
+  refused-not-moved x v wrong p = let right : x .stepped .block .bits ≡ 3 = ap (λ (r : Ran). r .stepped .block .bits) p in omega arith
+
+  -- on past the step that hands out a block
+  pub not-past-a-block : Run consumer (0 ∷ 0 ∷ 8 ∷ []) (0 ∷ 0 ∷ 0 ∷ []) (λ x. x .stepped .block .bits ≡ 1)
+  unfolding unfolded
+  not-past-a-block x v wrong p = let right : x .stepped .block .bits ≡ 0 = ap (λ (r : Ran). r .stepped .block .bits) p in omega arith
+
+  -- runs of unequal length taken
+  pub unequal-not-taken : Run begun (0 ∷ []) (0 ∷ 0 ∷ []) (λ x. x .stepped .handed .refusal ≡ 0)
+  unfolding unfolded
+  unequal-not-taken x v wrong p = let right : x .stepped .handed .refusal ≡ 5 = ap (λ (r : Ran). r .stepped .handed .refusal) p in omega arith

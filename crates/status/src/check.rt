@@ -19,7 +19,7 @@ fn taken_down(rest: u64, coefficient: u64) -> u64
     taken ^ GENERATOR
 }
 
-fn wide(x: u8) -> u64
+pub(crate) fn wide(x: u8) -> u64
     ensures { λ r. ⌜ (r ≡ x) × (r < 256) ⌝ }
 {
     x as u64

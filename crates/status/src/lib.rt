@@ -2,4 +2,5 @@
 // Assumes nothing.
 pub mod assembler;
 pub mod check;
+pub mod run;
 pub mod step;

@@ -24,7 +24,7 @@ pub struct Stepped {
     pub handed: Handed,
 }
 
-fn unfinished_with(refusal: u8, block: Block) -> Stepped
+pub(crate) fn unfinished_with(refusal: u8, block: Block) -> Stepped
     ensures { λ r. ⌜ r ≡ unfinished refusal block ⌝ }
 {
     let zeros = [0u8; 24];
@@ -52,7 +52,7 @@ fn answer_of(octets: [u8; 24]) -> u8
     1
 }
 
-fn finished_with(octets: [u8; 24]) -> Stepped
+pub(crate) fn finished_with(octets: [u8; 24]) -> Stepped
     ensures { λ r. ⌜ r ≡ finished octets ⌝ }
 {
     let none = [0u8; 24];

@@ -6,12 +6,14 @@ use std::fmt;
 
 #[derive(Clone, Copy, Debug, PartialEq, Eq)]
 pub enum Kind {
+    Format,
     SenderOpen,
     ReceiverOpen,
     Send,
     Receive,
     Line,
     StatusStep,
+    StatusRun,
     CheckCharacter,
     ReadHeader,
     ReadRecord,
@@ -36,6 +38,10 @@ pub enum Kind {
 }
 
 impl Kind {
+    pub fn named(name: &str) -> Option<Kind> {
+        KINDS.iter().find(|row| row.1 == name).map(|row| row.0)
+    }
+
     pub fn name(self) -> &'static str {
         KINDS.iter().find(|row| row.0 == self).map_or("", |row| row.1)
     }
@@ -43,12 +49,14 @@ impl Kind {
 
 /// Kind, name, and the fields in and out: n a number, r a run of numbers or a state, o octets.
 const KINDS: [(Kind, &str, &str, &str); 27] = [
+    (Kind::Format, "format", "n", "nnnnn"),
     (Kind::SenderOpen, "sender_open", "nnnnnn", "nr"),
     (Kind::ReceiverOpen, "receiver_open", "nnn", "nr"),
     (Kind::Send, "send", "rnrro", "nro"),
     (Kind::Receive, "receive", "ronrrr", "nrrrrnnnn"),
     (Kind::Line, "line", "nnno", "rrrrr"),
     (Kind::StatusStep, "status_step", "nonn", "nnono"),
+    (Kind::StatusRun, "status_run", "nooonn", "nnonon"),
     (Kind::CheckCharacter, "check_character", "o", "n"),
     (Kind::ReadHeader, "read_header", "o", "nnnnn"),
     (Kind::ReadRecord, "read_record", "on", "nnnnn"),

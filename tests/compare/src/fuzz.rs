@@ -34,6 +34,8 @@ pub type Played = Result<(), Box<Difference>>;
 /// Puts each case to both and keeps count of what was answered, by kind and refusal.
 pub struct Referee<'a> {
     linelist: Option<&'a Path>,
+    /// The kind whose cases are written as lines of the vectors.
+    written: Option<Kind>,
     calls: usize,
     not_asked: usize,
     answered: BTreeMap<(&'static str, u64), usize>,
@@ -41,12 +43,15 @@ pub struct Referee<'a> {
 
 impl Referee<'_> {
     fn new(linelist: Option<&Path>) -> Referee<'_> {
-        Referee { linelist, calls: 0, not_asked: 0, answered: BTreeMap::new() }
+        Referee { linelist, written: None, calls: 0, not_asked: 0, answered: BTreeMap::new() }
     }
 
     pub fn call(&mut self, case: Case) -> Result<Answer, Box<Difference>> {
         self.calls += 1;
         let plain = by_plain(&case);
+        if self.written == Some(case.kind) {
+            println!("{case} => {}", fields(&plain));
+        }
         let other = match case.kind {
             Kind::Linelist => self.listed(&case),
             _ => by_library(&case),
@@ -76,7 +81,7 @@ impl Referee<'_> {
 
 fn play(scenario: u64, seed: u64, referee: &mut Referee) -> Played {
     let mut random = Random::for_scenario(seed, scenario);
-    match random.below(98) {
+    match random.below(101) {
         0..=3 => boxes::open_sender(&mut random, referee),
         4..=6 => boxes::open_receiver(&mut random, referee),
         7..=22 => boxes::one_send(&mut random, referee),
@@ -100,6 +105,8 @@ fn play(scenario: u64, seed: u64, referee: &mut Referee) -> Played {
         93..=95 => figures::sheet(&mut random, referee),
         96 => management::one_record(&mut random, referee),
         97 => management::one_packing(&mut random, referee),
+        98 => boxes::format(&mut random, referee),
+        99 if scenario.is_multiple_of(4) => status::runs(&mut random, referee),
         _ => status::check(&mut random, referee),
     }
 }
@@ -126,6 +133,13 @@ pub fn run(calls: usize, seed: u64, linelist: Option<&Path>) -> bool {
     println!("fuzz, seed {seed}: calls by kind and refusal");
     referee.report();
     true
+}
+
+/// Writes the cases of one kind among so many scenarios, as lines of the vectors.
+pub fn write(kind: Kind, scenarios: u64, seed: u64) -> bool {
+    let mut referee = Referee::new(None);
+    referee.written = Some(kind);
+    (0..scenarios).all(|scenario| play(scenario, seed, &mut referee).is_ok())
 }
 
 /// Plays one scenario again.

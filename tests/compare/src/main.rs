@@ -10,7 +10,7 @@ mod story;
 mod vectors;
 
 use answers::by_plain;
-use case::{fields, Case};
+use case::{fields, Case, Kind};
 use rimesatchel::face;
 use std::error::Error;
 use std::io::{Read, Write};
@@ -26,6 +26,8 @@ compare replay SEED SCENARIO [LINELIST]
                                  play one scenario of a fuzz run again
 compare answer                   print each line of vectors on standard input, given up to its arrow, with the plain
                                  implementation's answer
+compare write KIND SCENARIOS SEED
+                                 print the cases of one kind among so many scenarios, as lines of the vectors
 compare list                     print the plain implementation's list of the log on standard input
 compare story                    play demand 3 and longer outages: a sender, a line that drops, spoils and repeats, a receiver;
                                  and the archive's copies of nothing";
@@ -64,6 +66,9 @@ fn run(words: &[&str]) -> Result<bool, Box<dyn Error>> {
         ["replay", seed, scenario] => Ok(fuzz::replay(seed.parse()?, scenario.parse()?, None)),
         ["replay", seed, scenario, program] => Ok(fuzz::replay(seed.parse()?, scenario.parse()?, built(program))),
         ["answer"] => answer(),
+        ["write", kind, scenarios, seed] => {
+            Ok(fuzz::write(Kind::named(kind).ok_or("no such kind")?, scenarios.parse()?, seed.parse()?))
+        }
         ["list"] => list(),
         ["story"] => Ok([story::run(), archive::run()] == [true; 2]),
         _ => Err(USAGE.into()),

@@ -23,7 +23,7 @@ pub use log::{anything, header, listing, listing_to, put_header, put_record, rec
 pub use management::{controller, equipment, port_packing, port_settings};
 pub use salvage::salvage;
 pub use sheet::sheet;
-pub use status::{check_character, step, Block, Character};
+pub use status::{check_character, run, step, Block};
 pub use units::{export_units, read_unit};
 
 /// The paper's number for a no.

@@ -4,16 +4,18 @@
 use super::line::line;
 use super::management;
 use crate::case::{values, Answer, Case, Kind, Value};
-use crate::face::{self, ReceiverState, Runs};
+use crate::face::{self, Entries, ReceiverState, Runs};
 
 pub fn by_library(case: &Case) -> Option<Answer> {
     match case.kind {
+        Kind::Format if cfg!(feature = "boxes") => format(case),
         Kind::SenderOpen if cfg!(feature = "boxes") => sender_open(case),
         Kind::ReceiverOpen if cfg!(feature = "boxes") => receiver_open(case),
         Kind::Send if cfg!(feature = "boxes") => send(case),
         Kind::Receive if cfg!(feature = "boxes") => receive(case),
         Kind::Line => line(case, by_library),
         Kind::StatusStep if cfg!(feature = "status") => status_step(case),
+        Kind::StatusRun if cfg!(feature = "status") => status_run(case),
         Kind::CheckCharacter if cfg!(feature = "status") => check_character(case),
         Kind::ReadHeader if cfg!(feature = "log") => read_header(case),
         Kind::ReadRecord if cfg!(feature = "log") => read_record(case),
@@ -83,6 +85,14 @@ fn wide<T: Copy + Into<u64>>(numbers: &[T]) -> Vec<u64> {
     numbers.iter().map(|&number| number.into()).collect()
 }
 
+fn format(case: &Case) -> Option<Answer> {
+    let mut facts = [u32::MAX; 4];
+    let refusal = face::format(u32::try_from(case.number(0)).ok()?, &mut facts);
+    let mut answer = values![u64::from(refusal)];
+    answer.extend(facts.map(|number| Value::Number(number.into())));
+    Some(answer)
+}
+
 fn sender_open(case: &Case) -> Option<Answer> {
     let numbers: Vec<u64> = case.inputs.iter().map(Value::number).collect();
     let [format, channels, order, number, _, second] = narrow_array(&numbers)?;
@@ -141,6 +151,16 @@ fn status_step(case: &Case) -> Option<Answer> {
     let mut out = [LEFT_OVER; 25];
     let refusal = face::status_step(&mut block, ancillary, mark, &mut out);
     Some(values![u64::from(refusal), u64::from(block[0]), &block[1..], u64::from(out[0]), &out[1..]])
+}
+
+fn status_run(case: &Case) -> Option<Answer> {
+    let bits = u8::try_from(case.number(0)).ok()?;
+    let mut block = [&[bits], case.octets(1)].concat().try_into().ok()?;
+    let (mut out, mut next) = ([LEFT_OVER; 25], u64::MAX);
+    let (ancillary, marks) = (case.octets(2), case.octets(3));
+    let entries = Entries { ancillary, marks, from: case.number(4), step: case.number(5) };
+    let refusal = face::status_run(&mut block, entries, &mut out, &mut next);
+    Some(values![u64::from(refusal), u64::from(block[0]), &block[1..], u64::from(out[0]), &out[1..], next])
 }
 
 /// Octet 23 isn't read, so where a case has none it holds anything.

@@ -4,16 +4,18 @@
 use super::line::line;
 use super::management;
 use crate::case::{values, Answer, Case, Kind, Value};
-use crate::plain::{self, Anything, Block, Fault, Receiver, Record, Refusal, Sender};
+use crate::plain::{self, Anything, Block, Fault, Receiver, Record, Refusal, Sender, Shape};
 
 pub fn by_plain(case: &Case) -> Answer {
     match case.kind {
+        Kind::Format => format(case),
         Kind::SenderOpen => sender_open(case),
         Kind::ReceiverOpen => receiver_open(case),
         Kind::Send => send(case),
         Kind::Receive => receive(case),
         Kind::Line => line(case, |call| Some(by_plain(call))).expect("every call is answered"),
         Kind::StatusStep => status_step(case),
+        Kind::StatusRun => status_run(case),
         Kind::CheckCharacter => values![u64::from(plain::check_character(&case.octets(0)[..23]))],
         Kind::ReadHeader => read_header(case),
         Kind::ReadRecord => read_record(case),
@@ -62,6 +64,22 @@ fn receiver_of(state: &[u64]) -> Receiver {
 fn receiver_state(receiver: &Receiver) -> [u64; 6] {
     let Receiver { format, channels, order, started, last, count } = *receiver;
     [format, channels, order, u64::from(started), last, count]
+}
+
+fn format(case: &Case) -> Answer {
+    match Shape::new(case.number(0), 1, 0) {
+        Ok(Shape { format, .. }) => {
+            let four = |carried| if carried { 4 } else { 0u64 };
+            values![
+                0,
+                u64::from(format.sample_bits),
+                four(format.ancillary),
+                four(format.overhead),
+                format.slots as u64
+            ]
+        }
+        Err(refusal) => values![u64::from(refusal), 0, 0, 0, 0],
+    }
 }
 
 /// The refusal of an opening, and its state: zeros where it was refused.
@@ -119,14 +137,21 @@ fn status_step(case: &Case) -> Answer {
     match plain::step(&block, case.number(2), case.number(3)) {
         Ok((after, None)) => values![0, after.bits, &after.octets[..], 0, &[0u8; 24][..]],
         Ok((after, Some(handed))) => {
-            let answer = match handed.character {
-                plain::Character::DoesNotFit => 1,
-                plain::Character::Fits => 2,
-                plain::Character::NoneCarried => 3,
-            };
-            values![0, after.bits, &after.octets[..], answer, &handed.octets[..]]
+            values![0, after.bits, &after.octets[..], handed.character.number(), &handed.octets[..]]
         }
         Err(refusal) => values![u64::from(refusal), block.bits, &block.octets[..], 0, &[0u8; 24][..]],
+    }
+}
+
+fn status_run(case: &Case) -> Answer {
+    let octets = case.octets(1).try_into().expect("a block has 24 octets");
+    let block = Block { bits: case.number(0), octets };
+    match plain::run(&block, case.octets(2), case.octets(3), case.number(4), case.number(5)) {
+        Ok((after, handed, next)) => {
+            let (answer, out) = handed.map_or((0, [0; 24]), |handed| (handed.character.number(), handed.octets));
+            values![0, after.bits, &after.octets[..], answer, &out[..], next]
+        }
+        Err(refusal) => values![u64::from(refusal), block.bits, &block.octets[..], 0, &[0u8; 24][..], 0],
     }
 }
 

@@ -21,6 +21,12 @@ pub fn open_receiver(random: &mut Random, referee: &mut Referee) -> Played {
     open(Kind::ReceiverOpen, setup.to_vec(), random, referee)
 }
 
+pub fn format(random: &mut Random, referee: &mut Referee) -> Played {
+    let [octet, ..] = setup(random);
+    let asked = if random.one_in(2) { octet } else { wrong_number(octet, random) };
+    referee.call(Case::new(Kind::Format, values![asked])).map(|_| ())
+}
+
 pub fn open_sender(random: &mut Random, referee: &mut Referee) -> Played {
     let [format, channels, order] = setup(random);
     let (wanted, second) = second_number(random);

@@ -52,6 +52,40 @@ pub fn sequence(random: &mut Random, referee: &mut Referee) -> Played {
     Ok(())
 }
 
+/// Two runs with blocks in them, walked through as far as they go, every so many-th entry.
+pub fn runs(random: &mut Random, referee: &mut Referee) -> Played {
+    let step = random.pick(&[1, 1, 2, 3, 7, 400, u64::MAX]);
+    let (ancillary, marks) = entries(step.min(8) as usize, random);
+    let bits = if random.one_in(2) { 0 } else { random.pick(&[0, 1, 7, 8, 100, 184, 191, 192]) };
+    let (mut bits, mut octets) = (bits, block_octets(random));
+    let mut from = random.pick(&[0, 0, 0, 1, 500, u64::MAX]);
+    for _ in 0..4 {
+        let lent = if random.one_in(12) { &marks[..marks.len() / 2] } else { &marks[..] };
+        let step = if random.one_in(20) { 0 } else { step };
+        let case = Case::new(Kind::StatusRun, values![bits, &octets[..], &ancillary[..], lent, from, step]);
+        let answer = referee.call(case)?;
+        bits = answer[1].number();
+        octets = answer[2].octets().to_vec();
+        from = answer[5].number();
+    }
+    Ok(())
+}
+
+/// Blocks of as many channels side by side, each entry now and then disturbed.
+fn entries(channels: usize, random: &mut Random) -> (Vec<u8>, Vec<u8>) {
+    let disturbed_every = random.pick(&[20, 300, 2000, u64::MAX]);
+    let (blocks, late) = (random.below(4), random.below(3) * 5);
+    let quiet = random.one_in(4);
+    (0..blocks * 192 + late)
+        .flat_map(|time| (0..channels as u64).map(move |_| time))
+        .map(|time| {
+            let begins = if !quiet && time % 192 == late { BEGINS } else { 0 };
+            let (ancillary, mark) = disturb(begins + random.below(8), disturbed_every, random);
+            (ancillary as u8, mark as u8)
+        })
+        .unzip()
+}
+
 fn disturb(ancillary: u64, every: u64, random: &mut Random) -> (u64, u64) {
     let mark = random.below(2);
     if !random.one_in(every) {

@@ -22,6 +22,16 @@ pub enum Character {
     NoneCarried,
 }
 
+impl Character {
+    pub fn number(&self) -> u64 {
+        match self {
+            Character::DoesNotFit => 1,
+            Character::Fits => 2,
+            Character::NoneCarried => 3,
+        }
+    }
+}
+
 /// A finished block.
 pub struct Handed {
     pub octets: [u8; 24],
@@ -45,6 +55,29 @@ pub fn step(block: &Block, ancillary: u64, mark: u64) -> Result<(Block, Option<H
     }
     let character = judged(&longer.octets);
     Ok((NOTHING_BEGUN, Some(Handed { octets: longer.octets, character })))
+}
+
+/// The steps one by one over the entries `from`, `from + step`, .. until one hands out a block or the runs end: the block afterwards,
+/// the finished one, and the entry that comes next.
+pub fn run(
+    block: &Block,
+    ancillary: &[u8],
+    marks: &[u8],
+    from: u64,
+    step_on: u64,
+) -> Result<(Block, Option<Handed>, u64), Refusal> {
+    refuse_if(ancillary.len() != marks.len() || step_on == 0, 5)?;
+    let (mut now, mut at) = (block.clone(), from);
+    while at < ancillary.len() as u64 {
+        let entry = at as usize;
+        let (after, handed) = step(&now, u64::from(ancillary[entry]), u64::from(marks[entry]))?;
+        now = after;
+        at = at.saturating_add(step_on);
+        if handed.is_some() {
+            return Ok((now, handed, at));
+        }
+    }
+    Ok((now, None, at))
 }
 
 /// The first bit is 0 for consumer use. Only the professional layout has a check character.
