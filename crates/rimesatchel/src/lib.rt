@@ -1,4 +1,5 @@
 // The face for C, Rust and Python: each function takes octets apart, calls the proved function and puts the answer back.
+mod batches; // batches.rt: many records of a log in a call
 mod boxes; // boxes.rt: opening and sending, opening and receiving
 mod contents; // contents.rt: what a log holds
 mod facts; // facts.rt: a format's facts

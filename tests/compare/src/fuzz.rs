@@ -81,7 +81,7 @@ impl Referee<'_> {
 
 fn play(scenario: u64, seed: u64, referee: &mut Referee) -> Played {
     let mut random = Random::for_scenario(seed, scenario);
-    match random.below(99) {
+    match random.below(101) {
         0..=3 => boxes::open_sender(&mut random, referee),
         4..=6 => boxes::open_receiver(&mut random, referee),
         7..=22 => boxes::one_send(&mut random, referee),
@@ -104,6 +104,7 @@ fn play(scenario: u64, seed: u64, referee: &mut Referee) -> Played {
         89..=92 => log::salvage(&mut random, referee),
         93..=95 => figures::sheet(&mut random, referee),
         96 => boxes::format(&mut random, referee),
+        98..=99 => log::judge(&mut random, referee),
         97 if scenario.is_multiple_of(4) => status::runs(&mut random, referee),
         _ => status::check(&mut random, referee),
     }
