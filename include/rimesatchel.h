@@ -6,10 +6,11 @@
  * all state is the caller's, in the arrays below, and may hold any octets whatever.
  *
  * Every call but rime_check_character and rime_receiver_placed returns a refusal number, RIME_DONE (0) where there is none.
- * A call never does half of its work. A refusal leaves every lent run and the state as they were, and fills `report`,
- * `out` of rime_status_step and rime_status_run, `facts`, `header`, `*next`, `counts`, `totals`, `units`, `*entries`,
- * `answer` or the two entries or halves of a frame with zeros; an opening that is refused fills `state` with zeros, which
- * is itself refused 1.
+ * A call never does half of its work. rime_judge_log alone does as many records as it can and says where it stopped; each
+ * record is done whole or not at all. A refusal leaves every lent run and the state as they were, and fills `report`, `out`
+ * of rime_status_step and rime_status_run, `facts`, `header`, `*next`, `counts`, `totals`, `units`, `*entries`,
+ * `answer` or the two entries or halves of a frame with zeros; an opening that is refused fills `state` with zeros, which is
+ * itself refused 1.
  * Where several refusals apply, the first in the order of the list at each function is given.
  *
  * Lent memory: a run is a pointer and the number of its entries. A pointer is never NULL (a run of no entries may
@@ -50,6 +51,8 @@ enum {
     RIME_UNITS = 3,
     RIME_ANSWER = 2,
     RIME_FORMAT = 4,
+    RIME_JUDGED_LOG = 3,
+    RIME_JUDGEMENT = 5,           /* of a record, in what rime_judge_log writes */
     RIME_MOST_SLOTS = 48,
     RIME_MOST_MISSING = 14
 };
@@ -326,6 +329,25 @@ uint8_t rime_log_put_header(uint8_t *log, size_t log_len, uint32_t format, uint3
  */
 uint8_t rime_log_put_record(uint8_t *log, size_t log_len, size_t place, const uint8_t *cell, size_t cell_len,
                             bool indication, uint64_t *next);
+
+/* Places in what rime_judge_log counts, and in what it writes for each record. */
+enum { RIME_LOG_NEXT = 0, RIME_LOG_RECORDS = 1, RIME_LOG_STOP = 2 };
+enum { RIME_JUDGEMENT_REFUSAL = 0, RIME_JUDGEMENT_REPORT = 1 };
+
+/*
+ * Judges the records of a log from `place` on, one after the other, as rime_log_record and rime_receive would with room for
+ * all, and unpacks nothing. Writes RIME_JUDGEMENT octets a record into `reports`: its refusal (0, 8, 15, 9 or 20), then the four
+ * of rime_receive's report, zeros where it is refused; what stands past the last one stays. A refused record is passed over.
+ * Leaves in `state` the receiver's behind the last record, with its yes-or-no octet as 0 or 1; in `counts` the next place, the
+ * records judged, and why it stopped, which is what the next single call would answer: 0, the log's end; 11, a first octet
+ * above 1; 12, a record that is cut; 10, no RIME_JUDGEMENT octets are left in `reports`; of several the first in this order.
+ * After 10 the same place goes on with a new run. Of a log in pieces, after 12 the octets from the next place on, at most 48, go
+ * to the front of the next piece. A place at the end or past it, however large, is the end, and comes back as it was.
+ * Refused, with `state` and `reports` untouched and `counts` zeros: 1 to 4 of what stands in `state`, as for rime_receive, also
+ * where no record is there.
+ */
+uint8_t rime_judge_log(uint8_t state[RIME_RECEIVER_STATE], const uint8_t *log, size_t log_len, size_t place,
+                       uint8_t *reports, size_t reports_len, uint64_t counts[RIME_JUDGED_LOG]);
 
 /* Places in what rime_log_list says. */
 enum { RIME_LISTED_OCTETS = 0, RIME_LISTED_WHOLE = 1 };

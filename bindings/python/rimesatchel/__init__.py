@@ -37,10 +37,10 @@ from ctypes import POINTER, c_bool, c_char_p, c_size_t, c_uint, c_uint8, c_uint3
 from typing import Any, Iterator, NamedTuple, Sequence
 
 __all__ = [
-    "VERSION", "Anything", "Block", "Deed", "Entry", "Figures", "Fit", "Format", "Frame", "Handed", "Log", "Mark", "Pair", "Receiver",
-    "Record", "Refused", "Salvaged", "Sender", "Setup", "Sheet", "Status", "Units", "Verdict", "Writer", "anything",
-    "check_character", "check_plan", "controller", "equipment", "export_frame", "export_units", "import_frame", "listing", "plan",
-    "port_packing", "port_settings", "read_unit", "salvage", "sheet", "words",
+    "VERSION", "Anything", "Block", "Deed", "Entry", "Figures", "Fit", "Format", "Frame", "Handed", "Log", "Mark", "Pair",
+    "Receiver", "Record", "Refused", "Salvaged", "Sender", "Setup", "Sheet", "Status", "Units", "Verdict", "Walked",
+    "Writer", "anything", "check_character", "check_plan", "controller", "equipment", "export_frame", "export_units",
+    "import_frame", "listing", "plan", "port_packing", "port_settings", "read_unit", "salvage", "sheet", "words",
 ]
 
 _RUN8, _RUN32, _RUN64 = ([POINTER(kind), c_size_t] for kind in (c_uint8, c_uint32, c_uint64))
@@ -58,6 +58,7 @@ _ARGUMENTS: dict[str, list[Any]] = {
     "rime_check_character": [POINTER(c_uint8 * 24)],
     "rime_log_header": [*_RUN8, POINTER(c_uint32 * 4)],
     "rime_log_record": [*_RUN8, c_size_t, POINTER(c_uint64 * 4)],
+    "rime_judge_log": [_RECEIVER, *_RUN8, c_size_t, *_RUN8, POINTER(c_uint64 * 3)],
     "rime_log_put_header": [*_RUN8, *_SETTINGS, POINTER(c_uint64)],
     "rime_log_put_record": [*_RUN8, c_size_t, *_RUN8, c_bool, POINTER(c_uint64)],
     "rime_log_list": [*_RUN8, *_RUN8, POINTER(c_uint64 * 2)],
@@ -270,6 +271,27 @@ class Receiver:
         missing, number, second, came = report
         return Handed(missing, number, second, came == 1, [Entry(*entry) for entry in entries])
 
+    def judge_log(self, log: bytes, place: int = 0, most: int | None = None) -> tuple[bytes, Walked]:
+        """Judges the records of a log from a place on, at most so many, and unpacks nothing: five octets a record (its refusal,
+        missing count, number, second number and indication), and how far it went.
+
+        >>> Receiver(Setup(0x02, 1)).judge_log(bytes(98), 0, 1)
+        (b'\\x00\\x00\\x00\\x00\\x00', Walked(next=49, records=1, stop=10))
+        """
+        reports, counts = _Lent(c_uint8, 5 * (len(log) // 49 if most is None else most)), (c_uint64 * 3)()
+        _call("rime_judge_log", self._state, _octets(log), _fitting(c_size_t, [place])[0], reports, counts)
+        walked = Walked(*counts)
+        return bytes(reports.array[:5 * walked.records]), walked
+
+
+class Walked(NamedTuple):
+    """How far a walk through a log went: the place to go on from, the records, and why it stopped (0 the end, 10 no room, 11 or
+    12 a record that is broken)."""
+
+    next: int
+    records: int
+    stop: int
+
 
 class Fit(enum.IntEnum):
     """Whether a channel status block's check character fits; a block of consumer use carries none."""
@@ -304,7 +326,7 @@ class Status:
         _call("rime_status_step", self._block, *_fitting(c_uint8, [ancillary, mark]), out)
         return Block(bytes(out[1:]), Fit(out[0])) if out[0] else None
 
-    def run(self, ancillary: bytes | Sequence[int], marks: bytes | Sequence[int], first: int = 0, step: int = 1) -> tuple[Block | None, int]:
+    def run(self, ancillary: bytes, marks: bytes, first: int = 0, step: int = 1) -> tuple[Block | None, int]:
         """Takes the entries first, first + step, .. of two runs until one hands out a block or the runs end: that block, and the
         entry to go on from. Refused 5 or 14, and then nothing has moved.
 

@@ -146,4 +146,55 @@ impl Receiver {
         }
         unless_refused(refusal, Handed { missing, number, second, indication: indication == 1, entries })
     }
+
+    /// Judges the records of a log from a place on, and unpacks nothing: five octets a record go into `reports`, its refusal, then
+    /// the missing count, number, second number and indication, zeros where it is refused. It goes on up to a record that is
+    /// broken, the log's end, or the end of `reports`. Never refused for a receiver that was opened.
+    ///
+    /// ```
+    /// use rimesatchel::{Receiver, Setup, Stop};
+    ///
+    /// let mut receiver = Receiver::open(Setup { format: 0x02, channels: 1, order: 0 })?;
+    /// let mut reports = [9; 5];
+    /// let walked = receiver.judge_log(&[0; 98], 0, &mut reports)?; // two records, and room for one
+    /// assert_eq!((walked.next, walked.records, walked.stop), (49, 1, Stop::NoRoom));
+    /// assert_eq!(reports, [0, 0, 0, 0, 0]);
+    /// # Ok::<(), rimesatchel::Refusal>(())
+    /// ```
+    pub fn judge_log(&mut self, log: &[u8], place: usize, reports: &mut [u8]) -> Result<Walked, Refusal> {
+        let mut counts = [0; 3];
+        let refusal = face::judge_log(&mut self.0, log, place, reports, &mut counts);
+        let [next, records, stop] = counts;
+        let stop = Stop::of(stop);
+        unless_refused(refusal, Walked { next: next as usize, records: records as usize, stop })
+    }
+}
+
+/// How far a walk through a log went.
+#[derive(Debug, Clone, Copy, PartialEq, Eq)]
+pub struct Walked {
+    /// The place to go on from.
+    pub next: usize,
+    pub records: usize,
+    pub stop: Stop,
+}
+
+/// Why a walk through a log stopped.
+#[derive(Debug, Clone, Copy, PartialEq, Eq)]
+pub enum Stop {
+    End,
+    /// Too little was lent for one record more.
+    NoRoom,
+    /// The record at the place is broken: refused 11 or 12.
+    Broken(Refusal),
+}
+
+impl Stop {
+    fn of(number: u64) -> Stop {
+        match Refusal::new(number as u8) {
+            None => Stop::End,
+            Some(refusal) if refusal.number() == 10 => Stop::NoRoom,
+            Some(refusal) => Stop::Broken(refusal),
+        }
+    }
 }

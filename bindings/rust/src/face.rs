@@ -81,6 +81,15 @@ mod raw {
             list_len: usize,
             counts: *mut [u64; 3],
         ) -> u8;
+        pub fn rime_judge_log(
+            state: *mut ReceiverState,
+            log: *const u8,
+            log_len: usize,
+            place: usize,
+            reports: *mut u8,
+            reports_len: usize,
+            counts: *mut [u64; 3],
+        ) -> u8;
         pub fn rime_log_put_header(
             log: *mut u8,
             log_len: usize,
@@ -255,6 +264,11 @@ pub fn salvage(log: &[u8], out: &mut [u8], list: &mut [u64], counts: &mut [u64; 
     let (out_at, out_len) = (out.as_mut_ptr(), out.len());
     let (list_at, list_len) = (list.as_mut_ptr(), list.len());
     unsafe { raw::rime_salvage(log.as_ptr(), log.len(), out_at, out_len, list_at, list_len, counts) }
+}
+
+pub fn judge_log(state: &mut ReceiverState, log: &[u8], place: usize, reports: &mut [u8], counts: &mut [u64; 3]) -> u8 {
+    let (reports, reports_len) = (reports.as_mut_ptr(), reports.len());
+    unsafe { raw::rime_judge_log(state, log.as_ptr(), log.len(), place, reports, reports_len, counts) }
 }
 
 pub fn log_put_header(log: &mut [u8], [format, channels, order]: [u32; 3], next: &mut u64) -> u8 {

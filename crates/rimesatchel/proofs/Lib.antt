@@ -1,3 +1,6 @@
+pub mod BatchesLaws
+pub mod BatchesOne
+pub mod BatchesWrong
 pub mod BoxesOne
 pub mod Bytes
 pub mod ContentsOne

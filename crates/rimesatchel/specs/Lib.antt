@@ -1,3 +1,4 @@
+pub mod Batches
 pub mod Boxes
 pub mod Contents
 pub mod Facts

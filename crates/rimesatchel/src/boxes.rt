@@ -70,7 +70,7 @@ fn count_of(state: [u8; 9]) -> u32
     first + second * 256 + third * 65536 + fourth * 16777216
 }
 
-fn receiver_of(state: [u8; 9]) -> Receiver
+pub(crate) fn receiver_of(state: [u8; 9]) -> Receiver
     ensures { λ r. ⌜ r ≡ receiverOf state ⌝ }
 {
     let count = count_of(state);
@@ -84,7 +84,7 @@ fn receiver_of(state: [u8; 9]) -> Receiver
     }
 }
 
-fn receiver_octets(state: Receiver) -> [u8; 9]
+pub(crate) fn receiver_octets(state: Receiver) -> [u8; 9]
     ensures { λ r. ⌜ r ≡ receiverOctets state ⌝ }
 {
     let started = yes_no(state.started);

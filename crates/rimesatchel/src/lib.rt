@@ -1,4 +1,5 @@
 // The face for C, Rust and Python: each function takes octets apart, calls the proved function and puts the answer back.
+pub mod batches; // batches.rt: many records of a log in a call
 pub mod boxes; // boxes.rt: opening and sending, opening and receiving
 pub mod contents; // contents.rt: what a log holds
 pub mod facts; // facts.rt: a format's facts

@@ -17,6 +17,7 @@ pub enum Kind {
     CheckCharacter,
     ReadHeader,
     ReadRecord,
+    JudgeLog,
     PutHeader,
     PutRecord,
     LogList,
@@ -48,7 +49,7 @@ impl Kind {
 }
 
 /// Kind, name, and the fields in and out: n a number, r a run of numbers or a state, o octets.
-const KINDS: [(Kind, &str, &str, &str); 29] = [
+const KINDS: [(Kind, &str, &str, &str); 30] = [
     (Kind::Format, "format", "n", "nnnnn"),
     (Kind::SenderOpen, "sender_open", "nnnnnn", "nr"),
     (Kind::ReceiverOpen, "receiver_open", "nnn", "nr"),
@@ -60,6 +61,7 @@ const KINDS: [(Kind, &str, &str, &str); 29] = [
     (Kind::CheckCharacter, "check_character", "o", "n"),
     (Kind::ReadHeader, "read_header", "o", "nnnnn"),
     (Kind::ReadRecord, "read_record", "on", "nnnnn"),
+    (Kind::JudgeLog, "judge_log", "rono", "nronnn"),
     (Kind::PutHeader, "put_header", "onnn", "non"),
     (Kind::PutRecord, "put_record", "onon", "non"),
     (Kind::LogList, "log_list", "oo", "nonn"),

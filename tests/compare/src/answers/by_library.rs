@@ -19,6 +19,7 @@ pub fn by_library(case: &Case) -> Option<Answer> {
         Kind::CheckCharacter if cfg!(feature = "status") => check_character(case),
         Kind::ReadHeader if cfg!(feature = "log") => read_header(case),
         Kind::ReadRecord if cfg!(feature = "log") => read_record(case),
+        Kind::JudgeLog if cfg!(feature = "log") => judge_log(case),
         Kind::Anything if cfg!(feature = "log") => anything(case),
         Kind::Salvage if cfg!(feature = "log") => salvage(case),
         Kind::PutHeader if cfg!(feature = "log") => put_header(case),
@@ -184,6 +185,16 @@ fn read_record(case: &Case) -> Option<Answer> {
     let refusal = face::log_record(case.octets(0), place, &mut record);
     let mut answer = values![u64::from(refusal)];
     answer.extend(record.map(Value::Number));
+    Some(answer)
+}
+
+fn judge_log(case: &Case) -> Option<Answer> {
+    let mut state = receiver_octets(case.run(0))?;
+    let place = usize::try_from(case.number(2)).ok()?;
+    let (mut reports, mut counts) = (Fenced::around(case.octets(3), LEFT_OVER), [u64::MAX; 3]);
+    let refusal = face::judge_log(&mut state, case.octets(1), place, reports.lent(), &mut counts);
+    let mut answer = values![u64::from(refusal), &receiver_fields(&state)[..], &reports.back()[..]];
+    answer.extend(counts.map(Value::Number));
     Some(answer)
 }
 

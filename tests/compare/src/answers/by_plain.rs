@@ -19,6 +19,7 @@ pub fn by_plain(case: &Case) -> Answer {
         Kind::CheckCharacter => values![u64::from(plain::check_character(&case.octets(0)[..23]))],
         Kind::ReadHeader => read_header(case),
         Kind::ReadRecord => read_record(case),
+        Kind::JudgeLog => judge_log(case),
         Kind::PutHeader => {
             put(case.octets(0), plain::put_header(case.octets(0), case.number(1), case.number(2), case.number(3)))
         }
@@ -169,6 +170,36 @@ fn read_record(case: &Case) -> Answer {
         Ok(Record::End) => values![0, 0, 0, 0, place],
         Err(refusal) => values![u64::from(refusal), 0, 0, 0, 0],
     }
+}
+
+/// The single calls in a row: the record at the place, and the receiver's answer to it with room for all.
+fn judge_log(case: &Case) -> Answer {
+    const ROOM: [usize; 3] = [720; 3];
+    let (log, mut reports) = (case.octets(1), case.octets(3).to_vec());
+    let mut receiver = receiver_of(case.run(0));
+    if let Err(refusal) = receiver.shape() {
+        return values![u64::from(refusal), case.run(0), &reports[..], 0, 0, 0];
+    }
+    let (mut place, mut records) = (case.number(2), 0);
+    let stop = loop {
+        let (indication, start, next) = match plain::record(log, place) {
+            Ok(Record::End) => break 0,
+            Err(refusal) => break u64::from(refusal),
+            Ok(Record::Cell { indication, start, next }) => (indication, start, next),
+        };
+        let Some(five) = reports.get_mut(5 * records..5 * records + 5) else { break 10 };
+        five.fill(0);
+        match receiver.receive(&log[start..start + 48], indication, ROOM) {
+            Ok((after, received)) => {
+                let report = [received.missing, received.number, received.second, u64::from(indication)];
+                report.iter().zip(&mut five[1..]).for_each(|(&number, octet)| *octet = number as u8);
+                receiver = after;
+            }
+            Err(refusal) => five[0] = refusal,
+        }
+        (place, records) = (next as u64, records + 1);
+    };
+    values![0, &receiver_state(&receiver)[..], &reports[..], place, records as u64, stop]
 }
 
 fn anything(case: &Case) -> Answer {

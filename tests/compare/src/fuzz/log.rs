@@ -1,6 +1,6 @@
 //! Logs, whole and damaged: the header, then record after record, and places anywhere.
 
-use super::inputs::{alter, ancillary, cell, indication, setup, wrong_number};
+use super::inputs::{alter, ancillary, cell, damage_state, indication, setup, wrong_number};
 use super::{Played, Referee};
 use crate::case::{fields, values, Case, Kind};
 use crate::plain::{self, Shape};
@@ -97,6 +97,31 @@ pub fn walk(random: &mut Random, referee: &mut Referee) -> Played {
     let past = [length, length + 1, u64::MAX, u64::MAX - 48, 1 << 63, 1 << 32];
     read_record(&log, random.below(length + 2), referee)?;
     read_record(&log, random.pick(&past), referee)?;
+    Ok(())
+}
+
+/// A log walked through by a state that mostly fits it, with room that often ends before it, and gone on with.
+pub fn judge(random: &mut Random, referee: &mut Referee) -> Played {
+    let log = log(random);
+    let header = plain::header(&log).map(|header| [header.format, header.channels, header.order]);
+    let [format, channels, order] = header.unwrap_or_else(|_| setup(random));
+    let mut state = vec![format, channels, order, 0, 0, 0];
+    if random.one_in(3) {
+        let overhead = Shape::new(format, channels, order).is_ok_and(|shape| shape.format.overhead);
+        let last = if overhead { random.below(16) } else { 0 };
+        let count = random.pick(&[1, 7, 4_294_967_280, 4_294_967_294, 4_294_967_295]);
+        state.splice(3.., [random.pick(&[1, 1, 255]), last, count]);
+    }
+    damage_state(&mut state, 8, random);
+    let mut place = random.pick(&[3, 3, 3, 0, 52, u64::MAX]);
+    for _ in 0..3 {
+        let room = random.place(5 * (log.len() / 49) + 12);
+        let reports = random.octets(room);
+        let case = Case::new(Kind::JudgeLog, values![&state[..], &log[..], place, &reports[..]]);
+        let answer = referee.call(case)?;
+        state = answer[1].run().to_vec();
+        place = answer[3].number();
+    }
     Ok(())
 }
 

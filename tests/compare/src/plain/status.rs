@@ -57,8 +57,8 @@ pub fn step(block: &Block, ancillary: u64, mark: u64) -> Result<(Block, Option<H
     Ok((NOTHING_BEGUN, Some(Handed { octets: longer.octets, character })))
 }
 
-/// The steps one by one over the entries `from`, `from + step`, .. until one hands out a block or the runs end: the block afterwards,
-/// the finished one, and the entry that comes next.
+/// The steps one by one over the entries `from`, `from + step`, .. until one hands out a block or the runs end: the block
+/// afterwards, the finished one, and the entry that comes next.
 pub fn run(
     block: &Block,
     ancillary: &[u8],

@@ -1,0 +1,4 @@
+pub mod One
+pub mod States
+pub mod Walks
+pub mod Wrong

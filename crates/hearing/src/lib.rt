@@ -1,0 +1,2 @@
+// Records of a log, many in a call.
+pub mod judging;
