@@ -1,4 +1,5 @@
 pub mod One
+pub mod Onward
 pub mod States
 pub mod Walks
 pub mod Wrong
