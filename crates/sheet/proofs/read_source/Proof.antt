@@ -18,8 +18,11 @@ same-length c = search needs
 same-length-2 : tie.Need-same-length-2
 same-length-2 c = search needs
 
+same-length-3 : tie.Need-same-length-3
+same-length-3 c = search needs
+
 pub read-source-spec : {M : Type 1} → statement M
 read-source-spec =
     tie.close
     (tie.spec (search needs) (search needs) (search needs) (search needs) array-share-prefix-name slice-aggregate-read-all
-    (search needs) (search needs) same-length same-length-2 (search needs))
+    (search needs) (search needs) same-length same-length-2 same-length-3 (search needs))
