@@ -240,17 +240,7 @@ pub fn status_run(block: &mut StatusBlock, entries: Entries, out: &mut StatusOut
     let Entries { ancillary, marks, from, step } = entries;
     let (ancillary_len, marks_len) = (ancillary.len(), marks.len());
     unsafe {
-        raw::rime_status_run(
-            block,
-            ancillary.as_ptr(),
-            ancillary_len,
-            marks.as_ptr(),
-            marks_len,
-            from,
-            step,
-            out,
-            next,
-        )
+        raw::rime_status_run(block, ancillary.as_ptr(), ancillary_len, marks.as_ptr(), marks_len, from, step, out, next)
     }
 }
 

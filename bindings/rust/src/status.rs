@@ -61,7 +61,13 @@ impl Status {
     /// assert_eq!((block.is_some(), next), (true, 384));
     /// # Ok::<(), rimesatchel::Refusal>(())
     /// ```
-    pub fn run(&mut self, ancillary: &[u8], marks: &[u8], from: u64, step: u64) -> Result<(Option<Block>, u64), Refusal> {
+    pub fn run(
+        &mut self,
+        ancillary: &[u8],
+        marks: &[u8],
+        from: u64,
+        step: u64,
+    ) -> Result<(Option<Block>, u64), Refusal> {
         let (mut out, mut next) = ([0; 25], 0);
         let entries = face::Entries { ancillary, marks, from, step };
         let refusal = face::status_run(&mut self.0, entries, &mut out, &mut next);

@@ -69,7 +69,13 @@ fn format(case: &Case) -> Answer {
     match Shape::new(case.number(0), 1, 0) {
         Ok(Shape { format, .. }) => {
             let four = |carried| if carried { 4 } else { 0u64 };
-            values![0, u64::from(format.sample_bits), four(format.ancillary), four(format.overhead), format.slots as u64]
+            values![
+                0,
+                u64::from(format.sample_bits),
+                four(format.ancillary),
+                four(format.overhead),
+                format.slots as u64
+            ]
         }
         Err(refusal) => values![u64::from(refusal), 0, 0, 0, 0],
     }
