@@ -91,8 +91,8 @@ pub extern "C" fn rime_status_run(
     let handed = stepped.handed;
     let left = after.octets;
     *block = with_first(after.bits, left);
-    let given = handed.octets;
-    *out = with_first(handed.answer, given);
+    let gone = handed.octets;
+    *out = with_first(handed.answer, gone);
     *next = ran.next as u64;
     handed.refusal
 }
