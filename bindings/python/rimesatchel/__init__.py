@@ -162,6 +162,12 @@ def _octets(octets: bytes | Sequence[int]) -> _Lent:
     return lent
 
 
+def _state(length: int, octets: bytes) -> Any:
+    if len(octets) != length:
+        raise ValueError(f"a state of {len(octets)} octets, where it has {length}")
+    return (c_uint8 * length).from_buffer_copy(octets)
+
+
 def _setting(number: int) -> int:
     return _fitting(c_uint32, [number])[0]
 
@@ -218,6 +224,21 @@ class Sender:
         _call("rime_send", self._state, indication, _Lent(c_uint64, samples), _Lent(c_uint8, beside), cell)
         return bytes(cell.array)
 
+    def to_bytes(self) -> bytes:
+        """The state as the library keeps it, 7 octets, to be stored and gone on with."""
+        return bytes(self._state)
+
+    @classmethod
+    def from_bytes(cls, state: bytes) -> Sender:
+        """A sender that goes on from a state. Any 7 octets will do: what can't be is refused when it sends.
+
+        >>> Sender.from_bytes(Sender(Setup(0x56, 2), 9).to_bytes()).to_bytes().hex()
+        '56020009000000'
+        """
+        sender = cls.__new__(cls)
+        sender._state = _state(7, state)
+        return sender
+
 
 class Mark(enum.IntEnum):
     """What a sample that was handed out is worth."""
@@ -270,6 +291,21 @@ class Receiver:
         entries = zip(samples.array[:handed], ancillary.array[:handed], map(Mark, marks.array[:handed]))
         missing, number, second, came = report
         return Handed(missing, number, second, came == 1, [Entry(*entry) for entry in entries])
+
+    def to_bytes(self) -> bytes:
+        """The state as the library keeps it, 9 octets, to be stored and gone on with."""
+        return bytes(self._state)
+
+    @classmethod
+    def from_bytes(cls, state: bytes) -> Receiver:
+        """A receiver that goes on from a state. Any 9 octets will do: what can't be is refused when a cell comes.
+
+        >>> Receiver.from_bytes(bytes([0x56, 2, 0, 1, 7, 8, 0, 0, 0])).placed
+        8
+        """
+        receiver = cls.__new__(cls)
+        receiver._state = _state(9, state)
+        return receiver
 
     def judge_log(self, log: bytes, place: int = 0, most: int | None = None) -> tuple[bytes, Walked]:
         """Judges the records of a log from a place on, at most so many, and unpacks nothing: five octets a record (its refusal,

@@ -73,6 +73,16 @@ impl Sender {
         let refusal = face::send(&mut self.0, indication, samples, ancillary, &mut cell);
         unless_refused(refusal, cell)
     }
+
+    /// The state as the library keeps it, to be stored and gone on with.
+    pub fn to_bytes(&self) -> [u8; 7] {
+        self.0
+    }
+
+    /// A sender that goes on from a state. Any octets will do: what can't be is refused when it sends.
+    pub fn from_bytes(state: [u8; 7]) -> Sender {
+        Sender(state)
+    }
 }
 
 /// What a sample that was handed out is worth.
@@ -147,9 +157,41 @@ impl Receiver {
         unless_refused(refusal, Handed { missing, number, second, indication: indication == 1, entries })
     }
 
+    /// Takes a cell as it came, into runs of the caller's: the entries of the missing cells, then its own, from their start; what
+    /// stands past them stays. Fifteen times C×T entries are always room enough. Refused 5, 8, 15, 9, 20 or 10, and then the
+    /// receiver and the runs are as they were.
+    ///
+    /// ```
+    /// use rimesatchel::{face::Runs, Receiver, Setup};
+    ///
+    /// let mut receiver = Receiver::open(Setup { format: 0x08, channels: 1, order: 0 })?;
+    /// let (mut samples, mut ancillary, mut marks) = ([7; 13], [7; 13], [7; 13]);
+    /// let runs = Runs { samples: &mut samples, ancillary: &mut ancillary, marks: &mut marks };
+    /// assert_eq!(receiver.receive_into(&[0; 48], false, runs)?.missing, 0);
+    /// assert_eq!((samples[11], samples[12]), (0, 7));
+    /// # Ok::<(), rimesatchel::Refusal>(())
+    /// ```
+    pub fn receive_into(&mut self, cell: &[u8], indication: bool, runs: face::Runs) -> Result<Report, Refusal> {
+        let mut report = [0; 4];
+        let refusal = face::receive(&mut self.0, cell, indication, runs, &mut report);
+        let [missing, number, second, indication] = report;
+        unless_refused(refusal, Report { missing, number, second, indication: indication == 1 })
+    }
+
+    /// The state as the library keeps it, to be stored and gone on with.
+    pub fn to_bytes(&self) -> [u8; 9] {
+        self.0
+    }
+
+    /// A receiver that goes on from a state. Any octets will do: what can't be is refused when a cell comes.
+    pub fn from_bytes(state: [u8; 9]) -> Receiver {
+        Receiver(state)
+    }
+
     /// Judges the records of a log from a place on, and unpacks nothing: five octets a record go into `reports`, its refusal, then
     /// the missing count, number, second number and indication, zeros where it is refused. It goes on up to a record that is
-    /// broken, the log's end, or the end of `reports`. Never refused for a receiver that was opened.
+    /// broken, the log's end, or the end of `reports`. Refused 1 to 4, which never
+    /// happens to a receiver that was opened.
     ///
     /// ```
     /// use rimesatchel::{Receiver, Setup, Stop};
@@ -168,6 +210,15 @@ impl Receiver {
         let stop = Stop::of(stop);
         unless_refused(refusal, Walked { next: next as usize, records: records as usize, stop })
     }
+}
+
+/// What a receiver reports of a cell that it took.
+#[derive(Debug, Clone, Copy, PartialEq, Eq)]
+pub struct Report {
+    pub missing: u8,
+    pub number: u8,
+    pub second: u8,
+    pub indication: bool,
 }
 
 /// How far a walk through a log went.
