@@ -154,7 +154,7 @@ def try_sound(folder):
     """A sound file that is spoiled at its start, by its name and through a pipe."""
     kind = chance.choice(['wav', 'rf64', 'w64', 'aiff', 'flac'])
     whole = folder / f'in.{kind}'
-    if run('receive', '-q', '--force', str(folder / 'in.log'), str(whole), may=(0, 2, 3)).returncode != 0:
+    if run('receive', '-q', '--force', str(folder / 'in.log'), str(whole), may=(0, 2, 3, 64)).returncode != 0:  # 64: 40 bits as FLAC
         return  # a format that such a file doesn't hold
     name = folder / f'spoiled.{kind}'
     name.write_bytes(spoiled(whole.read_bytes(), most=120, kinds=4))
