@@ -8,7 +8,7 @@ make --no-print-directory -f desk/desk.mk desk
 here=$PWD
 desk=$here/target/desk/rimesatchel
 dir=$(mktemp -d)
-trap 'umount "$dir/full" 2> /dev/null; rm -rf "$dir"' EXIT
+trap 'umount "$dir/full" 2> /dev/null || :; rm -rf "$dir"' EXIT
 chmod 755 "$dir" # for the user nobody, below
 cd "$dir"
 
