@@ -19,7 +19,7 @@ static const struct {
     {"list", "rimesatchel list", desk_list},          {"anything", "rimesatchel anything", desk_anything},
     {"sheet", "rimesatchel sheet", desk_sheet},       {"add", "rimesatchel add", desk_add},
     {"salvage", "rimesatchel salvage", desk_salvage}, {"labels", "rimesatchel labels", desk_labels},
-    {"picture", "rimesatchel picture", desk_picture},
+    {"picture", "rimesatchel picture", desk_picture}, {"verify", "rimesatchel verify", desk_verify},
 };
 
 static const char about[] =
@@ -34,6 +34,7 @@ static const char about[] =
     "  salvage IN.log OUT.log   a new log of the records that the receiver takes\n"
     "  labels IN.log            the channel status blocks that a log carries\n"
     "  picture IN.log OUT.png   draws the reading over time\n"
+    "  verify SOUND LOG         whether a log carries a sound file, sample for sample\n"
     "\n"
     "A name - is standard input or standard output. Ends with 0 where all is well, 1 where the answer is a no, 2 for a "
     "refusal or a broken log, 3 where a file can't be read or written, 64 for a wrong call.";
