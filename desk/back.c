@@ -52,7 +52,7 @@ void sidecar_put(struct receive *receive) {
     const struct kept *kept = &receive->sidecar.kept;
     receive->not_put[0] = '\0';
     if (receive->sound.stream) kept_words(kept, receive->not_put);
-    else if (!sound_has_chunks(&receive->sound)) kept_set(kept, receive->sound.file, receive->not_put);
+    else if (!sound_has_chunks(&receive->sound)) kept_set(kept, &receive->sound, receive->not_put);
     else {
         kept_put(kept, &receive->tail);
         for (const struct cue *cue = kept->cues.list; cue < kept->cues.list + kept->cues.count; cue++)

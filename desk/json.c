@@ -16,9 +16,9 @@ static struct {
     } open[DEEPEST];
 } doc;
 
-/* The members of the document itself, and those of an array, have lines of their own. */
+/* The members of the document itself, and those of an array in it, have lines of their own. */
 static bool has_lines(const struct level *level) {
-    return !doc.line && (level == doc.open || level->array);
+    return !doc.line && (level == doc.open || (level == doc.open + 1 && level->array));
 }
 
 static void begin_member(const char *key) {

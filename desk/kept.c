@@ -11,11 +11,13 @@
 static const struct {
     int type;
     const char *name, *info;
+    bool aiff; /* AIFF has it too */
 } tags[KEPT_TAGS] = {
-    {SF_STR_TITLE, "title", "INAM"},     {SF_STR_COPYRIGHT, "copyright", "ICOP"},     {SF_STR_SOFTWARE, "software", "ISFT"},
-    {SF_STR_ARTIST, "artist", "IART"},   {SF_STR_COMMENT, "comment", "ICMT"},         {SF_STR_DATE, "date", "ICRD"},
-    {SF_STR_ALBUM, "album", "IPRD"},     {SF_STR_LICENSE, "license", NULL},           {SF_STR_TRACKNUMBER, "tracknumber", "ITRK"},
-    {SF_STR_GENRE, "genre", "IGNR"},
+    {SF_STR_TITLE, "title", "INAM", true},       {SF_STR_COPYRIGHT, "copyright", "ICOP", true},
+    {SF_STR_SOFTWARE, "software", "ISFT", true}, {SF_STR_ARTIST, "artist", "IART", true},
+    {SF_STR_COMMENT, "comment", "ICMT", true},   {SF_STR_DATE, "date", "ICRD", false},
+    {SF_STR_ALBUM, "album", "IPRD", false},      {SF_STR_LICENSE, "license", NULL, false},
+    {SF_STR_GENRE, "genre", "IGNR", false},      {SF_STR_TRACKNUMBER, "tracknumber", "ITRK", false},
 };
 
 bool kept_is_tag(const char *name, size_t length) {
@@ -152,13 +154,19 @@ void kept_put(const struct kept *kept, struct tail *tail) {
     if (kept_tags(kept) > 0) put_tags(kept, tail);
 }
 
-const char *kept_set(const struct kept *kept, SNDFILE *file, char words[KEPT_WORDS]) {
-    struct kept *left = calloc(1, sizeof *left); /* what isn't taken */
+/* libsndfile takes what it then doesn't write: tags into W64 and most of them into AIFF, cue points into FLAC and W64. */
+const char *kept_set(const struct kept *kept, const struct sound_out *out, char words[KEPT_WORDS]) {
+    int container = out->about.format & SF_FORMAT_TYPEMASK;
+    bool aiff = container == SF_FORMAT_AIFF, flac = container == SF_FORMAT_FLAC;
+    struct kept *left = calloc(1, sizeof *left); /* what isn't written */
     if (left == NULL) err(STATUS_FILE, "a sound file");
     left->has_bext = kept->has_bext;
-    for (unsigned at = 0; at < KEPT_TAGS; at++)
-        if (kept->tags[at] != NULL && sf_set_string(file, tags[at].type, kept->tags[at]) != 0) left->tags[at] = kept->tags[at];
-    if (kept->cues.count > 0 && !cues_set(&kept->cues, file)) left->cues.count = kept->cues.count;
+    for (unsigned at = 0; at < KEPT_TAGS; at++) {
+        bool held = flac || (aiff && tags[at].aiff);
+        if (kept->tags[at] != NULL && (!held || sf_set_string(out->file, tags[at].type, kept->tags[at]) != 0))
+            left->tags[at] = kept->tags[at];
+    }
+    if (kept->cues.count > 0 && (!aiff || !cues_set(&kept->cues, out->file))) left->cues.count = kept->cues.count;
     kept_words(left, words);
     free(left);
     return words;

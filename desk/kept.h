@@ -22,8 +22,8 @@ const char *kept_words(const struct kept *kept, char words[KEPT_WORDS]);     /* 
 void kept_to_json(const struct kept *kept, json_t *object);
 const char *kept_of_json(struct kept *kept, const json_t *object);           /* what is wrong, or NULL */
 void kept_put(const struct kept *kept, struct tail *tail);                   /* bext and tags, as chunks of WAV */
-/* Into a file of another kind, before its sound: what libsndfile can write there. The words of what it can't. */
-const char *kept_set(const struct kept *kept, SNDFILE *file, char words[KEPT_WORDS]);
+/* Into a file of another kind, before its sound: what libsndfile writes there. The words of what it doesn't. */
+const char *kept_set(const struct kept *kept, const struct sound_out *out, char words[KEPT_WORDS]);
 
 /* bext.c */
 json_t *bext_to_json(const kept_bext *bext);

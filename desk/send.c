@@ -179,11 +179,8 @@ static void say_kept(const struct send *send) {
     bool any = kept_words(kept, words)[0] != '\0', others = kept->others[0] != '\0';
     if (!any && !others) return;
     if (send->sidecar_name == NULL)
-        fprintf(stderr, "%s: a log doesn't carry what is beside the samples: %s%s%s%s\n", send->in_name, words,
-                any && others ? ", " : "", kept->others,
-                !any     ? ""
-                : others ? " (--sidecar keeps the first of them)"
-                         : " (--sidecar keeps it)");
+        fprintf(stderr, "%s: a log doesn't carry %s%s%s%s\n", send->in_name, words,
+                any ? " (--sidecar keeps that)" : "", any && others ? "; nor " : "", kept->others);
     else
         fprintf(stderr, "%s: keeps %s%s%s\n", shown(send->sidecar_name, true), any ? words : "nothing beside the samples",
                 others ? "; not kept: " : "", kept->others);

@@ -44,7 +44,7 @@ void tell_begin(struct receive *receive) {
     const uint32_t *header = reading->header;
     receive->told = true;
     doc_object(NULL);
-    doc_text("log", reading->name);
+    doc_text("log", receive->in_name);
     doc_number("format", header[RIME_HEADER_FORMAT]);
     doc_number("channels", header[RIME_HEADER_CHANNELS]);
     doc_number("order", header[RIME_HEADER_ORDER]);
@@ -104,7 +104,7 @@ static void tell_status(const struct frequency *frequency) {
 
 static void tell_sidecar(const struct receive *receive) {
     doc_object("sidecar");
-    doc_text("file", shown(receive->sidecar_name, false));
+    doc_text("file", receive->sidecar_name);
     doc_text("md5", receive->sidecar.md5);
     doc_flag("agrees", !receive->differs);
     doc_flag("other_bits", receive->other_bits);
@@ -135,7 +135,7 @@ void tell_result(const struct receive *receive, bool broken) {
 void tell_end(struct receive *receive, int status) {
     if (!receive->told) {
         doc_object(NULL);
-        doc_text("log", shown(receive->in_name, false));
+        doc_text("log", receive->in_name);
         if (receive->reading.refusal != RIME_DONE && status == STATUS_REFUSED) doc_refusal("refused", receive->reading.refusal);
     }
     doc_number("status", (uint64_t)status);

@@ -155,7 +155,7 @@ static void print_result(const struct verify *verify) {
                verify->after_sound ? ", and not with silence" : "");
     if (is_carried(verify)) printf("yes: %llu samples agree\n", (unsigned long long)verify->agree);
     else
-        printf("no: %llu of %llu samples agree, %llu differ, %llu are missing\n", (unsigned long long)verify->agree,
+        printf("no: %llu of %llu samples agree; %llu different, %llu missing\n", (unsigned long long)verify->agree,
                (unsigned long long)samples(verify), (unsigned long long)verify->differ,
                (unsigned long long)(verify->missing + verify->before * verify->reading.channels));
 }
@@ -182,8 +182,8 @@ static void tell_result_of(const struct verify *verify, enum step last) {
 static void begin_document(struct verify *verify) {
     verify->told = true;
     doc_object(NULL);
-    doc_text("sound", shown(verify->sound_name, false));
-    doc_text("log", shown(verify->log_name, false));
+    doc_text("sound", verify->sound_name);
+    doc_text("log", verify->log_name);
     doc_number("from", verify->from);
 }
 
