@@ -1,135 +1,8 @@
-"""The rest of the third reading, from docs/RULES.md alone: what is told of a log, the cable, data units and circuits."""
+"""The third reading: the cable, data units and circuits (chapters 12 to 14 of docs/RULES.md)."""
 
-from typing import Iterator, List, NamedTuple, Sequence, Tuple
+from typing import List, NamedTuple, Sequence, Tuple
 
-from third_reading import (
-    DAMAGED,
-    LIMIT,
-    MISSING,
-    SOUND,
-    Refused,
-    Setting,
-    Shape,
-    check_sample,
-    log_header,
-    read_log,
-    refuse,
-    shape_of,
-)
-
-# 11. What is told of a log
-
-
-def list_lines(log: bytes, limit: int = LIMIT) -> Iterator[str]:
-    try:
-        setting, _ = log_header(log)
-    except Refused as refusal:
-        yield f"log refused {refusal.number}"
-        return
-    yield f"format {setting.octet} channels {setting.channels} order {setting.order}"
-    sound = missing = refused = 0
-    for k, event in enumerate(read_log(log, limit)):
-        if event.report is not None:
-            sound, missing = sound + 1, missing + event.report.missing
-            yield f"{k} sound {event.report.missing} number {event.number}"
-        else:
-            refused += event.word == "refused"
-            yield f"{k} {event.word} {event.number}"
-    yield f"end {sound} sound {missing} missing {refused} refused"
-
-
-def anything(log: bytes) -> str:
-    try:
-        log_header(log)
-    except Refused as refusal:
-        return f"log refused {refusal.number}"
-    whole = 0
-    for k, event in enumerate(read_log(log)):
-        if any(mark == SOUND and sample != 0 for sample, mark in zip(event.runs.samples, event.runs.marks)):
-            return f"yes {k}"
-        whole += event.word != "broken"
-    return f"no {whole}"
-
-
-class Salvaged(NamedTuple):
-    log: bytes
-    left_out: List[Tuple[int, int]]
-    cut: int
-
-
-def salvage(log: bytes, room: int, room_for_list: int) -> Salvaged:
-    """11.4: the new log, the records left out with their refusals, and how many octets were cut."""
-    _, start = log_header(log)
-    kept, left_out, cut = bytearray(log[:start]), [], 0
-    for k, event in enumerate(read_log(log)):
-        if event.word == "sound":
-            kept += log[event.place : event.place + 49]
-        elif event.word == "refused":
-            left_out.append((k, event.number))
-        else:
-            cut = len(log) - event.place
-    refuse(21, len(kept) > room or len(left_out) > room_for_list)
-    return Salvaged(bytes(kept), left_out, cut)
-
-
-def salvage_lines(log: bytes) -> List[str]:
-    """11.6: what goes to standard error."""
-    try:
-        saved = salvage(log, len(log), len(log))
-    except Refused as refusal:
-        return [f"log refused {refusal.number}"]
-    lines = [f"{k} refused {number}" for k, number in saved.left_out]
-    return lines + [f"end {(len(saved.log) - 3) // 49} kept {len(saved.left_out)} left out {saved.cut} cut"]
-
-
-REFUSED_COLUMNS = (8, 9, 15, 20)
-
-
-def with_share(counts: Sequence[int]) -> List[int]:
-    sound, missing = counts[0], counts[1]
-    return list(counts) + [missing * 1_000_000 // (sound + missing) if sound + missing else 0]
-
-
-def sheet_counts(log: bytes) -> List[int]:
-    counts = [0] * 9
-    try:
-        for event in read_log(log):
-            if event.report is not None:
-                counts[0] += 1
-                counts[1] += event.report.missing
-                for column, mark in ((6, SOUND), (7, DAMAGED), (8, MISSING)):
-                    counts[column] += event.runs.marks.count(mark)
-            elif event.word == "refused":
-                counts[2 + REFUSED_COLUMNS.index(event.number)] += 1
-    except Refused:
-        pass
-    return counts
-
-
-def sheet(octets: bytes, lengths: Sequence[int], room: int) -> List[List[int]]:
-    """11.7: a row of ten for each log, and the row for all at the end."""
-    refuse(18, len(lengths) > 4096)
-    refuse(5, sum(lengths) != len(octets) or room != 10 * len(lengths))
-    rows, start = [], 0
-    for length in lengths:
-        rows.append(sheet_counts(octets[start : start + length]))
-        start += length
-    totals = [sum(row[column] for row in rows) for column in range(9)]
-    refuse(19, max(totals) > LIMIT)
-    return [with_share(row) for row in rows] + [with_share(totals)]
-
-
-NAMES = "log,sound,missing,refused 8,refused 9,refused 15,refused 20,mark 0,mark 1,mark 2,missing per million"
-
-
-def sheet_lines(logs: Sequence[bytes]) -> List[str]:
-    try:
-        rows = sheet(b"".join(logs), [len(log) for log in logs], 10 * len(logs))
-    except Refused as refusal:
-        return [f"sheet refused {refusal.number}"]
-    names = [str(k) for k in range(len(logs))] + ["all"]
-    return [NAMES] + [",".join([name, *map(str, row)]) for name, row in zip(names, rows)]
-
+from third_reading import Shape, check_sample, refuse, shape_of
 
 # 12. Frames of an AES3 cable: a subframe is a number in which slot k is worth 2 to the power k
 
@@ -171,7 +44,10 @@ def check_units(octet: int, channels: int) -> Shape:
     return shape
 
 
-def to_units(octet: int, channels: int, size: int, samples: Sequence[int], ancillary: Sequence[int]) -> List[bytes]:
+def to_units(
+    octet: int, channels: int, size: int, samples: Sequence[int], ancillary: Sequence[int], room: int
+) -> Tuple[List[bytes], int]:
+    """The units, and how many octets a full one has."""
     shape = check_units(octet, channels)
     refuse(5, len(samples) != len(ancillary) or len(samples) % channels != 0)
     for pair in zip(samples, ancillary):
@@ -183,14 +59,16 @@ def to_units(octet: int, channels: int, size: int, samples: Sequence[int], ancil
     entries = [
         (sample << 4 | extra if shape.ancillary else sample).to_bytes(width, "big") for sample, extra in zip(samples, ancillary)
     ]
-    return [b"".join(entries[start : start + step]) for start in range(0, len(entries), step)]
+    refuse(28, width * len(entries) > room)
+    return [b"".join(entries[start : start + step]) for start in range(0, len(entries), step)], step * width
 
 
-def from_unit(octet: int, channels: int, unit: bytes) -> Tuple[List[int], List[int]]:
+def from_unit(octet: int, channels: int, unit: bytes, room: Tuple[int, int]) -> Tuple[List[int], List[int]]:
     shape = check_units(octet, channels)
     width = shape.subframe // 8
-    refuse(5, len(unit) == 0 or len(unit) % (width * channels) != 0)
+    refuse(5, room[0] != room[1] or len(unit) == 0 or len(unit) % (width * channels) != 0)
     refuse(26, shape.overhead)
+    refuse(28, len(unit) // width > room[0])
     numbers = [int.from_bytes(unit[place : place + width], "big") for place in range(0, len(unit), width)]
     if not shape.ancillary:
         return numbers, [0] * len(numbers)
@@ -228,8 +106,3 @@ def plan(octet: int, channels: int, circuits: int) -> List[int]:
         shares.append(min(shape.slots, channels))
         channels -= shares[-1]
     return shares
-
-
-def placed(setting: Setting) -> List[int]:
-    """5.2: the slot of each entry of a run."""
-    return [setting.slot(entry) for entry in range(setting.entries)]

@@ -1,12 +1,14 @@
-"""The rules read a third time. Written from docs/RULES.md alone, by a reader who had seen no source and no vector.
+"""The rules read a third time: the two boxes and channel status (chapters 2 to 9 of docs/RULES.md).
 
-The numbers in the comments are those of RULES. It is plain and slow on purpose, and stands beside the boxes as a second opinion:
-tests/third_reading_vectors.py holds it against the vectors, tests/desk_third.py holds the desk tool against it.
+It was written from docs/RULES.md alone, by a reader who had seen no source and no vector; what he got wrong was mended in RULES.
+The numbers in the comments are those of RULES. It is plain and slow on purpose: tests/third_reading_vectors.py holds it against
+the vectors, tests/desk_third.py the desk tool against it. third_log.py has the log, third_beside.py what stands beside the boxes.
 """
 
-from typing import Iterator, List, NamedTuple, Optional, Sequence, Tuple
+from typing import List, NamedTuple, Sequence, Tuple
 
 LIMIT = 4_294_967_295
+MOST = 18_446_744_073_709_551_615
 SOUND, DAMAGED, MISSING = 0, 1, 2
 
 
@@ -173,10 +175,12 @@ def check_sample(shape: Shape, sample: int, ancillary: int) -> None:
     refuse(6, sample >> shape.bits != 0 or ancillary > 15 or (ancillary != 0 and not shape.ancillary))
 
 
-def send(state: Sender, indication: bool, samples: Sequence[int], ancillary: Sequence[int]) -> Tuple[Sender, bytes]:
+def send(
+    state: Sender, indication: bool, samples: Sequence[int], ancillary: Sequence[int], room: int = 48
+) -> Tuple[Sender, bytes]:
     check_sender(state)
     setting, shape = state.setting, state.setting.shape
-    refuse(5, len(samples) != setting.entries or len(ancillary) != setting.entries)
+    refuse(5, room != 48 or len(samples) != setting.entries or len(ancillary) != setting.entries)
     for pair in zip(samples, ancillary):
         check_sample(shape, *pair)
     refuse(7, indication and state.number % 8 != 0)
@@ -197,7 +201,7 @@ class Receiver(NamedTuple):
     setting: Setting
     started: bool = False
     last: int = 0
-    count: int = 0
+    placed: int = 0
 
 
 class Report(NamedTuple):
@@ -223,7 +227,7 @@ def check_receiver(state: Receiver) -> None:
     check_setting(state.setting)
     refuse(4, state.last > 15)
     refuse(4, state.last != 0 and not (state.started and state.setting.shape.overhead))
-    refuse(4, state.count != 0 and not state.started)
+    refuse(4, state.placed != 0 and not state.started)
 
 
 def numbers_of(shape: Shape, slots: Sequence[Slot], indication: bool) -> Tuple[int, int]:
@@ -246,7 +250,7 @@ def receive(state: Receiver, cell: bytes, indication: bool, runs: Runs) -> Tuple
     number, second = numbers_of(shape, slots, indication)
     ahead = (number - state.last) % 16 if state.started and shape.overhead else 1
     refuse(9, ahead == 0)
-    refuse(20, state.count + ahead > LIMIT)
+    refuse(20, state.placed + ahead > LIMIT)
     refuse(10, len(runs.samples) < ahead * setting.entries)
     gap = (ahead - 1) * setting.entries
     for entry in range(gap):
@@ -254,7 +258,7 @@ def receive(state: Receiver, cell: bytes, indication: bool, runs: Runs) -> Tuple
     for entry in range(setting.entries):
         slot = slots[setting.slot(entry)]
         runs.samples[gap + entry], runs.ancillary[gap + entry], runs.marks[gap + entry] = slot.sample, slot.ancillary, slot.mark
-    return Receiver(setting, True, number, state.count + ahead), Report(ahead - 1, number, second, indication)
+    return Receiver(setting, True, number, state.placed + ahead), Report(ahead - 1, number, second, indication)
 
 
 # 9. Channel status
@@ -285,8 +289,8 @@ def status(block: Block, ancillary: int, mark: int) -> Tuple[Block, str, bytes]:
         block = Block()
     elif block.bits == 0:
         return block, "", nothing
-    octets = bytearray(block.octets)
-    octets[block.bits // 8] |= bit << block.bits % 8
+    octets, worth = bytearray(block.octets), 1 << block.bits % 8
+    octets[block.bits // 8] = octets[block.bits // 8] & ~worth | worth * bit
     if block.bits < 191:
         return Block(bytes(octets), block.bits + 1), "", nothing
     if octets[0] & 1 == 0:
@@ -294,77 +298,13 @@ def status(block: Block, ancillary: int, mark: int) -> Tuple[Block, str, bytes]:
     return Block(), "fits" if octets[23] == check_character(octets) else "doesn't fit", bytes(octets)
 
 
-# 10. The log
-
-
-def log_number(log: bytes, place: int) -> Tuple[int, int]:
-    """The number that starts at a place, and the place after it."""
-    number = 0
-    for group in range(3):
-        refuse(11, place + group >= len(log))
-        octet = log[place + group]
-        number |= (octet & 127) << 7 * group
-        if octet < 128:
-            refuse(11, octet == 0 and group > 0)
-            return number, place + group + 1
-    raise Refused(11)
-
-
-def log_header(log: bytes) -> Tuple[Setting, int]:
-    octet, place = log_number(log, 0)
-    channels, place = log_number(log, place)
-    order, place = log_number(log, place)
-    check_setting(Setting(octet, channels, order))
-    return Setting(octet, channels, order), place
-
-
-def write_number(number: int, room: int) -> bytes:
-    groups = [number & 127]
-    while number > 127:
-        number >>= 7
-        groups[-1] |= 128
-        groups.append(number & 127)
-    refuse(11, len(groups) > 3 or len(groups) > room)
-    return bytes(groups)
-
-
-def write_header(setting: Setting, room: int = 3) -> bytes:
-    check_setting(setting)
-    refuse(11, room < 3)
-    return bytes(setting)
-
-
-def write_record(indication: bool, cell: bytes, room: int = 49) -> bytes:
-    refuse(5, len(cell) != 48)
-    refuse(12, room < 49)
-    return bytes([indication]) + cell
-
-
-class Event(NamedTuple):
-    """What a log says at one record: its place, a word, and what goes with the word."""
-
-    place: int
-    word: str
-    number: int = 0
-    report: Optional[Report] = None
-    runs: Runs = Runs([], [], [])
-
-
-def read_log(log: bytes, limit: int = LIMIT) -> Iterator[Event]:
-    """10.4, with 11.2's limit."""
-    setting, place = log_header(log)
-    state, runs = Receiver(setting), runs_for(setting)
-    while place < len(log):
-        if place >= limit or (log[place] <= 1 and min(place + 49, len(log)) > limit):
-            yield Event(place, "broken", 13)
-            return
-        if log[place] > 1 or place + 49 > len(log):
-            yield Event(place, "broken", 11 if log[place] > 1 else 12)
-            return
-        try:
-            state, report = receive(state, log[place + 1 : place + 49], log[place] == 1, runs)
-            length = (report.missing + 1) * setting.entries
-            yield Event(place, "sound", report.number, report, Runs(*(run[:length] for run in runs)))
-        except Refused as refusal:
-            yield Event(place, "refused", refusal.number)
-        place += 49
+def status_run(
+    block: Block, ancillary: Sequence[int], marks: Sequence[int], start: int, step: int
+) -> Tuple[Block, str, bytes, int]:
+    """9.8: the block, the word, the octets handed out and the next entry."""
+    refuse(5, len(ancillary) != len(marks) or step == 0)
+    word, handed = "", bytes(24)
+    while start < len(marks) and not word:
+        block, word, handed = status(block, ancillary[start], marks[start])
+        start = min(start + step, MOST)
+    return block, word, handed, start
