@@ -1,9 +1,9 @@
 #!/usr/bin/env python3
 """The third reading (tests/third_reading.py and beside it) held against the vectors.
 
-usage: third_reading_vectors.py FOLDER
+usage: third_reading_vectors.py FOLDER [KIND..]
 
-FOLDER is tests/vectors; its README has the fields of each kind. A kind that isn't covered is named.
+FOLDER is tests/vectors; its README has the fields of each kind. Without a kind all are tried, and there must be a case for each.
 """
 
 import pathlib
@@ -12,6 +12,7 @@ from typing import Callable, Dict, List, Sequence, Tuple
 
 import third_beside as beside
 import third_log
+import third_port
 import third_reading as third
 from third_reading import Refused
 
@@ -255,30 +256,57 @@ def circuits_plan_case(octet: str, channels: str, shares: str) -> str:
     return answer(lambda: run(beside.plan(int(octet), int(channels), len(numbers(shares)))), shares)
 
 
+def equipment_case(ports: str, message: str, room: str) -> str:
+    def ask() -> str:
+        lent = octets(room)
+        done = third_port.equipment(octets(ports), octets(message), len(lent))
+        after = done.answer + lent[len(done.answer) :]
+        return words(text(done.ports), text(after), len(done.answer), *done[2:])
+
+    return answer(ask, words(ports, room, 0, 0, 0, 0))
+
+
+def controller_case(ports: str, message: str) -> str:
+    return answer(lambda: text(third_port.controller(octets(ports), octets(message))), ports)
+
+
+def port_settings_case(record: str) -> str:
+    return answer(lambda: run(third_port.port_settings(octets(record))), "0,0,0")
+
+
+def port_packing_case(octet: str, channels: str, order: str) -> str:
+    return answer(lambda: str(third_port.port_packing(third.Setting(int(octet), int(channels), int(order)))), "0")
+
+
 CASES: Dict[str, Callable[..., str]] = {
     name[: -len("_case")]: case for name, case in list(globals().items()) if name.endswith("_case")
 }
 CASES["linelist_limit"] = linelist_case
 
 
-def main(folder: pathlib.Path) -> int:
-    tried, different = 0, 0
-    for name in sorted(folder.glob("*.txt")):
-        if name.stem not in CASES:
-            print(f"third reading: {name.stem} isn't covered")
-            continue
-        for number, line in enumerate(name.read_text(encoding="ascii").splitlines(), 1):
-            asked, _, told = line.partition(" => ")
-            got = CASES[name.stem](*asked.split()[1:])
-            tried += 1
-            if got != told:
-                different += 1
-                print(f"{name.name}:{number}: {asked[:300]}\n  vector  {told[:300]}\n  reading {got[:300]}", file=sys.stderr)
-    print(f"third reading: {tried} vectors, {different} differences")
-    return 1 if different or tried < 5000 else 0
+def different(name: pathlib.Path, number: int, line: str) -> bool:
+    """Whether the reading of a line's question is another than the line's answer; says so."""
+    asked, _, told = line.partition(" => ")
+    got = CASES[name.stem](*asked.split()[1:])
+    if got != told:
+        print(f"{name.name}:{number}: {asked[:300]}\n  vector  {told[:300]}\n  reading {got[:300]}", file=sys.stderr)
+    return got != told
+
+
+def main(folder: pathlib.Path, kinds: Sequence[str]) -> None:
+    there = {name.stem for name in folder.glob("*.txt")}
+    if there != set(CASES) or not set(kinds) <= there:
+        sys.exit(f"third reading: {', '.join(sorted(there ^ set(CASES) | set(kinds) - there))}: vectors or a case are missing")
+    tried, wrong = 0, 0
+    for kind in sorted(kinds or there):
+        lines = (folder / f"{kind}.txt").read_text(encoding="ascii").splitlines()
+        wrong += sum(different(folder / f"{kind}.txt", number, line) for number, line in enumerate(lines, 1))
+        tried += len(lines)
+    print(f"third reading: {tried} vectors, {wrong} differences")
+    sys.exit(1 if wrong or not tried else 0)
 
 
 if __name__ == "__main__":
-    if len(sys.argv) != 2:
+    if len(sys.argv) < 2:
         sys.exit(__doc__)
-    sys.exit(main(pathlib.Path(sys.argv[1])))
+    main(pathlib.Path(sys.argv[1]), sys.argv[2:])

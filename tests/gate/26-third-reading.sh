@@ -8,8 +8,10 @@ trap 'rm -rf "$dir"' EXIT
 
 python3 tests/third_reading_vectors.py tests/vectors
 
-# planted FILE FROM TO: with FROM turned into TO the runner finds differences
+# planted KIND FILE FROM TO: with FROM turned into TO the runner finds differences
 planted() {
+    local kind=$1
+    shift
     cp tests/third_*.py "$dir"
     grep -qF -- "$2" "$dir/$1" || { echo "third reading: $1 has no $2" >&2; exit 1; }
     python3 - "$dir/$1" "$2" "$3" << 'PYTHON'
@@ -19,13 +21,16 @@ import sys
 name = pathlib.Path(sys.argv[1])
 name.write_text(name.read_text(encoding='ascii').replace(sys.argv[2], sys.argv[3], 1), encoding='ascii')
 PYTHON
-    if python3 "$dir/third_reading_vectors.py" tests/vectors > "$dir/out" 2> "$dir/err"; then
+    if python3 "$dir/third_reading_vectors.py" tests/vectors "$kind" > "$dir/out" 2> "$dir/err"; then
         echo "third reading: $1 with $3 for $2 passes" >&2
         exit 1
     fi
     grep -q ' vectors, [1-9][0-9]* differences' "$dir/out" || { cat "$dir/err" >&2; exit 1; }
 }
-planted third_reading.py '0b1011' '0b1101'
-planted third_log.py '"sound", report.number' '"sound", report.second'
-planted third_beside.py 'c << 2 | u << 1' 'u << 2 | c << 1'
-echo "third reading: three planted faults noticed"
+planted send third_reading.py '0b1011' '0b1101'
+planted receive third_reading.py '= 0, 0, MISSING' '= 0, 0, SOUND'
+planted status_step third_reading.py '& ~worth |' '|'
+planted linelist third_log.py '"sound", report.number' '"sound", report.second'
+planted aes3_import third_beside.py 'c << 2 | u << 1' 'u << 2 | c << 1'
+planted controller third_port.py 'sum(differ) < fewest' 'sum(differ) <= fewest'
+echo "third reading: six planted faults noticed"
