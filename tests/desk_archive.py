@@ -73,8 +73,9 @@ def kept_in_wav():
                     assert sorted(fields_of(parts)) == sorted((name, text + b'\0') for name, text in TAGS.items())
                     assert by_ffprobe(back) == by_ffprobe(f'in.{ending}'), (by_ffprobe(back), by_ffprobe(f'in.{ending}'))
                 if kind == b'RIFF':  # libsndfile has no cue points of RF64
-                    assert by_sndfile('back.wav') == by_sndfile('in.wav'), (by_sndfile('back.wav'), by_sndfile('in.wav'))
-                    assert len(by_sndfile('back.wav')[1]) == 4 and by_sndfile('back.wav')[2][0] == 'start'
+                    ours, theirs = by_sndfile('back.wav'), by_sndfile('in.wav')  # it loses the name behind an empty one
+                    assert ours[:2] + ours[3:] == theirs[:2] + theirs[3:] and len(ours[0]) == 9 and len(ours[1]) == 4, (ours, theirs)
+                    assert ours[2] == [name.decode(errors='replace') for _, name in POINTS if name], ours
                 assert by_sndfile('back.rf64')[0] == by_sndfile('back.wav')[0]
     assert by_ffprobe('back.wav')[1][0] == (0, 'start') and by_ffprobe('back.wav')[0]['coding_history'].endswith('T=studio\r\n')
 
