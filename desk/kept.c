@@ -20,9 +20,10 @@ static const struct {
     {SF_STR_GENRE, "genre", "IGNR", false},      {SF_STR_TRACKNUMBER, "tracknumber", "ITRK", false},
 };
 
-bool kept_is_tag(const char *name, size_t length) {
+bool kept_has_tag(const struct kept *kept, const char *name, size_t length) {
     for (unsigned at = 0; at < KEPT_TAGS; at++) {
         const char *info = tags[at].info;
+        if (kept->tags[at] == NULL) continue;
         if (strlen(tags[at].name) == length && strncasecmp(tags[at].name, name, length) == 0) return true;
         if (info != NULL && strlen(info) == length && memcmp(info, name, length) == 0) return true;
     }
@@ -39,8 +40,7 @@ void kept_take(struct kept *kept, struct sound_in *in) {
         kept->tags[at] = strndup(text, KEPT_TAG);
         if (kept->tags[at] == NULL) err(STATUS_FILE, "%s", in->name);
     }
-    bool read = cues_read(&kept->cues, in);
-    others_find(kept->others, in->fd, kept->has_bext, read);
+    others_find(kept, in->fd, cues_read(&kept->cues, in));
 }
 
 void kept_free(struct kept *kept) {

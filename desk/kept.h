@@ -30,8 +30,8 @@ json_t *bext_to_json(const kept_bext *bext);
 bool bext_of_json(kept_bext *bext, const json_t *object); /* false where it isn't such an object */
 void bext_put(const kept_bext *bext, struct tail *tail);
 
-/* others.c: what stands in a file and isn't kept. `tag` says whether a name of INFO or FLAC is one of the ten. */
-void others_find(char others[KEPT_WORDS], int fd, bool has_bext, bool has_cues);
-bool kept_is_tag(const char *name, size_t length); /* of INFO, or of FLAC */
+/* others.c: finds what stands in a file and isn't kept. Cue points are, or some can't be read. */
+void others_find(struct kept *kept, int fd, bool has_cues);
+bool kept_has_tag(const struct kept *kept, const char *name, size_t length); /* that of INFO, or of FLAC, which has this name */
 
 #endif
