@@ -1,4 +1,5 @@
-/* What a sidecar gives back to a file that is received: its length, frequency and bits, and what stood beside its samples. */
+/* What a sidecar gives back to a file that is received: its length, frequency and bits, and what stood beside its
+ * samples. */
 #include <err.h>
 #include <stdio.h>
 #include <string.h>

@@ -6,7 +6,8 @@
 
 enum kind { TEXT, NUMBER, OCTETS };
 
-#define FIELD(name, kind) {#name, offsetof(kept_bext, name), sizeof((kept_bext *)0)->name, kind}
+#define FIELD(name, kind) \
+    { #name, offsetof(kept_bext, name), sizeof((kept_bext *)0)->name, kind }
 static const struct field {
     const char *name;
     size_t at, size;

@@ -61,7 +61,8 @@ bool chunks_begin(struct chunks *chunks, int fd) {
 bool chunks_next(struct chunks *chunks) {
     enum { MOST = 10000 }; /* more chunks no file has */
     uint64_t align = chunks->wide ? 7 : 1, length = chunks->length;
-    if (length == 0xFFFFFFFF && chunks_is(chunks, "data") && chunks->long_data != UINT64_MAX) length = chunks->long_data;
+    if (length == 0xFFFFFFFF && chunks_is(chunks, "data") && chunks->long_data != UINT64_MAX)
+        length = chunks->long_data;
     if (length > chunks->end || ++chunks->seen > MOST) return false;
     return go_to(chunks, chunks->at + ((length + align) & ~align));
 }

@@ -134,7 +134,8 @@ static bool read_points(struct cues *cues, const struct chunks *chunks, struct n
 }
 
 /* A name, or a length, of the point that has its number. */
-static void read_beside(struct cues *cues, const struct numbered *numbers, const uint8_t *chunk, size_t count, bool top) {
+static void read_beside(struct cues *cues, const struct numbered *numbers, const uint8_t *chunk, size_t count,
+                        bool top) {
     bool name = memcmp(chunk, "labl", 4) == 0, length = memcmp(chunk, "ltxt", 4) == 0;
     const uint8_t *from = chunk + 8;
     if (!(name && count >= 4) && !(length && count >= 8)) return;

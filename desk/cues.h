@@ -6,8 +6,8 @@
 #include "sound.h"
 #include "stretches.h"
 
-enum { CUES_SHOWN = 4096 };    /* stretches that `receive --cues` shows at most */
-enum { CUES_MOST = 65536 };    /* points that are read at most, from a sound file or a sidecar */
+enum { CUES_SHOWN = 4096 };     /* stretches that `receive --cues` shows at most */
+enum { CUES_MOST = 65536 };     /* points that are read at most, from a sound file or a sidecar */
 enum { CUES_OCTETS = 1 << 21 }; /* octets of their names that are read at most */
 
 struct cue {
@@ -23,10 +23,11 @@ struct cues {
 void cues_add(struct cues *cues, uint32_t at, uint32_t length, const char *name, size_t name_length);
 void cues_show(struct cues *cues, const struct stretch *stretch); /* one that is missing or damaged */
 void cues_free(struct cues *cues);
-void cues_put(const struct cues *cues, struct tail *tail); /* as chunks of WAV: `cue `, and LIST adtl with the names and lengths */
-bool cues_set(const struct cues *cues, SNDFILE *file);     /* in a kind of file that libsndfile writes them into */
-/* Those of WAV and RF64 by their chunks: libsndfile has none of RF64, and none where there are more than 2,500. Of any other kind
-   of file libsndfile's. False where there are some that can't be read. */
+void cues_put(const struct cues *cues,
+              struct tail *tail); /* as chunks of WAV: `cue `, and LIST adtl with the names and lengths */
+bool cues_set(const struct cues *cues, SNDFILE *file); /* in a kind of file that libsndfile writes them into */
+/* Those of WAV and RF64 by their chunks: libsndfile has none of RF64, and none where there are more than 2,500. Of any
+   other kind of file libsndfile's. False where there are some that can't be read. */
 bool cues_read(struct cues *cues, struct sound_in *in);
 
 #endif

@@ -1,8 +1,10 @@
 /*
- * A document of JSON on standard output, written as it comes, so that it may be of any length. Text is escaped by libjansson.
+ * A document of JSON on standard output, written as it comes, so that it may be of any length. Text is escaped by
+ * libjansson.
  *
- * What people name may have octets that aren't UTF-8, and JSON has no place for those. There each of them is U+FFFD, and a second
- * member, whose key ends in _hex, has all octets of the text in hex. So is an octet of zero, which a text of ours can't have.
+ * What people name may have octets that aren't UTF-8, and JSON has no place for those. There each of them is U+FFFD,
+ * and a second member, whose key ends in _hex, has all octets of the text in hex. So is an octet of zero, which a text
+ * of ours can't have.
  */
 #ifndef JSON_H
 #define JSON_H
@@ -20,8 +22,8 @@ void doc_number(const char *key, uint64_t number);
 void doc_flag(const char *key, bool flag);
 void doc_octets(const char *key, const void *octets, size_t count); /* as they came from outside */
 void doc_text(const char *key, const char *text);
-void doc_refusal(const char *key, unsigned refusal);                /* an object: its number and its words */
-void doc_broken(uint64_t record, unsigned refusal);                 /* the same of a log that is broken there */
+void doc_refusal(const char *key, unsigned refusal); /* an object: its number and its words */
+void doc_broken(uint64_t record, unsigned refusal);  /* the same of a log that is broken there */
 
 /* The same rule for a document that is built: a member for the octets, and a second one where they aren't all text. */
 void json_put_octets(json_t *object, const char *key, const void *octets, size_t count);

@@ -59,10 +59,11 @@ const char *kept_words(const struct kept *kept, char words[KEPT_WORDS]) {
     unsigned count = kept_tags(kept);
     int length = snprintf(words, KEPT_WORDS, "%s", kept->has_bext ? "bext" : "");
     if (count > 0)
-        length += snprintf(words + length, (size_t)(KEPT_WORDS - length), "%s%u tag%s", length > 0 ? ", " : "", count, plural(count));
+        length += snprintf(words + length, (size_t)(KEPT_WORDS - length), "%s%u tag%s", length > 0 ? ", " : "", count,
+                           plural(count));
     if (kept->cues.count > 0)
-        snprintf(words + length, (size_t)(KEPT_WORDS - length), "%s%zu cue point%s", length > 0 ? ", " : "", kept->cues.count,
-                 plural(kept->cues.count));
+        snprintf(words + length, (size_t)(KEPT_WORDS - length), "%s%zu cue point%s", length > 0 ? ", " : "",
+                 kept->cues.count, plural(kept->cues.count));
     return words;
 }
 
@@ -154,7 +155,7 @@ void kept_put(const struct kept *kept, struct tail *tail) {
     if (kept_tags(kept) > 0) put_tags(kept, tail);
 }
 
-/* libsndfile takes what it then doesn't write: tags into W64 and most of them into AIFF, cue points into FLAC and W64. */
+/* libsndfile takes what it then doesn't write: tags into W64 and some into AIFF, cue points into FLAC and W64. */
 const char *kept_set(const struct kept *kept, const struct sound_out *out, char words[KEPT_WORDS]) {
     int container = out->about.format & SF_FORMAT_TYPEMASK;
     bool aiff = container == SF_FORMAT_AIFF, flac = container == SF_FORMAT_FLAC;

@@ -1,4 +1,5 @@
-/* What a sound file has beside its samples and a log doesn't carry: bext, tags (INFO of WAV, comments of FLAC), cue points. */
+/* What a sound file has beside its samples and a log doesn't carry: bext, tags (INFO of WAV, comments of FLAC), cue
+ * points. */
 #ifndef KEPT_H
 #define KEPT_H
 
@@ -17,11 +18,12 @@ struct kept {
 };
 void kept_take(struct kept *kept, struct sound_in *in);
 void kept_free(struct kept *kept);
-unsigned kept_tags(const struct kept *kept);                                 /* how many */
-const char *kept_words(const struct kept *kept, char words[KEPT_WORDS]);     /* "bext, 3 tags, 12 cue points"; empty for nothing */
+unsigned kept_tags(const struct kept *kept); /* how many */
+const char *kept_words(const struct kept *kept,
+                       char words[KEPT_WORDS]); /* "bext, 3 tags, 12 cue points"; empty for nothing */
 void kept_to_json(const struct kept *kept, json_t *object);
-const char *kept_of_json(struct kept *kept, const json_t *object);           /* what is wrong, or NULL */
-void kept_put(const struct kept *kept, struct tail *tail);                   /* bext and tags, as chunks of WAV */
+const char *kept_of_json(struct kept *kept, const json_t *object); /* what is wrong, or NULL */
+void kept_put(const struct kept *kept, struct tail *tail);         /* bext and tags, as chunks of WAV */
 /* Into a file of another kind, before its sound: what libsndfile writes there. The words of what it doesn't. */
 const char *kept_set(const struct kept *kept, const struct sound_out *out, char words[KEPT_WORDS]);
 
@@ -32,6 +34,7 @@ void bext_put(const kept_bext *bext, struct tail *tail);
 
 /* others.c: finds what stands in a file and isn't kept. Cue points are, or some can't be read. */
 void others_find(struct kept *kept, int fd, bool has_cues);
-bool kept_has_tag(const struct kept *kept, const char *name, size_t length); /* that of INFO, or of FLAC, which has this name */
+bool kept_has_tag(const struct kept *kept, const char *name,
+                  size_t length); /* that of INFO, or of FLAC, which has this name */
 
 #endif

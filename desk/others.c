@@ -13,7 +13,9 @@ static void add(char others[KEPT_WORDS], const char *before, const uint8_t *name
     size_t held = strlen(others);
     int count = snprintf(word, sizeof word, "%s", before);
     for (size_t at = 0; at < length && at < LONGEST; at++)
-        word[count++] = (char)(name[at] > 0x20 && name[at] < 0x7F && name[at] != ',' ? name[at] : name[at] == ' ' ? ' ' : '?');
+        word[count++] = (char)(name[at] > 0x20 && name[at] < 0x7F && name[at] != ',' ? name[at]
+                               : name[at] == ' '                                     ? ' '
+                                                                                     : '?');
     while (count > 0 && word[count - 1] == ' ') count--;
     word[count] = '\0';
     if (strstr(others, word) != NULL || (held > 3 && strcmp(others + held - 3, "...") == 0)) return;
@@ -42,10 +44,13 @@ static bool is_one_of(const struct chunks *chunks, const char *const *names) {
 
 static void find_chunks(struct kept *kept, struct chunks *chunks, bool has_cues) {
     static const char *const wave[] = {"fmt ", "fact", "data", "ds64", "JUNK", "junk", "PAD ", "FLLR", "PEAK", NULL},
-                             *const aiff[] = {"COMM", "SSND", "FVER", "NAME", "AUTH", "(c) ", "ANNO", "APPL", "PEAK", "FLLR", NULL};
+                             *const aiff[] = {"COMM", "SSND", "FVER", "NAME", "AUTH", "(c) ",
+                                              "ANNO", "APPL", "PEAK", "FLLR", NULL};
     do {
         if (is_one_of(chunks, chunks->aiff ? aiff : wave)) continue;
-        if ((kept->has_bext && chunks_is(chunks, "bext")) || (has_cues && chunks_is(chunks, chunks->aiff ? "MARK" : "cue "))) continue;
+        if ((kept->has_bext && chunks_is(chunks, "bext")) ||
+            (has_cues && chunks_is(chunks, chunks->aiff ? "MARK" : "cue ")))
+            continue;
         if (chunks_is_list(chunks, "INFO")) find_fields(kept, chunks);
         else if (!chunks_is_list(chunks, "adtl")) add(kept->others, "", (const uint8_t *)chunks->name, 4);
     } while (chunks_next(chunks));
@@ -77,7 +82,8 @@ static void find_blocks(struct kept *kept, int fd) {
         uint8_t *octets = kind == COMMENTS && count >= 8 ? malloc(count) : NULL;
         if (octets != NULL && pread(fd, octets, count, at + 4) == (ssize_t)count) find_comments(kept, octets, count);
         free(octets);
-        if (kind < KINDS && kinds[kind] != NULL) add(kept->others, "", (const uint8_t *)kinds[kind], strlen(kinds[kind]));
+        if (kind < KINDS && kinds[kind] != NULL)
+            add(kept->others, "", (const uint8_t *)kinds[kind], strlen(kinds[kind]));
         if (head[0] & LAST) return;
         at += 4 + (off_t)count;
     }

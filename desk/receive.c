@@ -18,7 +18,7 @@ static const struct argp_option options[] = {
     {"bits", 'b', "16|24|32", 0, "bits of the file's samples; none that isn't 0 may be dropped for it", 0},
     {"cut", 'c', "16|24|32", 0, "keep the top bits of each sample, and count those that lose others which aren't 0", 0},
     {"length", 'n', "SAMPLES", 0, "end after this number of samples a channel, where that is in the last cell", 0},
-    {"sidecar", 'k', "FILE.json", 0, "take length, frequency and bits from it, put back what it keeps, and compare the samples", 0},
+    {"sidecar", 'k', "FILE.json", 0, "take length, frequency and bits from it, put back what it keeps, compare samples", 0},
     {"cues", 'C', NULL, 0, "put cue points into a WAV file where samples are missing or damaged, 4096 at most", 0},
     {"sum", 'S', NULL, 0, "print the SHA-256 of OUT.wav, as sha256sum does", 0},
     {"json", 'j', NULL, 0, "print what was received as a document of JSON, in the place of the summary", 0},

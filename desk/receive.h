@@ -47,9 +47,9 @@ struct receive {
 
 /* summary.c: what was received, in words and in JSON. */
 void say_summary(const struct receive *receive);
-void tell_begin(struct receive *receive);                       /* the document up to its stretches, once */
+void tell_begin(struct receive *receive); /* the document up to its stretches, once */
 void tell_stretch(const struct stretch *stretch);
-void tell_result(const struct receive *receive, bool broken);   /* what comes behind them, of a file that was written */
+void tell_result(const struct receive *receive, bool broken); /* what comes behind them, of a file that was written */
 void tell_end(struct receive *receive, int status);
 
 /* back.c: what a sidecar gives back. */

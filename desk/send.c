@@ -44,7 +44,7 @@ static const struct argp_option options[] = {
     {"origin", 'O', "LETTERS", 0, "up to four letters of origin in the channel status (with it --status)", 0},
     {"destination", 'D', "LETTERS", 0, "up to four letters of destination in the channel status (with it --status)", 0},
     {"cut", 'c', NULL, 0, "drop the low bits of samples that have more bits than the format", 0},
-    {"sidecar", 'k', "FILE.json", 0, "keep what a log doesn't carry: bext, tags, cue points, length, and the MD5 of the samples", 0},
+    {"sidecar", 'k', "FILE.json", 0, "keep what a log doesn't carry: bext, tags, cue points, length, the samples' MD5", 0},
     {"force", 'F', NULL, 0, "write over files that are there", 0},
     {"quiet", 'q', NULL, 0, "no bar and no summary", 0},
     {0},

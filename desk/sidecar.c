@@ -26,7 +26,8 @@ void sidecar_write(const struct sidecar *sidecar, const char *file, struct outpu
     json_object_set_new(object, "bits", json_integer(sidecar->bits));
     json_object_set_new(object, "md5", json_string(sidecar->md5));
     kept_to_json(&sidecar->kept, object);
-    if (json_dump_callback(object, write_some, output, JSON_INDENT(2)) != 0 && output->error == 0) output->error = ENOMEM;
+    if (json_dump_callback(object, write_some, output, JSON_INDENT(2)) != 0 && output->error == 0)
+        output->error = ENOMEM;
     json_decref(object);
     output_write(output, "\n", 1);
 }

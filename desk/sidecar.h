@@ -1,4 +1,5 @@
-/* A sidecar: what a sound file has beside its samples, and what its samples are, in a file of JSON. docs/DESK.md has its members. */
+/* A sidecar: what a sound file has beside its samples, and what its samples are, in a file of JSON. docs/DESK.md has
+ * its members. */
 #ifndef SIDECAR_H
 #define SIDECAR_H
 
@@ -11,7 +12,8 @@ struct sidecar {
     char md5[SUM_MD5];
     struct kept kept;
 };
-void sidecar_write(const struct sidecar *sidecar, const char *file, struct output *output); /* a fault is noted in the output */
+void sidecar_write(const struct sidecar *sidecar, const char *file,
+                   struct output *output);                   /* a fault is noted in the output */
 int sidecar_read(struct sidecar *sidecar, const char *name); /* a status, 2 where it isn't one; says what is wrong */
 
 #endif

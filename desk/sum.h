@@ -12,8 +12,8 @@ bool sum_file(int fd, char hex[SUM_SHA256]);       /* false and errno where it c
 void sum_print(const char *hex, const char *name); /* the line of sha256sum */
 
 /*
- * MD5 of samples as FLAC has it in its own header: whole numbers of a file's bits, channels side by side, each in as many octets
- * as it needs, the lowest first. Samples are given with their top bit at the top of 64.
+ * MD5 of samples as FLAC has it in its own header: whole numbers of a file's bits, channels side by side, each in as
+ * many octets as it needs, the lowest first. Samples are given with their top bit at the top of 64.
  */
 struct samples_sum {
     MD5_CTX state;

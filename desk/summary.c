@@ -21,9 +21,8 @@ void say_summary(const struct receive *receive) {
                 (unsigned long long)reading->refused_last);
     char length[DURATION], rate[FREQUENCY_WORDS];
     unsigned long long missing = reading->missing * reading->entries;
-    fprintf(stderr, "%s: %llu samples a channel, %s at %s%s; %llu sample%s missing, %llu damaged\n",
-            receive->out_name, (unsigned long long)receive->times,
-            duration((double)receive->times / receive->frequency.rate, length),
+    fprintf(stderr, "%s: %llu samples a channel, %s at %s%s; %llu sample%s missing, %llu damaged\n", receive->out_name,
+            (unsigned long long)receive->times, duration((double)receive->times / receive->frequency.rate, length),
             frequency_words(&receive->frequency, rate),
             frequency_assumed(&receive->frequency) ? " (--rate, if it was another)" : "", missing, plural(missing),
             (unsigned long long)receive->damaged);
@@ -92,7 +91,8 @@ static void tell_cells(const struct reading *reading) {
 static void tell_status(const struct frequency *frequency) {
     doc_object("channel_status");
     doc_array("rates");
-    for (unsigned at = 0; at < FREQUENCY_CODES && frequency->named[at].rate != 0; at++) doc_number(NULL, frequency->named[at].rate);
+    for (unsigned at = 0; at < FREQUENCY_CODES && frequency->named[at].rate != 0; at++)
+        doc_number(NULL, frequency->named[at].rate);
     doc_end();
     doc_array("bits");
     for (unsigned bits = 1; bits < 64; bits++)
@@ -136,7 +136,8 @@ void tell_end(struct receive *receive, int status) {
     if (!receive->told) {
         doc_object(NULL);
         doc_text("log", receive->in_name);
-        if (receive->reading.refusal != RIME_DONE && status == STATUS_REFUSED) doc_refusal("refused", receive->reading.refusal);
+        if (receive->reading.refusal != RIME_DONE && status == STATUS_REFUSED)
+            doc_refusal("refused", receive->reading.refusal);
     }
     doc_number("status", (uint64_t)status);
     doc_end();

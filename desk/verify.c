@@ -27,7 +27,7 @@ struct verify {
     bool ended;
 
     uint64_t agree, differ, missing, damaged; /* samples */
-    unsigned first_channel; /* of the first that differs, counted from 1, and its sample */
+    unsigned first_channel;                   /* of the first that differs, counted from 1, and its sample */
     uint64_t first_sample;
     uint64_t before;  /* samples a channel that the file goes on after the log's end */
     uint64_t after;   /* that the log goes on after the file's */
@@ -146,10 +146,12 @@ static uint64_t samples(const struct verify *verify) {
 static void print_result(const struct verify *verify) {
     unsigned long long after = verify->after, before = verify->before;
     if (verify->differ > 0)
-        printf("first difference: channel %u, sample %llu\n", verify->first_channel, (unsigned long long)verify->first_sample);
+        printf("first difference: channel %u, sample %llu\n", verify->first_channel,
+               (unsigned long long)verify->first_sample);
     if (before > 0)
-        printf("the log ends %llu sample%s a channel before the file: cells are missing after the last one, or before the first "
-               "(--from)\n", before, plural(before));
+        printf("the log ends %llu sample%s a channel before the file: cells are missing after the last one, or before "
+               "the first (--from)\n",
+               before, plural(before));
     if (verify->after >= verify->reading.times || verify->after_sound)
         printf("the log goes on for %llu sample%s a channel after the file's end%s\n", after, plural(after),
                verify->after_sound ? ", and not with silence" : "");
@@ -192,8 +194,8 @@ static int skip(struct verify *verify) {
     while (verify->frames < verify->from)
         if (next_frame(verify) == NULL) {
             if (sound_whole(&verify->in, verify->frames) != STATUS_WELL) return STATUS_FILE;
-            warnx("%s: --from %llu, and it has %llu samples a channel", verify->in.name, (unsigned long long)verify->from,
-                  (unsigned long long)verify->frames);
+            warnx("%s: --from %llu, and it has %llu samples a channel", verify->in.name,
+                  (unsigned long long)verify->from, (unsigned long long)verify->frames);
             return EX_USAGE;
         }
     return STATUS_WELL;
@@ -239,8 +241,8 @@ int desk_verify(int argc, char **argv) {
         .options = options,
         .parser = parse,
         .args_doc = "SOUND LOG",
-        .doc = "Answers whether a log carries a sound file, sample for sample: yes, or what is missing, the first difference, and "
-               "no. - is standard input.",
+        .doc = "Answers whether a log carries a sound file, sample for sample: yes, or what is missing, the first "
+               "difference, and no. - is standard input.",
     };
     argp_parse(&argp, argc, argv, 0, NULL, &verify);
     int status = sound_open(&verify.in, verify.sound_name);

@@ -95,12 +95,12 @@ def by_ffprobe(name):
 def by_sndfile(name):
     """The lines of sndfile-info on bext, INFO and cue points."""
     lines = out_of('sndfile-info', name).decode(errors='replace').split('\n')
-    wanted = [line.strip() for line in lines if line.startswith('    ') and ' : ' in line and 'esf_' not in line and 'ltxt' not in line]
+    wanted = [line.strip() for line in lines if line.startswith('    ') and ' : ' in line]
     points = [line.split('Chunk')[0].split('Pos')[1] for line in lines if 'Cue ID' in line]
     names = [line.split(' : ', 2)[2] for line in wanted if line.startswith('labl') and line.count(' : ') > 1]
     info_ = sorted(line for line in wanted if line[0] == 'I' and line[4] == ' ')
-    broadcast = subprocess.run(['sndfile-info', '--broadcast', name], capture_output=True, check=False).stdout.decode(errors='replace')
-    return info_, points, names, [line for line in broadcast.split('\n') if name not in line]
+    broadcast = subprocess.run(['sndfile-info', '--broadcast', name], capture_output=True, check=False).stdout
+    return info_, points, names, [line for line in broadcast.decode(errors='replace').split('\n') if name not in line]
 
 
 def octets_of(document, key):

@@ -5,8 +5,8 @@ usage: desk_fuzz.py PROGRAM [COUNT [SEED]]
 
 Each log is a whole one in some format, with octets changed, taken out or put in. Every call must end with 0, 1 or 2 and say
 nothing of memory; the marks that `receive` writes must be as many as the records that `list` shows call for; and `list` must
-print what linelist does, where that is built. Spoiled sheets go through `add`, spoiled sound files, with chunks beside their sound
-too, through `send`, and spoiled sidecars through `receive`; they may end with 3 too.
+print what linelist does, where that is built. Spoiled sheets go through `add`, spoiled sound files, with chunks beside their
+sound too, through `send`, and spoiled sidecars through `receive`; they may end with 3 too.
 """
 import json
 import os
@@ -171,10 +171,10 @@ def try_sound(folder):
 def sidecar_of(folder):
     """A log and a sidecar of a sound file whose chunks are spoiled; None where it can't be sent."""
     name, log, kept = folder / chance.choice(['beside.wav', 'beside.rf64']), str(folder / 'beside.log'), folder / 'beside.json'
-    points = [(chance.randrange(1 << 32), chance.randbytes(chance.randrange(9)).replace(b'\0', b'x')) for _ in range(chance.randrange(9))]
+    points = [(chance.randrange(1 << 32), chance.randbytes(at).replace(b'\0', b'x')) for at in range(chance.randrange(9))]
     where = chance.choice(['before', 'after'])
-    sound_file(name, kind=b'RF64' if name.suffix == '.rf64' else b'RIFF', frames=10 + chance.randrange(99), channels=chance.choice([1, 2]),
-               **{where: bext(chance.randbytes(chance.randrange(256))) + info() + cues(points)})
+    sound_file(name, kind=b'RF64' if name.suffix == '.rf64' else b'RIFF', frames=10 + chance.randrange(99),
+               channels=chance.choice([1, 2]), **{where: bext(chance.randbytes(chance.randrange(256))) + info() + cues(points)})
     if chance.randrange(2):
         name.write_bytes(spoiled(name.read_bytes(), kinds=4))
     done = run('send', '--cut', '--force', str(name), log, '--sidecar', str(kept), may=(0, 2, 3))
@@ -194,7 +194,8 @@ def try_sidecar(folder):
         text = spoiled(text, kinds=4)
     elif chance.randrange(2):
         values = json.loads(text)
-        values[chance.choice(list(values))] = chance.choice([0, -1, 1, 2, 1 << 31, 1 << 62, 'x', None, [], {}, [{}], 1.5, {'at': 0}, True])
+        others = [0, -1, 1, 2, 1 << 31, 1 << 62, 'x', None, [], {}, [{}], 1.5, {'at': 0}, True]
+        values[chance.choice(list(values))] = chance.choice(others)
         text = json.dumps(values).encode()
     kept.write_bytes(text)
     out = folder / chance.choice(['beside-out.wav', 'beside-out.rf64', 'beside-out.flac', 'beside-out.aiff', 'beside-out.w64'])

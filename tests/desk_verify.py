@@ -129,7 +129,8 @@ def main(program, count, seed):
             except AssertionError as fault:
                 sys.exit(f'desk: verify of log {number} of seed {seed}: {fault}')
     assert count < 200 or all(tally.values()), tally
-    print(f'desk: verify of {count} spoiled logs as the third reading has it ({", ".join(f"{n} {name}" for name, n in tally.items())})')
+    told = ', '.join(f'{n} {name}' for name, n in tally.items())
+    print(f'desk: verify of {count} spoiled logs as the third reading has it ({told})')
 
 
 if __name__ == '__main__':
