@@ -123,8 +123,20 @@ static void print(const char *key, const char *more, json_t *text) {
     json_decref(text);
 }
 
+/* Letters that stand in JSON as they are. */
+static bool is_plain(const char *octets, size_t count) {
+    for (size_t at = 0; at < count; at++)
+        if (octets[at] < 0x20 || octets[at] > 0x7E || octets[at] == '"' || octets[at] == '\\') return false;
+    return true;
+}
+
 void doc_octets(const char *key, const void *octets, size_t count) {
     bool all;
+    if (is_plain(octets, count)) {
+        begin_member(key);
+        printf("\"%.*s\"", (int)count, (const char *)octets);
+        return;
+    }
     print(key, "", text_of(octets, count, &all));
     if (!all && key != NULL) print(key, "_hex", hex_of(octets, count));
 }
