@@ -199,6 +199,11 @@ def other_than_the_sidecar():
         ends(1, "these aren't the samples", 'receive', '-q', 'l.log', 'out.wav', '-k', 'other.json', '-F', '--strict')
         assert document('receive', 'l.log', 'out.wav', '-k', 'other.json', '-F', '--json')['sidecar']['agrees'] is False
     ends(0, "the sidecar's length 5000 isn't in the last cell", 'receive', 'l.log', 'out.wav', '-F', '-k', 'other.json')
+    samples = sound_file('in.wav', bits=16)  # the same top bits, and others below them in the log
+    ends(0, '', 'send', 'in.wav', 'l.log', '--sidecar', 'j.json', '--force')
+    sound_file('more.wav', samples=[256 * sample + at % 2 for at, sample in enumerate(samples)])
+    ends(0, '', 'send', 'more.wav', 'l.log', '--force')
+    ends(1, 'the MD5 of those is', 'receive', 'l.log', 'out.wav', '-k', 'j.json', '-F', '--strict')
     ends(2, '', 'receive', '-', 'none/x.wav', '-k', 'other.json', given=b'\x56\x02\x07')
     empty()
 
