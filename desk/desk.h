@@ -26,6 +26,7 @@ enum { DESK_ROOM = (RIME_MOST_MISSING + 1) * RIME_MOST_SLOTS };
 /* Each takes its own arguments, its name first, and returns a status. */
 int desk_send(int argc, char **argv);
 int desk_receive(int argc, char **argv);
+int desk_verify(int argc, char **argv);
 int desk_list(int argc, char **argv);
 int desk_anything(int argc, char **argv);
 int desk_sheet(int argc, char **argv);
@@ -33,7 +34,6 @@ int desk_add(int argc, char **argv);
 int desk_salvage(int argc, char **argv);
 int desk_labels(int argc, char **argv);
 int desk_picture(int argc, char **argv);
-int desk_verify(int argc, char **argv);
 
 /* say.c: a line on standard error, after the program's name and a file's. */
 int say_failed(const char *name);                                      /* what errno says; returns STATUS_FILE */
