@@ -4,9 +4,9 @@
 usage: desk_third.py PROGRAM [COUNT [SEED [FIRST]]]
 
 The logs are made by that reading's own sender and spoiled: cells dropped, repeated, swapped, bits and octets spoiled, headers
-spoiled, logs cut. Each goes through list, anything, salvage, sheet, labels and receive, into WAV and one other kind of file, which
-sox reads. Lines, samples, marks, label tracks, figures and exit statuses must be what the reading says. A log that comes out
-otherwise is kept as desk-third-SEED-NUMBER.log.
+spoiled, logs cut. Each goes through list, anything, salvage, sheet, labels and receive, into WAV and one other kind of file,
+which sox reads. Lines, samples, marks, label tracks, figures and exit statuses must be what the reading says. A log that comes
+out otherwise is kept as desk-third-SEED-NUMBER.log.
 """
 
 import pathlib
