@@ -50,4 +50,5 @@ desk-fuzz: $(DESK)/rimesatchel-asan
 .PHONY: desk-third
 LOGS ?= 1010
 desk-third: $(DESK)/rimesatchel-asan
+	@bash tests/need.sh sox
 	ASAN_OPTIONS=detect_leaks=0 python3 tests/desk_third.py $< $(LOGS) $(or $(SEED),1)

@@ -4,19 +4,21 @@
 usage: desk_third.py PROGRAM [COUNT [SEED [FIRST]]]
 
 The logs are made by that reading's own sender and spoiled: cells dropped, repeated, swapped, bits and octets spoiled, headers
-spoiled, logs cut. Each goes through list, anything, salvage, sheet, labels and receive. Lines, samples, marks, label tracks,
-figures and exit statuses must be what the reading says. A log that comes out otherwise is kept as desk-third-SEED-NUMBER.log.
+spoiled, logs cut. Each goes through list, anything, salvage, sheet, labels and receive, into WAV and one other kind of file,
+which sox reads. Lines, samples, marks, label tracks, figures and exit statuses must be what the reading says. A log that comes
+out otherwise is kept as desk-third-SEED-NUMBER.log.
 """
 
 import pathlib
 import random
 import re
+import struct
 import subprocess
 import sys
 import tempfile
 from typing import List, NamedTuple, Optional, Tuple
 
-from desk_made import read_wave
+from desk_made import by_sox, read_wave
 from desk_third_labels import Finished, Rate, blocks_of, rate_of, status_lines
 from desk_third_made import spoiled_log
 from third_log import NAMES, anything, list_lines, log_header, read_log, salvage, salvage_lines, sheet_lines
@@ -234,6 +236,22 @@ def try_receive(case: Case, desk: Desk, rate: Rate) -> None:
         summary(case, case.setting, ran)
 
 
+def try_kinds(case: Case, desk: Desk) -> None:
+    """Another kind of file, read by sox: the same samples; or a status, and no file, where it can't hold them."""
+    if case.setting is None:
+        return
+    kind, bits = desk.chance.choice(["flac", "w64", "aiff"]), FILE_BITS[case.setting.shape.bits]
+    out = desk.output(f"out.{kind}")
+    ran = desk.run("receive", "-q", desk.name, out)
+    if kind == "flac" and (bits > 24 or case.setting.channels > 8):
+        same("FLAC's status", ran.status, 64 if bits == 64 else 3)
+        same("a FLAC file that can't hold them", out.exists(), False)
+        return
+    same(f"{kind}'s status", ran.status, status_of(case))
+    if bits < 64 and (case.handed.samples or kind != "aiff"):  # sox takes no AIFF without samples
+        same(f"{kind}'s samples", by_sox(str(out)), [int(value) << 32 - bits for value in sound_of(case, case.setting)])
+
+
 def try_log(program: str, folder: pathlib.Path, seed: int, number: int) -> Case:
     chance = random.Random(seed * 1_000_003 + number)
     log = spoiled_log(chance, number)
@@ -245,10 +263,11 @@ def try_log(program: str, folder: pathlib.Path, seed: int, number: int) -> Case:
             trial(case, desk)
         try_labels(case, desk, blocks, rate)
         try_receive(case, desk, rate)
-    except Different as difference:
+        try_kinds(case, desk)
+    except (Different, AssertionError, OSError, struct.error, subprocess.CalledProcessError) as difference:
         kept = pathlib.Path(f"desk-third-{seed}-{number}.log")
         kept.write_bytes(log)
-        sys.exit(f"desk: log {number} of seed {seed}, kept as {kept}: {difference}")
+        sys.exit(f"desk: log {number} of seed {seed}, kept as {kept}: {difference!s}")
     return case
 
 

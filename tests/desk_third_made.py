@@ -8,6 +8,7 @@ from third_reading import Sender, Setting, Shape, check_character, send, shape_o
 
 FORMATS = (0x02, 0x04, 0x06, 0x08, 0x13, 0x15, 0x17, 0x43, 0x45, 0x47, 0x52, 0x54, 0x56, 0x5A)
 Records = List[bytes]
+LONG = 5  # of 97 logs the one that is longer than the tool's buffers
 
 
 def setting(chance: random.Random, number: int) -> Setting:
@@ -49,9 +50,9 @@ def carried(chance: random.Random, times: int) -> List[int]:
     return row[:times]
 
 
-def records(chance: random.Random, given: Setting) -> Records:
+def records(chance: random.Random, given: Setting, cells: int) -> Records:
     """A row of cells of one sender, as a log has them."""
-    shape, cells = given.shape, chance.choice([0, 1, 3, 12, 30, 60, 60, 120])
+    shape = given.shape
     wanted = shape.overhead and shape.slots >= 12 and chance.randrange(2) == 1
     state = Sender(given, chance.randrange(16), wanted, chance.randrange(16) if wanted else 0)
     rows = [carried(chance, cells * given.times) if shape.ancillary else [] for _ in range(given.channels)]
@@ -152,8 +153,10 @@ def torn(chance: random.Random, log: bytes) -> bytes:
 
 
 def spoiled_log(chance: random.Random, number: int) -> bytes:
+    """The log of a number: whole now and then, else spoiled in one way or in several."""
     given = setting(chance, number)
-    row = records(chance, given)
+    cells = chance.choice([0, 1, 3, 12, 30, 60, 60, 120])
+    row = records(chance, given, 2200 if number % 97 == LONG else cells)
     for _ in range(chance.choice([0, 1, 3, 6, 12, 30])):
         if row:
             chance.choice(WAYS)(chance, given, row, chance.randrange(len(row)))
