@@ -55,7 +55,7 @@ void sidecar_put(struct receive *receive) {
     if (receive->sound.stream) kept_words(kept, receive->not_put);
     else if (!sound_has_chunks(&receive->sound)) kept_set(kept, &receive->sound, receive->not_put);
     else {
-        kept_put(kept, &receive->tail);
+        kept_put(kept, &receive->tail, receive->not_put);
         for (const struct cue *cue = kept->cues.list; cue < kept->cues.list + kept->cues.count; cue++)
             cues_add(&receive->cues, cue->at, cue->length, cue->name, strlen(cue->name));
     }

@@ -137,7 +137,6 @@ const char *kept_of_json(struct kept *kept, const json_t *object) {
     return NULL;
 }
 
-/* WAV has no field for a licence. */
 static void put_tags(const struct kept *kept, struct tail *tail) {
     size_t all = tail_begin(tail, "LIST");
     tail_put(tail, "INFO", 4);
@@ -150,24 +149,48 @@ static void put_tags(const struct kept *kept, struct tail *tail) {
     tail_end(tail, all);
 }
 
-void kept_put(const struct kept *kept, struct tail *tail) {
+/* WAV has no field for a licence. */
+const char *kept_put(const struct kept *kept, struct tail *tail, char words[KEPT_WORDS]) {
+    unsigned left = 0;
+    for (unsigned at = 0; at < KEPT_TAGS; at++) left += kept->tags[at] != NULL && tags[at].info == NULL;
     if (kept->has_bext) bext_put(&kept->bext, tail);
-    if (kept_tags(kept) > 0) put_tags(kept, tail);
+    if (kept_tags(kept) > left) put_tags(kept, tail);
+    words[0] = '\0';
+    if (left > 0) snprintf(words, KEPT_WORDS, "%u tag%s", left, plural(left));
+    return words;
+}
+
+/* Whether libsndfile's header of AIFF still holds so many octets. Where it doesn't, libsndfile writes a broken file. */
+static bool has_room(size_t *room, size_t octets) {
+    if (octets > *room) return false;
+    *room -= octets;
+    return true;
+}
+
+/* Octets of the points in a chunk MARK; more than 2,500 of them libsndfile doesn't read back. */
+static size_t octets_of(const struct cues *cues) {
+    enum { POINT = 8, MOST = 2500 };
+    size_t sum = cues->count > MOST ? SIZE_MAX / 2 : 0;
+    for (size_t at = 0; at < cues->count; at++) sum += POINT + strlen(cues->list[at].name);
+    return sum;
 }
 
 /* libsndfile takes what it then doesn't write: tags into W64 and some into AIFF, cue points into FLAC and W64. */
 const char *kept_set(const struct kept *kept, const struct sound_out *out, char words[KEPT_WORDS]) {
     int container = out->about.format & SF_FORMAT_TYPEMASK;
     bool aiff = container == SF_FORMAT_AIFF, flac = container == SF_FORMAT_FLAC;
+    size_t room = 60000;
     struct kept *left = calloc(1, sizeof *left); /* what isn't written */
     if (left == NULL) err(STATUS_FILE, "a sound file");
     left->has_bext = kept->has_bext;
     for (unsigned at = 0; at < KEPT_TAGS; at++) {
-        bool held = flac || (aiff && tags[at].aiff);
-        if (kept->tags[at] != NULL && (!held || sf_set_string(out->file, tags[at].type, kept->tags[at]) != 0))
+        if (kept->tags[at] == NULL) continue;
+        bool held = flac || (aiff && tags[at].aiff && has_room(&room, strlen(kept->tags[at])));
+        if (!held || sf_set_string(out->file, tags[at].type, kept->tags[at]) != 0)
             left->tags[at] = kept->tags[at];
     }
-    if (kept->cues.count > 0 && (!aiff || !cues_set(&kept->cues, out->file))) left->cues.count = kept->cues.count;
+    bool pointed = aiff && has_room(&room, octets_of(&kept->cues)) && cues_set(&kept->cues, out->file);
+    if (!pointed) left->cues.count = kept->cues.count;
     kept_words(left, words);
     free(left);
     return words;

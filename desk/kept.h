@@ -23,8 +23,9 @@ const char *kept_words(const struct kept *kept,
                        char words[KEPT_WORDS]); /* "bext, 3 tags, 12 cue points"; empty for nothing */
 void kept_to_json(const struct kept *kept, json_t *object);
 const char *kept_of_json(struct kept *kept, const json_t *object); /* what is wrong, or NULL */
-void kept_put(const struct kept *kept, struct tail *tail);         /* bext and tags, as chunks of WAV */
-/* Into a file of another kind, before its sound: what libsndfile writes there. The words of what it doesn't. */
+/* bext and tags as chunks of WAV. As in the next call, the words of what isn't put there. */
+const char *kept_put(const struct kept *kept, struct tail *tail, char words[KEPT_WORDS]);
+/* Into a file of another kind, before its sound: what libsndfile writes there. */
 const char *kept_set(const struct kept *kept, const struct sound_out *out, char words[KEPT_WORDS]);
 
 /* bext.c */

@@ -101,7 +101,7 @@ def kept_of_other_kinds():
     ends(0, 'f.json: keeps 3 tags', 'send', 'in.flac', 'f.log', '--sidecar', 'f.json')
     assert document_of('f.json')['tags'] == {'title': 'T', 'license': 'L', 'album': 'A'}
     assert document_of('f.json')['md5'] == out_of('metaflac', '--show-md5sum', 'in.flac').decode().strip()
-    ends(0, '', 'receive', 'f.log', 'f.wav', '--sidecar', 'f.json')
+    ends(0, "f.wav: such a file doesn't hold what f.json keeps: 1 tag\n", 'receive', 'f.log', 'f.wav', '--sidecar', 'f.json')
     assert by_ffprobe('f.wav')[0] == {'title': 'T', 'album': 'A'}
     sound_file('in.wav', after=info() + cues(POINTS[:1]))
     ends(0, '', 'send', 'in.wav', 'l.log', '--sidecar', 'j.json')
@@ -141,6 +141,19 @@ def many_cues():
     assert [(point['at'], point['name'].encode()) for point in document_of('j.json')['cues']] == many
     ends(0, '', 'receive', 'l.log', 'many.rf64', '--sidecar', 'j.json')
     assert len(by_ffprobe('many.rf64')[1]) == 3000
+    for count in (2500, 3000, 20000):  # libsndfile would write an AIFF file that can't be read
+        sound_file('in.wav', after=cues([(at % 1000, b'%d' % at) for at in range(count)]))
+        ends(0, '', 'send', 'in.wav', 'l.log', '--sidecar', 'j.json', '--force')
+        said = ends(0, '', 'receive', 'l.log', 'many.aiff', '--sidecar', 'j.json', '--force')
+        assert (f'keeps: {count} cue points' in said) == (count > 2500) and by_sox('many.aiff') == by_sox('in.wav')
+    sound_file('in.wav')
+    ends(0, '', 'send', 'in.wav', 'l.log', '--sidecar', 'j.json', '--force')
+    texts = {key: key[0] * 65000 for key in ('title', 'artist', 'comment', 'genre', 'license')}
+    pathlib.Path('j.json').write_text(json.dumps(document_of('j.json') | {'tags': texts}), encoding='utf-8')
+    for ending, words in (('aiff', 'keeps: 5 tags'), ('flac', ''), ('wav', ''), ('rf64', '')):
+        ends(0, words, 'receive', 'l.log', f'long.{ending}', '--sidecar', 'j.json')
+        assert by_sox(f'long.{ending}') == by_sox('in.wav')
+    assert len(out_of('metaflac', '--export-tags-to=-', 'long.flac')) > 5 * 65000
     sound_file('in.wav', after=cues([(0, b'')] * 65537))
     ends(0, 'j.json: keeps nothing beside the samples; not kept: cue\n', 'send', 'in.wav', 'l.log', '-k', 'j.json', '-F')
 
