@@ -302,6 +302,11 @@ def cues_of_gaps():
     assert [int(point.strip(' :')) for point in by_sndfile('out.wav')[1]] == [at for at, _ in words]
     ends(0, '', 'receive', 'l.log', 'both.wav', '--cues', '--sidecar', 'j.json')
     assert sorted(by_ffprobe('both.wav')[1]) == sorted(by_ffprobe('in.wav')[1] + words)
+    ends(0, 'again.json: keeps 3 cue points', 'send', 'out.wav', 'again.log', '--sidecar', 'again.json')
+    assert document_of('again.json')['cues'] == [
+        {'at': at, 'length': length, 'name': text} for (at, text), length in zip(words, (1, 24, 12))]
+    ends(0, '', 'receive', 'again.log', 'again.wav', '--sidecar', 'again.json')
+    assert dict(chunks_of('again.wav'))[b'LIST'] == dict(chunks_of('out.wav'))[b'LIST']
     sound_file('fine.wav')
     ends(0, '', 'send', 'fine.wav', 'fine.log')
     ends(0, '', 'receive', 'fine.log', 'a.wav')
