@@ -6,6 +6,7 @@
 #include <string.h>
 #include <sys/stat.h>
 #include <sysexits.h>
+#include <unistd.h>
 
 #include "options.h"
 #include "place.h"
@@ -234,9 +235,10 @@ static int receive_log(struct receive *receive) {
 /* The log up to its header, or the sidecar before it. A status; where it isn't well the log isn't open. */
 static int begin(struct receive *receive) {
     struct reading *reading = &receive->reading;
-    if (receive->sidecar_name == NULL) return reading_begin(reading, receive->in_name, receive->quiet);
+    bool quiet = receive->quiet || (receive->json && isatty(STDOUT_FILENO));
+    if (receive->sidecar_name == NULL) return reading_begin(reading, receive->in_name, quiet);
     int status = sidecar_begin(receive);
-    if (status == STATUS_WELL) status = reading_open(reading, receive->in_name, receive->quiet);
+    if (status == STATUS_WELL) status = reading_open(reading, receive->in_name, quiet);
     if (status == STATUS_WELL) status = reading_twice(reading);
     return status == STATUS_WELL ? sidecar_bits(receive) : status;
 }
