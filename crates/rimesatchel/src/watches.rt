@@ -1,6 +1,7 @@
 // The watch over second numbers for C, Rust and Python: seven octets are a watch, all zeros at first.
 use slips::Watch;
 use slips::step;
+ghost use mathlib.Core.Path.{_≡_};
 ghost use Rattle.rimesatchel.specs.Watches.{watchOf, watchOctets, SlippedOctets};
 
 fn watch_of(octets: [u8; 7]) -> Watch

@@ -94,6 +94,10 @@ takenStep w missing number second =
     (newStep w number second (startsOf (w .number) (suc missing)))
     (sureStep w number second (startsOf (w .number) (suc missing))))
 
+-- "Refusals, in this order: 4 for a watch that can't be; 31 for a report that can't follow"
+unfoldable pub stepRefusal : Watch → ℕ → ℕ → ℕ → ℕ
+stepRefusal w missing number second = cond (watchRefused w) 4 (cond (reportRefused w missing number second) 31 0)
+
 unfoldable pub stepOf : Watch → ℕ → ℕ → ℕ → Stepped
 stepOf w missing number second =
     cond (watchRefused w) (refused 4 w)
