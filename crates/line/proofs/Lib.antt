@@ -19,6 +19,7 @@ pub mod Played
 pub mod Recounts
 pub mod Refused
 pub mod Repeats
+pub mod Rounds
 pub mod Rows
 pub mod Seconds
 pub mod Sharp
