@@ -28,6 +28,7 @@ endif
 INSTRUCTIONS := bench/instructions-$(MACHINE).txt
 GATE_CALLS := 400000
 GATE_SEED := 1
+GATE_LINES := 2000
 # Fewer than N: memcheck is slow.
 MEMCHECK_CALLS := 20000
 MEMCHECK := valgrind --quiet --error-exitcode=9
@@ -122,6 +123,7 @@ face-build: face-compare face-near $(EXAMPLES)/handover-c $(EXAMPLES)/handover-r
 face-test: face-compare face-examples face-bindings
 	$(COMPARE) vectors tests/vectors $(LINELIST)
 	$(COMPARE) story
+	$(COMPARE) slips $(GATE_LINES)
 	$(COMPARE) fuzz $(GATE_CALLS) $(GATE_SEED) $(LINELIST)
 
 fuzz: face-archive

@@ -39,8 +39,8 @@ from typing import Any, Iterator, NamedTuple, Sequence
 
 __all__ = [
     "VERSION", "Anything", "Block", "Deed", "Entry", "Figures", "Fit", "Format", "Frame", "Handed", "Log", "Mark", "Pair",
-    "Receiver", "Record", "Refused", "Salvaged", "Sender", "Setup", "Sheet", "Status", "Units", "Verdict", "Walked",
-    "Writer", "anything", "check_character", "check_plan", "controller", "equipment", "export_frame", "export_units",
+    "Receiver", "Record", "Refused", "Salvaged", "Sender", "Setup", "Sheet", "Slip", "Status", "Told", "Units", "Verdict", "Walked",
+    "Watch", "Writer", "anything", "check_character", "check_plan", "controller", "equipment", "export_frame", "export_units",
     "import_frame", "listing", "plan", "port_packing", "port_settings", "read_unit", "salvage", "sheet", "words",
 ]
 
@@ -54,6 +54,7 @@ _ARGUMENTS: dict[str, list[Any]] = {
     "rime_receiver_open": [*_SETTINGS, _RECEIVER],
     "rime_receive": [_RECEIVER, *_RUN8, c_bool, *_RUN64, *_RUN8, *_RUN8, _REPORT],
     "rime_receiver_placed": [_RECEIVER],
+    "rime_slip": [POINTER(c_uint8 * 7), _REPORT, POINTER(c_uint8 * 2)],
     "rime_status_step": [_STATUS, c_uint8, c_uint8, _STATUS],
     "rime_status_run": [_STATUS, *_RUN8, *_RUN8, c_uint64, c_uint64, _STATUS, POINTER(c_uint64)],
     "rime_check_character": [POINTER(c_uint8 * 24)],
@@ -380,6 +381,59 @@ class Walked(NamedTuple):
     next: int
     records: int
     stop: int
+
+
+class Told(enum.IntEnum):
+    """What a cell that was taken tells of those before it."""
+
+    NOTHING = 0
+    BEFORE = 1
+    ALONE = 2
+    PERHAPS = 3
+
+
+class Slip(NamedTuple):
+    """What is told, and how many cells more: BEFORE the cell that was taken before this one at least so many are missing; that cell
+    was out of step ALONE; PERHAPS so many are missing before this cell, and the next one decides."""
+
+    told: Told
+    cells: int
+
+
+class Watch:
+    """A watch over second numbers, one step for each cell that the receiver took.
+
+    >>> watch = Watch()
+    >>> [watch.step(0, number, second).cells for number, second in ((2, 5), (3, 5), (4, 13), (5, 13))]
+    [0, 0, 64, 64]
+    >>> watch.step(0, 6, 13)
+    Slip(told=<Told.NOTHING: 0>, cells=0)
+    >>> watch.step(0, 6, 13)
+    Traceback (most recent call last):
+    rimesatchel.Refused: refused 31, the report can't follow the cell before it
+    """
+
+    def __init__(self) -> None:
+        self._watch = (c_uint8 * 7)()
+
+    def step(self, missing: int, number: int, second: int) -> Slip:
+        """Takes what the receiver reported of the next cell that it took. Refused 31 where that can't follow, 4 where the watch can't
+        be."""
+        slip = (c_uint8 * 2)()
+        report = (c_uint8 * 4)(*_fitting(c_uint8, [missing, number, second]), 0)
+        _call("rime_slip", self._watch, report, slip)
+        return Slip(Told(slip[0]), slip[1])
+
+    def to_bytes(self) -> bytes:
+        """The state as the library keeps it, 7 octets, to be stored and gone on with."""
+        return bytes(self._watch)
+
+    @classmethod
+    def from_bytes(cls, state: bytes) -> Watch:
+        """A watch that goes on from a state. Any 7 octets will do: what can't be is refused when it steps."""
+        watch = cls.__new__(cls)
+        watch._watch = _state(7, state)
+        return watch
 
 
 class Fit(enum.IntEnum):
