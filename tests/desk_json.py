@@ -193,6 +193,12 @@ def carried_otherwise():
     ends(0, '', 'send', 'in.wav', 'cut.log', '--format', '54', '--cut')
     ends(1, 'no: ', 'verify', 'in.wav', 'cut.log')
     ends(0, 'yes: 2000', 'verify', 'in.wav', 'cut.log', '--cut')
+    wave('long.wav', samples[:1992] + [0] * 12, 2, 24, 48000)  # a whole cell of silence more than the file that is asked for
+    wave('part.wav', samples[:1992], 2, 24, 48000)
+    ends(0, '', 'send', 'long.wav', 'long.log')
+    ends(1, "the log goes on for 6 samples a channel after the file's end\n", 'verify', 'part.wav', 'long.log')
+    wave('part.wav', samples[:1992] + [0] * 2, 2, 24, 48000)
+    ends(0, 'yes: 1994', 'verify', 'part.wav', 'long.log')
     wave('empty.wav', [], 2, 24, 48000)
     ends(0, 'yes: 0 samples agree', 'verify', 'empty.wav', changed('none.log', []))
     ends(1, 'no: 0 of 2000', 'verify', 'in.wav', 'none.log')
