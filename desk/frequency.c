@@ -6,6 +6,7 @@
 #include <stdlib.h>
 #include <string.h>
 
+#include "slips.h"
 #include "status.h"
 
 /* A block of one channel: the first of all that names a frequency decides. */
@@ -66,7 +67,7 @@ static void hold_first(struct frequency *frequency) {
     if (frequency->samples == NULL || frequency->ancillary == NULL) err(STATUS_FILE, "%s", reading->name);
     frequency->marks = frequency->ancillary + room;
     while (frequency->held < enough && (frequency->step == STEP_SOUND || frequency->step == STEP_REFUSED)) {
-        frequency->step = reading_step(reading);
+        frequency->step = slips_step(reading);
         if (frequency->step == STEP_SOUND) hold(frequency);
     }
 }
@@ -101,12 +102,16 @@ enum step frequency_walk(struct frequency *frequency, handed_taken *take, void *
     struct reading *reading = frequency->reading;
     enum step step = frequency->step;
     if (!hand_held(frequency, take, user)) return step;
-    struct handed handed = {.samples = reading->samples, .ancillary = reading->ancillary, .marks = reading->marks};
     while (step == STEP_SOUND || step == STEP_REFUSED) {
-        step = reading_step(reading);
+        step = slips_step(reading);
         if (step != STEP_SOUND) continue;
-        handed.given = reading->given;
-        handed.time = reading->time;
+        struct handed handed = {
+            .samples = reading->samples,
+            .ancillary = reading->ancillary,
+            .marks = reading->marks,
+            .given = reading->given,
+            .time = reading->time,
+        };
         if (!take(&handed, user)) break;
     }
     return step;

@@ -9,6 +9,7 @@
 #include "frequency.h"
 #include "json.h"
 #include "options.h"
+#include "slips.h"
 #include "status.h"
 
 /* Octets of a block that are compared with the one before it: those up to the sample addresses, which count on, and the
@@ -25,7 +26,7 @@ struct channel {
 
 struct labels {
     const char *name;
-    bool quiet, json;
+    bool quiet, json, no_slips;
     bool told;    /* the document is begun */
     bool assumed; /* a line counts its seconds by a frequency that nothing says */
     struct reading reading;
@@ -36,6 +37,7 @@ struct labels {
 static const struct argp_option options[] = {
     {"rate", 'r', "HZ", 0, "sampling frequency, whatever channel status says; without both it is 48000", 0},
     {"json", 'j', NULL, 0, "print a document of JSON", 0},
+    {"no-slips", OPTION_NO_SLIPS, NULL, 0, "put in nothing for cells that only second numbers tell of", 0},
     {"quiet", 'q', NULL, 0, "no bar", 0},
     {0},
 };
@@ -45,6 +47,7 @@ static error_t parse(int key, char *word, struct argp_state *state) {
     switch (key) {
     case 'r': labels->frequency.asked = option_rate(state, word); break;
     case 'j': labels->json = true; break;
+    case OPTION_NO_SLIPS: labels->no_slips = true; break;
     case 'q': labels->quiet = true; break;
     case ARGP_KEY_ARG:
         if (state->arg_num > 0) argp_usage(state);
@@ -208,6 +211,7 @@ static int label_all(struct labels *labels) {
     if (step != STEP_FAILED) say_rest(labels);
     if (labels->json) doc_end();
     if (step == STEP_FAILED) return STATUS_FILE;
+    slips_say(&reading->slips, reading->name);
     if (labels->json && step == STEP_BROKEN) doc_broken(reading->record, reading->refusal);
     if (labels->assumed && !labels->quiet)
         warnx("%s: seconds are counted at %u Hz, which is assumed (--rate)", reading->name, labels->frequency.rate);
@@ -224,6 +228,7 @@ int desk_labels(int argc, char **argv) {
     };
     argp_parse(&argp, argc, argv, 0, NULL, &labels);
     int status = reading_begin(&labels.reading, labels.name, labels.quiet || isatty(STDOUT_FILENO));
+    labels.reading.slips.off = labels.no_slips;
     if (status == STATUS_WELL) {
         status = label_all(&labels);
         reading_close(&labels.reading);

@@ -66,6 +66,8 @@ int reading_header(struct reading *reading) {
         refusal = rime_receiver_open(header[RIME_HEADER_FORMAT], header[RIME_HEADER_CHANNELS],
                                      header[RIME_HEADER_ORDER], reading->state);
     if (refusal != RIME_DONE) return is_whole(reading) ? (int)refusal : -1;
+    reading->now = &reading->rooms[0];
+    reading->held_back = &reading->rooms[1];
     reading->place = header[RIME_HEADER_PLACE];
     reading->format = format_of(header[RIME_HEADER_FORMAT]);
     reading->channels = header[RIME_HEADER_CHANNELS];
@@ -75,7 +77,7 @@ int reading_header(struct reading *reading) {
 }
 
 /* The header; where there is none to go on with, that is said, and the log closed. */
-static int start(struct reading *reading) {
+int reading_start(struct reading *reading) {
     int refusal = reading_header(reading);
     if (refusal == RIME_DONE) return STATUS_WELL;
     reading->refusal = refusal < 0 ? RIME_DONE : (unsigned)refusal;
@@ -86,11 +88,11 @@ static int start(struct reading *reading) {
 
 int reading_begin(struct reading *reading, const char *name, bool quiet) {
     int status = reading_open(reading, name, quiet);
-    return status == STATUS_WELL ? start(reading) : status;
+    return status == STATUS_WELL ? reading_start(reading) : status;
 }
 
 int reading_twice(struct reading *reading) {
-    if (spool_first(&reading->fd, reading->name, &reading->whole)) return start(reading);
+    if (spool_first(&reading->fd, reading->name, &reading->whole)) return reading_start(reading);
     reading_close(reading);
     return STATUS_FILE;
 }
@@ -101,14 +103,18 @@ int reading_again(struct reading *reading) {
         reading_close(reading);
         return status;
     }
-    struct reading fresh = {.name = reading->name, .fd = reading->fd, .buffer = reading->buffer, .limit = reading->limit};
+    struct reading fresh = {.name = reading->name, .fd = reading->fd, .buffer = reading->buffer, .limit = reading->limit,
+                            .slips = {.off = reading->slips.off}};
     *reading = fresh;
     whole_begin(&reading->whole, reading->fd);
-    return start(reading);
+    return reading_start(reading);
 }
 
 static enum step taken(struct reading *reading) {
     unsigned missing = reading->report[RIME_REPORT_MISSING];
+    reading->samples = reading->now->samples;
+    reading->ancillary = reading->now->ancillary;
+    reading->marks = reading->now->marks;
     reading->given = (missing + 1) * reading->entries;
     reading->sound++;
     reading->missing += missing;
@@ -140,8 +146,8 @@ enum step reading_step(struct reading *reading) {
     reading->indication = found[RIME_RECORD_INDICATION] == 1;
     reading->place = found[RIME_RECORD_NEXT];
     reading->refusal =
-        rime_receive(reading->state, reading->cell, RIME_CELL_OCTETS, reading->indication, reading->samples, DESK_ROOM,
-                     reading->ancillary, DESK_ROOM, reading->marks, DESK_ROOM, reading->report);
+        rime_receive(reading->state, reading->cell, RIME_CELL_OCTETS, reading->indication, reading->now->samples, DESK_ROOM,
+                     reading->now->ancillary, DESK_ROOM, reading->now->marks, DESK_ROOM, reading->report);
     reading->record++;
     if (reading->refusal == RIME_DONE) return taken(reading);
     reading->refused++;

@@ -11,6 +11,7 @@
 #include "options.h"
 #include "place.h"
 #include "receive.h"
+#include "slips.h"
 
 static const struct argp_option options[] = {
     {"labels", 'l', "FILE", 0, "write an Audacity label track of what is missing or damaged", 0},
@@ -23,6 +24,7 @@ static const struct argp_option options[] = {
     {"cues", 'C', NULL, 0, "put cue points into a WAV file where samples are missing or damaged, 4096 at most", 0},
     {"sum", 'S', NULL, 0, "print the SHA-256 of OUT.wav, as sha256sum does", 0},
     {"json", 'j', NULL, 0, "print what was received as a document of JSON, in the place of the summary", 0},
+    {"no-slips", OPTION_NO_SLIPS, NULL, 0, "put in nothing for cells that only second numbers tell of", 0},
     {"strict", 's', NULL, 0, "end with status 1 where anything is missing, damaged, refused or contradicted", 0},
     {"force", 'F', NULL, 0, "write over files that are there", 0},
     {"quiet", 'q', NULL, 0, "no bar and no summary", 0},
@@ -54,6 +56,7 @@ static error_t parse(int key, char *word, struct argp_state *state) {
         receive->measured = true;
         receive->length = option_up_to(state, "length", word, 10, UINT64_MAX / 2);
         break;
+    case OPTION_NO_SLIPS: receive->no_slips = true; break;
     case 's': receive->strict = true; break;
     case 'F': receive->force = true; break;
     case 'q': receive->quiet = true; break;
@@ -203,15 +206,17 @@ static void say_cues(const struct receive *receive) {
 
 /* What was written: it is said or printed, and judged. */
 static int judge(struct receive *receive, enum step last) {
-    bool flawed = receive->reading.missing + receive->reading.refused + receive->damaged > 0;
+    const struct reading *reading = &receive->reading;
+    bool flawed = reading->missing + reading->refused + receive->damaged > 0 || slips_flawed(&reading->slips);
     if (receive->sidecar_name != NULL && !sidecar_agrees(receive)) flawed = true;
     if (receive->sum && !receive->json) sum_print(receive->sha256, receive->out_name);
     receive->out_name = receive->sound.output.name; /* as it is shown */
     if (receive->json) tell_result(receive, last == STEP_BROKEN);
     else if (!receive->quiet) say_summary(receive);
     say_cues(receive);
+    slips_say(&reading->slips, reading->name);
     if (!is_length(receive) || receive->frequency.contradicted) flawed = true;
-    if (last == STEP_BROKEN) return reading_broken(&receive->reading);
+    if (last == STEP_BROKEN) return reading_broken(reading);
     return receive->strict && flawed ? STATUS_NO : STATUS_WELL;
 }
 
@@ -236,9 +241,10 @@ static int receive_log(struct receive *receive) {
 static int begin(struct receive *receive) {
     struct reading *reading = &receive->reading;
     bool quiet = receive->quiet || (receive->json && isatty(STDOUT_FILENO));
-    if (receive->sidecar_name == NULL) return reading_begin(reading, receive->in_name, quiet);
-    int status = sidecar_begin(receive);
+    int status = receive->sidecar_name != NULL ? sidecar_begin(receive) : STATUS_WELL;
     if (status == STATUS_WELL) status = reading_open(reading, receive->in_name, quiet);
+    reading->slips.off = receive->no_slips;
+    if (receive->sidecar_name == NULL) return status == STATUS_WELL ? reading_start(reading) : status;
     if (status == STATUS_WELL) status = reading_twice(reading);
     return status == STATUS_WELL ? sidecar_bits(receive) : status;
 }

@@ -11,7 +11,7 @@ struct receive {
     unsigned bits, cut; /* 0 where they aren't given */
     uint64_t length;    /* samples a channel */
     bool measured;      /* a length is given, by --length or a sidecar */
-    bool strict, force, quiet, json, sum, cued;
+    bool strict, force, quiet, json, sum, cued, no_slips;
 
     struct reading reading;
     struct frequency frequency;

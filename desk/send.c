@@ -5,13 +5,15 @@
 #include <stdio.h>
 #include <stdlib.h>
 #include <string.h>
+#include <unistd.h>
 
 #include "options.h"
 #include "place.h"
 #include "sidecar.h"
 #include "status.h"
 
-enum { CELLS = 512 }; /* cells made of one buffer of sound */
+enum { CELLS = 512 };      /* cells made of one buffer of sound */
+enum { SECOND_SLOTS = 12 }; /* sequencing bits 9 to 12 are the second number: docs/RULES.md, 3 */
 
 struct send {
     const char *in_name, *out_name, *origin, *destination, *sidecar_name;
@@ -39,6 +41,7 @@ static const struct argp_option options[] = {
     {"order", 'o', "0|1", 0, "order of the slots in a cell: 0 where this is left out", 0},
     {"number", 'n', "NUMBER", 0, "number of the first cell, 0 to 15: 0 where this is left out", 0},
     {"second", 's', "START", 0, "keep second numbers from START, 0 to 15, one more in each cell numbered 0 or 8", 0},
+    {"blocks", OPTION_BLOCKS, NULL, 0, "the same from 0: an outage of more than 14 cells shows", 0},
     {"status", 'S', NULL, 0, "send channel status, as is done without this where the format has ancillary bits", 0},
     {"no-status", 'N', NULL, 0, "send no channel status: ancillary bits of 0, and no sampling frequency", 0},
     {"origin", 'O', "LETTERS", 0, "up to four letters of origin in the channel status (with it --status)", 0},
@@ -60,6 +63,7 @@ static error_t parse(int key, char *word, struct argp_state *state) {
         send->wanted = true;
         send->second = option_number(state, "second", word, 10);
         break;
+    case OPTION_BLOCKS: send->wanted = true; break;
     case 'O':
         send->asked = true;
         send->origin = option_letters(state, "origin", word);
@@ -202,6 +206,8 @@ static void say_summary(const struct send *send) {
     if (send->in.bits > send->about.sample_bits)
         fprintf(stderr, "%s: the low %u bits of each sample are dropped\n", send->out_name,
                 send->in.bits - send->about.sample_bits);
+    if (!send->wanted && send->about.overhead && send->about.slots >= SECOND_SLOTS && isatty(STDERR_FILENO))
+        fprintf(stderr, "%s: no second numbers: an outage of more than 14 cells won't show (--blocks)\n", send->out_name);
     say_kept(send);
 }
 

@@ -9,9 +9,12 @@ void say_summary(const struct receive *receive) {
     const uint32_t *header = reading->header;
     fprintf(stderr, "%s: format %02X hex, %u channel%s, order %u\n", reading->name, header[RIME_HEADER_FORMAT],
             reading->channels, plural(reading->channels), header[RIME_HEADER_ORDER]);
-    fprintf(stderr, "cells: %llu sound, %llu missing in %llu place%s, %llu refused\n",
-            (unsigned long long)reading->sound, (unsigned long long)reading->missing, (unsigned long long)reading->gaps,
-            plural(reading->gaps), (unsigned long long)reading->refused);
+    fprintf(stderr, "cells: %llu sound, %llu missing in %llu place%s, ", (unsigned long long)reading->sound,
+            (unsigned long long)reading->missing, (unsigned long long)reading->gaps, plural(reading->gaps));
+    if (reading->slips.cells > 0)
+        fprintf(stderr, "%llu more in %llu place%s by second numbers, ", (unsigned long long)reading->slips.cells,
+                (unsigned long long)reading->slips.places, plural(reading->slips.places));
+    fprintf(stderr, "%llu refused\n", (unsigned long long)reading->refused);
     for (unsigned number = 0; number < 256; number++)
         if (reading->refused_by[number] > 0)
             fprintf(stderr, "  refused %u: %llu, %s\n", number, (unsigned long long)reading->refused_by[number],
@@ -20,7 +23,7 @@ void say_summary(const struct receive *receive) {
         fprintf(stderr, "  %llu of them after the last sound cell: no silence stands for them\n",
                 (unsigned long long)reading->refused_last);
     char length[DURATION], rate[FREQUENCY_WORDS];
-    unsigned long long missing = reading->missing * reading->entries;
+    unsigned long long missing = (reading->missing + reading->slips.cells) * reading->entries;
     fprintf(stderr, "%s: %llu samples a channel, %s at %s%s; %llu sample%s missing, %llu damaged\n", receive->out_name,
             (unsigned long long)receive->times, duration((double)receive->times / receive->frequency.rate, length),
             frequency_words(&receive->frequency, rate),
@@ -72,6 +75,9 @@ static void tell_cells(const struct reading *reading) {
     doc_number("sound", reading->sound);
     doc_number("missing", reading->missing);
     doc_number("gaps", reading->gaps);
+    doc_number("slipped", reading->slips.cells);
+    doc_number("slips", reading->slips.places);
+    doc_flag("waits", reading->slips.perhaps > 0);
     doc_number("refused", reading->refused);
     doc_number("refused_last", reading->refused_last);
     doc_end();
@@ -118,7 +124,7 @@ void tell_result(const struct receive *receive, bool broken) {
     doc_text("output", receive->out_name);
     doc_number("bits", receive->fitting.file_bits);
     doc_number("samples", receive->times);
-    doc_number("samples_missing", reading->missing * reading->entries);
+    doc_number("samples_missing", (reading->missing + reading->slips.cells) * reading->entries);
     doc_number("samples_damaged", receive->damaged);
     if (receive->fitting.cut != 0) doc_number("samples_cut", receive->fitting.dropped);
     if (receive->measured) doc_flag("length_fits", receive->times == receive->length);

@@ -10,13 +10,14 @@
 #include "json.h"
 #include "options.h"
 #include "receive.h"
+#include "slips.h"
 
 enum { FRAMES = 4096 }; /* of sound that are read at a time */
 
 struct verify {
     const char *sound_name, *log_name;
     uint64_t from; /* the file's sample at which the log begins */
-    bool cut, json, quiet, told;
+    bool cut, json, quiet, told, no_slips;
 
     struct sound_in in;
     struct reading reading;
@@ -38,6 +39,7 @@ static const struct argp_option options[] = {
     {"from", 'f', "SAMPLE", 0, "the log begins at this sample of the file, counted from 0", 0},
     {"cut", 'c', NULL, 0, "leave out the low bits for which the format has no room, as send --cut does", 0},
     {"json", 'j', NULL, 0, "print a document of JSON", 0},
+    {"no-slips", OPTION_NO_SLIPS, NULL, 0, "put in nothing for cells that only second numbers tell of", 0},
     {"quiet", 'q', NULL, 0, "no bar", 0},
     {0},
 };
@@ -48,6 +50,7 @@ static error_t parse(int key, char *word, struct argp_state *state) {
     case 'f': verify->from = option_up_to(state, "from", word, 10, UINT64_MAX / 2); break;
     case 'c': verify->cut = true; break;
     case 'j': verify->json = true; break;
+    case OPTION_NO_SLIPS: verify->no_slips = true; break;
     case 'q': verify->quiet = true; break;
     case ARGP_KEY_SUCCESS:
         if (strcmp(verify->sound_name, "-") == 0 && strcmp(verify->log_name, "-") == 0)
@@ -121,7 +124,7 @@ static void tell(const struct stretch *stretch, void *user) {
 static enum step compare(struct verify *verify) {
     struct reading *reading = &verify->reading;
     enum step step;
-    while ((step = reading_step(reading)) == STEP_SOUND || step == STEP_REFUSED) {
+    while ((step = slips_step(reading)) == STEP_SOUND || step == STEP_REFUSED) {
         if (step == STEP_REFUSED) continue;
         struct handed handed = {
             .samples = reading->samples, .marks = reading->marks, .given = reading->given, .time = reading->time};
@@ -169,6 +172,7 @@ static void tell_result_of(const struct verify *verify, enum step last) {
     doc_number("differ", verify->differ);
     doc_number("missing", verify->missing);
     doc_number("damaged", verify->damaged);
+    doc_number("slipped", verify->reading.slips.cells);
     if (verify->differ > 0) {
         doc_object("first_difference");
         doc_number("channel", verify->first_channel);
@@ -229,6 +233,7 @@ static int verify_log(struct verify *verify) {
     progress_end();
     if (verify->json) doc_end();
     if (last == STEP_FAILED || sound_whole(&verify->in, verify->frames) != STATUS_WELL) return STATUS_FILE;
+    slips_say(&reading->slips, reading->name);
     if (verify->json) tell_result_of(verify, last);
     else print_result(verify);
     if (last == STEP_BROKEN) return reading_broken(reading);
@@ -248,6 +253,7 @@ int desk_verify(int argc, char **argv) {
     int status = sound_open(&verify.in, verify.sound_name);
     if (status == STATUS_WELL) {
         status = reading_begin(&verify.reading, verify.log_name, verify.quiet || isatty(STDOUT_FILENO));
+        verify.reading.slips.off = verify.no_slips;
         if (status == STATUS_WELL) {
             status = verify_log(&verify);
             reading_close(&verify.reading);
