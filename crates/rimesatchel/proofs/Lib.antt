@@ -25,5 +25,10 @@ pub mod SalvagesWrong
 pub mod SheetsAdd
 pub mod SheetsOne
 pub mod SheetsWrong
+pub mod StatesLaws
 pub mod StatusesOne
+pub mod TakenFiguresLaws
+pub mod TakenListsLaws
+pub mod TakenSalvagesLaws
+pub mod TakenSearchesLaws
 pub mod Wrong
