@@ -27,8 +27,11 @@ pub mod SheetsOne
 pub mod SheetsWrong
 pub mod StatesLaws
 pub mod StatusesOne
+pub mod TakenDemand1
 pub mod TakenFiguresLaws
 pub mod TakenListsLaws
+pub mod TakenOne
 pub mod TakenSalvagesLaws
 pub mod TakenSearchesLaws
+pub mod TakenWrong
 pub mod Wrong
