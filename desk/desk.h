@@ -26,6 +26,7 @@ enum { DESK_ROOM = (RIME_MOST_MISSING + 1) * RIME_MOST_SLOTS };
 /* Each takes its own arguments, its name first, and returns a status. */
 int desk_send(int argc, char **argv);
 int desk_receive(int argc, char **argv);
+int desk_verify(int argc, char **argv);
 int desk_list(int argc, char **argv);
 int desk_anything(int argc, char **argv);
 int desk_sheet(int argc, char **argv);
@@ -112,6 +113,7 @@ bool whole_end(struct whole *whole, const char *name, uint64_t octets, bool to_t
  * failed, and that is said.
  */
 int spool(int from, const char *name);
+bool spool_first(int *fd, const char *name, struct whole *whole); /* the same in its place, where it isn't a regular file */
 
 /*
  * reading.c: a log, read a buffer at a time, and what the receiver makes of each of its records. `-` is standard input.
@@ -159,6 +161,8 @@ enum step {
 int reading_open(struct reading *reading, const char *name, bool quiet);  /* a status; says what is wrong */
 int reading_header(struct reading *reading);                              /* the refusal; -1 where reading failed */
 int reading_begin(struct reading *reading, const char *name, bool quiet); /* both; a status, and says what is wrong */
+int reading_twice(struct reading *reading); /* behind reading_open: keeps what comes from a pipe, and reads the header; so too */
+int reading_again(struct reading *reading); /* after that: from the start of the log; so too */
 enum step reading_step(struct reading *reading);
 bool reading_cut(struct reading *reading, uint64_t *cut); /* of a broken log: octets from the fault's record to the end */
 void reading_close(struct reading *reading);

@@ -40,7 +40,11 @@ static void settle(struct frequency *frequency) {
         progress_clear();
         warnx("%s: channel status says %u Hz in %llu block%s, the first of them in channel %u: %s%u Hz is used",
               frequency->reading->name, named->rate, (unsigned long long)named->blocks, plural(named->blocks),
-              named->channel + 1, frequency->asked != 0 ? "--rate " : "", frequency->rate);
+              named->channel + 1,
+              frequency->by_sidecar     ? "the sidecar's "
+              : frequency->asked != 0 ? "--rate "
+                                      : "",
+              frequency->rate);
         frequency->contradicted = true;
     }
 }
@@ -112,9 +116,15 @@ bool frequency_assumed(const struct frequency *frequency) {
     return frequency->asked == 0 && frequency->named[0].rate == 0;
 }
 
+const char *frequency_by(const struct frequency *frequency) {
+    if (frequency->asked != 0) return frequency->by_sidecar ? "sidecar" : "--rate";
+    return frequency_assumed(frequency) ? "assumed" : "channel status";
+}
+
 const char *frequency_words(const struct frequency *frequency, char words[FREQUENCY_WORDS]) {
-    snprintf(words, FREQUENCY_WORDS, "%u Hz%s", frequency->rate,
-             frequency->asked != 0 ? "" : frequency_assumed(frequency) ? ", assumed" : ", by channel status");
+    static const char *const said[] = {"", ", by the sidecar", ", assumed", ", by channel status"};
+    unsigned by = frequency->asked != 0 ? frequency->by_sidecar : frequency_assumed(frequency) ? 2 : 3;
+    snprintf(words, FREQUENCY_WORDS, "%u Hz%s", frequency->rate, said[by]);
     return words;
 }
 

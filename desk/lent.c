@@ -13,16 +13,6 @@
 #include <sys/stat.h>
 #include <unistd.h>
 
-/* What can't be mapped, a pipe, is first kept in a file without a name. */
-static bool keep_first(struct lent *lent) {
-    int fd = spool(lent->fd, lent->name);
-    if (fd < 0) return false;
-    if (lent->fd != STDIN_FILENO) close(lent->fd);
-    lent->fd = fd;
-    whole_begin(&lent->whole, fd);
-    return true;
-}
-
 static bool map(struct lent *lent) {
     lent->octets = (const uint8_t *)"";
     if (lent->whole.length == 0) return true; /* nothing is there, and nothing can be mapped */
@@ -41,7 +31,7 @@ int lent_open(struct lent *lent, const char *name) {
     lent->fd = strcmp(name, "-") == 0 ? STDIN_FILENO : open(name, O_RDONLY | O_CLOEXEC);
     if (lent->fd >= 0) {
         whole_begin(&lent->whole, lent->fd);
-        bool kept = lent->whole.known || keep_first(lent);
+        bool kept = spool_first(&lent->fd, lent->name, &lent->whole); /* a pipe can't be mapped */
         if (kept && map(lent)) return STATUS_WELL;
         if (!kept) {
             lent_close(lent);

@@ -3,17 +3,19 @@
 #include <stdio.h>
 #include <unistd.h>
 
+#include "json.h"
 #include "options.h"
 
 static const uint64_t most = 0xFFFFFFFF; /* octets of a log that is listed */
 
 struct list {
     struct names names;
-    bool strict, quiet;
+    bool strict, quiet, json;
 };
 
 static const struct argp_option options[] = {
     {"strict", 's', NULL, 0, "end with status 1 where anything is missing or refused", 0},
+    {"json", 'j', NULL, 0, "print a line of JSON for each record and one for the end of a log", 0},
     {"quiet", 'q', NULL, 0, "no bar", 0},
     {0},
 };
@@ -23,10 +25,53 @@ static error_t parse(int key, char *word, struct argp_state *state) {
     struct list *list = state->input;
     switch (key) {
     case 's': list->strict = true; break;
+    case 'j': list->json = true; break;
     case 'q': list->quiet = true; break;
     default: return option_names(state, key, &list->names);
     }
     return 0;
+}
+
+/* A line of JSON for the record that was read. */
+static void tell_record(const struct reading *reading, uint64_t record, enum step step) {
+    static const char *const answers[] = {[STEP_SOUND] = "sound", [STEP_REFUSED] = "refused", [STEP_BROKEN] = "broken"};
+    if (step == STEP_END || step == STEP_FAILED) return;
+    doc_line();
+    doc_number("record", record);
+    doc_text("answer", answers[step]);
+    if (step == STEP_SOUND) {
+        doc_number("missing", reading->report[RIME_REPORT_MISSING]);
+        doc_number("number", reading->report[RIME_REPORT_NUMBER]);
+    } else doc_number("refusal", reading->refusal);
+    doc_end();
+}
+
+/* The line of a log's end, whatever became of it. */
+static void tell_end_of(const struct reading *reading, const char *name, int refusal, int status) {
+    const uint32_t *header = reading->header;
+    doc_line();
+    doc_text("log", name);
+    if (refusal == RIME_DONE) {
+        doc_number("format", header[RIME_HEADER_FORMAT]);
+        doc_number("channels", header[RIME_HEADER_CHANNELS]);
+        doc_number("order", header[RIME_HEADER_ORDER]);
+        doc_number("sound", reading->sound);
+        doc_number("missing", reading->missing);
+        doc_number("refused", reading->refused);
+    } else if (refusal > 0) doc_number("refusal", (uint64_t)refusal);
+    doc_number("status", (uint64_t)status);
+    doc_end();
+}
+
+static enum step tell_records(struct reading *reading) {
+    enum step step;
+    do {
+        uint64_t record = reading->record;
+        step = reading_step(reading);
+        tell_record(reading, record, step);
+    } while (step == STEP_SOUND || step == STEP_REFUSED);
+    progress_end();
+    return step;
 }
 
 static enum step list_records(struct reading *reading) {
@@ -52,21 +97,25 @@ static enum step list_records(struct reading *reading) {
 static int list_log(const char *name, const struct list *list) {
     static struct reading reading;
     int status = reading_open(&reading, name, list->quiet || isatty(STDOUT_FILENO));
-    if (status != STATUS_WELL) return status;
+    if (status != STATUS_WELL) {
+        if (list->json) tell_end_of(&reading, name, -1, status);
+        return status;
+    }
     reading.limit = most;
     int refusal = reading_header(&reading);
     if (refusal == RIME_DONE) {
-        enum step last = list_records(&reading);
+        enum step last = list->json ? tell_records(&reading) : list_records(&reading);
         bool flawed = reading.missing + reading.refused > 0;
         if (last == STEP_FAILED) status = STATUS_FILE;
         else if (last == STEP_BROKEN) status = reading_broken(&reading);
         else status = list->strict && flawed ? STATUS_NO : STATUS_WELL;
     } else if (refusal < 0) status = STATUS_FILE;
     else {
-        printf("log refused %d\n", refusal);
+        if (!list->json) printf("log refused %d\n", refusal);
         status = say_header(reading.name, reading.buffer, reading.held, (unsigned)refusal);
     }
     reading_close(&reading);
+    if (list->json) tell_end_of(&reading, name, refusal, status);
     return status;
 }
 
@@ -81,7 +130,7 @@ int desk_list(int argc, char **argv) {
     argp_parse(&argp, argc, argv, 0, NULL, &list);
     int worst = STATUS_WELL;
     for (int at = 0; at < list.names.count; at++) {
-        if (list.names.count > 1) printf("%s:\n", list.names.words[at]);
+        if (list.names.count > 1 && !list.json) printf("%s:\n", list.names.words[at]);
         int status = list_log(list.names.words[at], &list);
         if (status > worst) worst = status;
     }

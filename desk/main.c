@@ -16,6 +16,7 @@ static const struct {
     int (*run)(int argc, char **argv);
 } commands[] = {
     {"send", "rimesatchel send", desk_send},          {"receive", "rimesatchel receive", desk_receive},
+    {"verify", "rimesatchel verify", desk_verify},
     {"list", "rimesatchel list", desk_list},          {"anything", "rimesatchel anything", desk_anything},
     {"sheet", "rimesatchel sheet", desk_sheet},       {"add", "rimesatchel add", desk_add},
     {"salvage", "rimesatchel salvage", desk_salvage}, {"labels", "rimesatchel labels", desk_labels},
@@ -27,6 +28,7 @@ static const char about[] =
     "Subcommands; each has its own --help:\n"
     "  send IN.wav OUT.log      packs a sound file into a log\n"
     "  receive IN.log OUT.wav   writes a log's sound, and shows what is missing\n"
+    "  verify SOUND LOG         whether a log carries a sound file, sample for sample\n"
     "  list FILE..              what the receiver makes of each record\n"
     "  anything FILE..          whether there is any sound on a log at all\n"
     "  sheet FILE..             figures of many logs: cells sound, missing and refused, samples by their marks\n"

@@ -74,14 +74,37 @@ int reading_header(struct reading *reading) {
     return RIME_DONE;
 }
 
-int reading_begin(struct reading *reading, const char *name, bool quiet) {
-    int status = reading_open(reading, name, quiet);
-    if (status != STATUS_WELL) return status;
+/* The header; where there is none to go on with, that is said, and the log closed. */
+static int start(struct reading *reading) {
     int refusal = reading_header(reading);
     if (refusal == RIME_DONE) return STATUS_WELL;
-    status = refusal < 0 ? STATUS_FILE : say_header(reading->name, reading->buffer, reading->held, (unsigned)refusal);
+    reading->refusal = refusal < 0 ? RIME_DONE : (unsigned)refusal;
+    int status = refusal < 0 ? STATUS_FILE : say_header(reading->name, reading->buffer, reading->held, reading->refusal);
     reading_close(reading);
     return status;
+}
+
+int reading_begin(struct reading *reading, const char *name, bool quiet) {
+    int status = reading_open(reading, name, quiet);
+    return status == STATUS_WELL ? start(reading) : status;
+}
+
+int reading_twice(struct reading *reading) {
+    if (spool_first(&reading->fd, reading->name, &reading->whole)) return start(reading);
+    reading_close(reading);
+    return STATUS_FILE;
+}
+
+int reading_again(struct reading *reading) {
+    if (lseek(reading->fd, (off_t)reading->whole.start, SEEK_SET) < 0) {
+        int status = say_failed(reading->name);
+        reading_close(reading);
+        return status;
+    }
+    struct reading fresh = {.name = reading->name, .fd = reading->fd, .buffer = reading->buffer, .limit = reading->limit};
+    *reading = fresh;
+    whole_begin(&reading->whole, reading->fd);
+    return start(reading);
 }
 
 static enum step taken(struct reading *reading) {

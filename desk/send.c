@@ -8,18 +8,20 @@
 
 #include "options.h"
 #include "place.h"
-#include "sound.h"
+#include "sidecar.h"
 #include "status.h"
 
 enum { CELLS = 512 }; /* cells made of one buffer of sound */
 
 struct send {
-    const char *in_name, *out_name, *origin, *destination;
+    const char *in_name, *out_name, *origin, *destination, *sidecar_name;
     unsigned format, order, number, second;
     bool wanted, asked, without, cut, force, quiet; /* asked, without: channel status, by an option */
 
     struct sound_in in;
-    struct output out;
+    struct output out, beside_out;
+    struct sidecar sidecar;
+    struct samples_sum sum;
     struct format about;
     unsigned channels, times, entries;
     uint8_t state[RIME_SENDER_STATE];
@@ -42,7 +44,8 @@ static const struct argp_option options[] = {
     {"origin", 'O', "LETTERS", 0, "up to four letters of origin in the channel status (with it --status)", 0},
     {"destination", 'D', "LETTERS", 0, "up to four letters of destination in the channel status (with it --status)", 0},
     {"cut", 'c', NULL, 0, "drop the low bits of samples that have more bits than the format", 0},
-    {"force", 'F', NULL, 0, "write over OUT.log if it is there", 0},
+    {"sidecar", 'k', "FILE.json", 0, "keep what a log doesn't carry: bext, tags, cue points, length, the samples' MD5", 0},
+    {"force", 'F', NULL, 0, "write over files that are there", 0},
     {"quiet", 'q', NULL, 0, "no bar and no summary", 0},
     {0},
 };
@@ -68,6 +71,7 @@ static error_t parse(int key, char *word, struct argp_state *state) {
     case 'S': send->asked = true; break;
     case 'N': send->without = true; break;
     case 'c': send->cut = true; break;
+    case 'k': send->sidecar_name = word; break;
     case 'F': send->force = true; break;
     case 'q': send->quiet = true; break;
     case ARGP_KEY_SUCCESS:
@@ -159,11 +163,27 @@ static int send_sound(struct send *send) {
         frames = sf_readf_int(send->in.file, send->sound, (sf_count_t)CELLS * send->times);
         if (frames <= 0) break;
         send->frames += (uint64_t)frames;
+        for (size_t at = 0; send->sidecar_name != NULL && at < (size_t)frames * send->channels; at++)
+            samples_sum_put(&send->sum, (uint64_t)(uint32_t)send->sound[at] << 32);
         status = pack_all(send, (size_t)frames);
         progress_at(send->frames);
     }
     progress_end();
     return status == STATUS_WELL ? sound_whole(&send->in, send->frames) : status;
+}
+
+/* What the log doesn't carry, in a line. */
+static void say_kept(const struct send *send) {
+    const struct kept *kept = &send->sidecar.kept;
+    char words[KEPT_WORDS];
+    bool any = kept_words(kept, words)[0] != '\0', others = kept->others[0] != '\0';
+    if (!any && !others) return;
+    if (send->sidecar_name == NULL)
+        fprintf(stderr, "%s: a log doesn't carry %s%s%s%s\n", send->in_name, words,
+                any ? " (--sidecar keeps that)" : "", any && others ? "; nor " : "", kept->others);
+    else
+        fprintf(stderr, "%s: keeps %s%s%s\n", shown(send->sidecar_name, true), any ? words : "nothing beside the samples",
+                others ? "; not kept: " : "", kept->others);
 }
 
 static void say_summary(const struct send *send) {
@@ -182,6 +202,29 @@ static void say_summary(const struct send *send) {
     if (send->in.bits > send->about.sample_bits)
         fprintf(stderr, "%s: the low %u bits of each sample are dropped\n", send->out_name,
                 send->in.bits - send->about.sample_bits);
+    say_kept(send);
+}
+
+/* The samples, and what stands beside them. */
+static void put_sidecar(struct send *send) {
+    struct sidecar *sidecar = &send->sidecar;
+    if (send->sidecar_name == NULL) return;
+    sidecar->channels = send->channels;
+    sidecar->rate = (unsigned)send->in.about.samplerate;
+    sidecar->bits = send->in.bits;
+    sidecar->length = send->frames;
+    samples_sum_end(&send->sum, sidecar->md5);
+    sidecar_write(sidecar, send->in_name, &send->beside_out);
+}
+
+static int open_outputs(struct send *send) {
+    int status = output_open(&send->out, send->out_name, send->force);
+    if (status == STATUS_WELL && send->sidecar_name != NULL)
+        status = output_open(&send->beside_out, send->sidecar_name, send->force);
+    if (send->sidecar_name != NULL) samples_sum_begin(&send->sum, send->in.bits);
+    if (send->sidecar_name != NULL || !send->quiet) kept_take(&send->sidecar.kept, &send->in);
+    send->out_name = shown(send->out_name, true);
+    return status;
 }
 
 int desk_send(int argc, char **argv) {
@@ -193,22 +236,25 @@ int desk_send(int argc, char **argv) {
         .doc = "Packs a sound file into a log. - is standard input, or standard output.",
     };
     argp_parse(&argp, argc, argv, 0, NULL, &send);
-    place_apart(send.in_name, &send.out_name, 1);
+    place_apart(send.in_name, (const char *[]){send.out_name, send.sidecar_name}, 2);
     int status = sound_open(&send.in, send.in_name);
     send.in_name = send.in.name;
     if (status != STATUS_WELL) return status;
     status = open_sender(&send);
-    if (status == STATUS_WELL) status = output_open(&send.out, send.out_name, send.force);
-    send.out_name = shown(send.out_name, true);
+    if (status == STATUS_WELL) status = open_outputs(&send);
     if (status == STATUS_WELL) {
         send.sound = malloc(sizeof *send.sound * CELLS * send.entries);
         if (send.sound == NULL) err(STATUS_FILE, "%s", send.in_name);
         status = send_sound(&send);
-        if (status == STATUS_WELL || send.out.error != 0) status = output_keep(&send.out);
+        if (status == STATUS_WELL) put_sidecar(&send);
+        if (status == STATUS_WELL || send.out.error != 0)
+            status = outputs_keep((struct output *[]){&send.out, &send.beside_out}, 2);
         free(send.sound);
     }
     if (status == STATUS_WELL && !send.quiet) say_summary(&send);
     output_drop(&send.out);
+    output_drop(&send.beside_out);
+    kept_free(&send.sidecar.kept);
     sf_close(send.in.file);
     return status;
 }

@@ -4,18 +4,20 @@
 #include <stdio.h>
 
 #include "figures.h"
+#include "json.h"
 #include "lent.h"
 #include "options.h"
 
 struct call {
     struct names names;
-    bool plain, quiet;
+    bool plain, quiet, json;
     bool counted; /* --logs is given */
     uint64_t logs;
 };
 
 static const struct argp_option sheet_options[] = {
     {"plain", 'p', NULL, 0, "the columns of the program sheet alone, and its limits: 4,096 logs, totals up to 4,294,967,295", 0},
+    {"json", 'j', NULL, 0, "print a document of JSON", 0},
     {"quiet", 'q', NULL, 0, "no bar, and no word on logs that are refused or broken", 0},
     {0},
 };
@@ -32,8 +34,12 @@ static error_t parse(int key, char *word, struct argp_state *state) {
         call->counted = true;
         call->logs = option_number(state, "logs", word, 10);
         break;
+    case 'j': call->json = true; break;
     case 'p': call->plain = true; break;
     case 'q': call->quiet = true; break;
+    case ARGP_KEY_SUCCESS:
+        if (call->plain && call->json) argp_error(state, "--plain is a table, and --json isn't");
+        break;
     default: return option_names(state, key, &call->names);
     }
     return 0;
@@ -110,8 +116,15 @@ int desk_sheet(int argc, char **argv) {
         progress_at((uint64_t)at + 1);
     }
     progress_end();
+    sheet.json = call.json;
+    if (call.json) doc_object(NULL);
     int status = sheet_print(&sheet);
-    return printed(status > worst ? status : worst);
+    if (status < worst) status = worst;
+    if (call.json) {
+        doc_number("status", (uint64_t)status);
+        doc_end();
+    }
+    return printed(status);
 }
 
 /* What all the rows say together: a status, and says why it isn't well. */
