@@ -3,8 +3,8 @@
 #include <stdio.h>
 
 #include "json.h"
-#include "lent.h"
 #include "options.h"
+#include "pieces.h"
 
 struct anything {
     struct names names;
@@ -42,26 +42,36 @@ static void print_answer(const char *name, unsigned refusal, const uint64_t answ
     else printf("%s %llu\n", answer[0] == 1 ? "yes" : "no", (unsigned long long)answer[1]);
 }
 
+/* The answer of the proved calls, for as much of the log as it needs. A refusal, or -1 where the file is unfit, which is said. */
+static int ask(struct pieces *pieces, uint64_t *state, uint64_t answer[RIME_ANSWER]) {
+    uint64_t more = 1;
+    rime_anything_start(state, pieces->held);
+    progress_within(pieces->name, pieces->whole.length);
+    while (more == 1 && pieces_next(pieces))
+        rime_anything_take(state, pieces->held, pieces->piece, pieces->count, &more);
+    progress_without();
+    if (pieces_whole(pieces) != STATUS_WELL) return -1;
+    return rime_anything_end(state, pieces->held, answer);
+}
+
 static int of_log(const char *name, bool several, bool json) {
-    struct lent lent;
-    int status = lent_open(&lent, name);
+    static struct pieces pieces;
+    int status = pieces_open(&pieces, name);
     if (status != STATUS_WELL) return status;
-    lent_watch(&lent);
-    if (lent_lost(&lent)) return lent_gone(&lent);
-    uint64_t answer[RIME_ANSWER]; /* yes or no, and a record or how many */
-    progress_watch(lent.name, lent.mapped, lent.size);
-    unsigned refusal = rime_anything(lent.octets, lent.count, answer);
-    progress_watched();
-    status = lent_whole(&lent, answer[0] == 0);
-    if (status != STATUS_WELL) return status;
-    struct fault fault = answer[0] == 0 ? lent_fault(&lent, answer[1]) : (struct fault){0};
-    if (json) tell_answer(refusal, answer, fault);
-    else print_answer(several ? name : NULL, refusal, answer);
+    uint64_t state[RIME_ANYTHING_STATE], answer[RIME_ANSWER]; /* yes or no, and a record or how many */
+    int refusal = ask(&pieces, state, answer);
+    if (refusal < 0) {
+        pieces_close(&pieces);
+        return STATUS_FILE;
+    }
+    struct fault fault = answer[0] == 0 ? pieces_fault(&pieces, state) : (struct fault){0};
+    if (json) tell_answer((unsigned)refusal, answer, fault);
+    else print_answer(several ? name : NULL, (unsigned)refusal, answer);
     if (answer[0] == 0) {
-        status = lent_say(&lent, fault);
+        status = pieces_say(&pieces, fault);
         if (status == STATUS_WELL) status = STATUS_NO;
     }
-    lent_close(&lent);
+    pieces_close(&pieces);
     return status;
 }
 

@@ -62,8 +62,6 @@ void progress_clear(void); /* for a line of text; the bar is drawn again after i
 void progress_end(void);
 void progress_within(const char *name, uint64_t total); /* a bar in the place of the other one, up to progress_without */
 void progress_without(void);
-void progress_watch(const char *name, const void *start, size_t size); /* how far a call is in what is mapped there */
-void progress_watched(void);
 
 /* limits.c: settings that are refused, with the limit that they pass; and a log whose header is. STATUS_REFUSED. */
 struct settings {
@@ -189,7 +187,6 @@ int reading_begin(struct reading *reading, const char *name, bool quiet); /* bot
 int reading_twice(struct reading *reading); /* behind reading_open: keeps what comes from a pipe, and reads the header; so too */
 int reading_again(struct reading *reading); /* after that: from the start of the log; so too */
 enum step reading_step(struct reading *reading);
-bool reading_cut(struct reading *reading, uint64_t *cut); /* of a broken log: octets from the fault's record to the end */
 void reading_close(struct reading *reading);
 int reading_broken(const struct reading *reading); /* says where the log is broken; returns STATUS_REFUSED */
 

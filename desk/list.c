@@ -5,6 +5,7 @@
 
 #include "json.h"
 #include "options.h"
+#include "pieces.h"
 
 static const uint64_t most = 0xFFFFFFFF; /* octets of a log that is listed */
 
@@ -63,6 +64,11 @@ static void tell_end_of(const struct reading *reading, const char *name, int ref
     doc_end();
 }
 
+/* The status of a log without a fault. */
+static int judged(const struct list *list, uint64_t flaws) {
+    return list->strict && flaws > 0 ? STATUS_NO : STATUS_WELL;
+}
+
 static enum step tell_records(struct reading *reading) {
     enum step step;
     do {
@@ -74,48 +80,54 @@ static enum step tell_records(struct reading *reading) {
     return step;
 }
 
-static enum step list_records(struct reading *reading) {
-    const uint32_t *header = reading->header;
-    printf("format %u %u %u\n", header[RIME_HEADER_FORMAT], header[RIME_HEADER_CHANNELS], header[RIME_HEADER_ORDER]);
-    enum step step;
-    do {
-        unsigned long long record = reading->record;
-        step = reading_step(reading);
-        if (step == STEP_SOUND)
-            printf("%llu sound %u number %u\n", record, reading->report[RIME_REPORT_MISSING],
-                   reading->report[RIME_REPORT_NUMBER]);
-        else if (step == STEP_REFUSED) printf("%llu refused %u\n", record, reading->refusal);
-        else if (step == STEP_BROKEN) printf("%llu broken %u\n", record, reading->refusal);
-    } while (step == STEP_SOUND || step == STEP_REFUSED);
-    if (step != STEP_FAILED)
-        printf("end %llu sound %llu missing %llu refused\n", (unsigned long long)reading->sound,
-               (unsigned long long)reading->missing, (unsigned long long)reading->refused);
-    progress_end();
-    return step;
-}
-
-static int list_log(const char *name, const struct list *list) {
+/* The list in JSON, a line for each record. */
+static int tell_log(const char *name, const struct list *list) {
     static struct reading reading;
     int status = reading_open(&reading, name, list->quiet || isatty(STDOUT_FILENO));
     if (status != STATUS_WELL) {
-        if (list->json) tell_end_of(&reading, name, -1, status);
+        tell_end_of(&reading, name, -1, status);
         return status;
     }
     reading.limit = most;
     int refusal = reading_header(&reading);
     if (refusal == RIME_DONE) {
-        enum step last = list->json ? tell_records(&reading) : list_records(&reading);
-        bool flawed = reading.missing + reading.refused > 0;
+        enum step last = tell_records(&reading);
         if (last == STEP_FAILED) status = STATUS_FILE;
         else if (last == STEP_BROKEN) status = reading_broken(&reading);
-        else status = list->strict && flawed ? STATUS_NO : STATUS_WELL;
+        else status = judged(list, reading.missing + reading.refused);
     } else if (refusal < 0) status = STATUS_FILE;
-    else {
-        if (!list->json) printf("log refused %d\n", refusal);
-        status = say_header(reading.name, reading.buffer, reading.held, (unsigned)refusal);
-    }
+    else status = say_header(reading.name, reading.buffer, reading.held, (unsigned)refusal);
     reading_close(&reading);
-    if (list->json) tell_end_of(&reading, name, refusal, status);
+    tell_end_of(&reading, name, refusal, status);
+    return status;
+}
+
+/* Prints the list as the proved calls write it. A fault is printed once it is sure that the file wasn't cut. */
+static int print_list(struct pieces *pieces, const struct list *list) {
+    static uint8_t text[PIECE_ROOM(RIME_TEXT_ROOM, RIME_TEXT_RECORD)];
+    uint64_t state[RIME_LIST_STATE], written;
+    rime_list_start(state, pieces->held);
+    while (state[RIME_PIECES_STAGE] < 2 && pieces_next(pieces)) {
+        rime_list_take(state, pieces->held, pieces->piece, pieces->count, text, sizeof text, &written);
+        if (state[RIME_PIECES_STAGE] < 2) fwrite(text, 1, written, stdout);
+    }
+    int status = pieces_whole(pieces);
+    if (status != STATUS_WELL) return status;
+    if (state[RIME_PIECES_STAGE] < 2) rime_list_end(state, pieces->held, text, sizeof text, &written);
+    fwrite(text, 1, written, stdout);
+    progress_end();
+    status = pieces_say(pieces, pieces_fault(pieces, state));
+    return status == STATUS_WELL ? judged(list, state[RIME_LIST_MISSING] + state[RIME_LIST_REFUSED]) : status;
+}
+
+static int list_log(const char *name, const struct list *list) {
+    static struct pieces pieces;
+    int status = pieces_open(&pieces, name);
+    if (status != STATUS_WELL) return status;
+    progress_begin(pieces.name, pieces.whole.length, list->quiet || isatty(STDOUT_FILENO));
+    status = print_list(&pieces, list);
+    progress_end();
+    pieces_close(&pieces);
     return status;
 }
 
@@ -131,7 +143,8 @@ int desk_list(int argc, char **argv) {
     int worst = STATUS_WELL;
     for (int at = 0; at < list.names.count; at++) {
         if (list.names.count > 1 && !list.json) printf("%s:\n", list.names.words[at]);
-        int status = list_log(list.names.words[at], &list);
+        const char *name = list.names.words[at];
+        int status = list.json ? tell_log(name, &list) : list_log(name, &list);
         if (status > worst) worst = status;
     }
     return printed(worst);

@@ -156,16 +156,6 @@ enum step reading_step(struct reading *reading) {
     return STEP_REFUSED;
 }
 
-bool reading_cut(struct reading *reading, uint64_t *cut) {
-    *cut = reading->held - reading->place;
-    while (!reading->ended) {
-        reading->place = reading->held;
-        if (!hold(reading, 1)) return false;
-        *cut += reading->held - reading->place;
-    }
-    return is_whole(reading);
-}
-
 int reading_broken(const struct reading *reading) {
     return say_broken(reading->name, reading->record, reading->refusal);
 }

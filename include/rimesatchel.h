@@ -8,9 +8,9 @@
  * Every call but rime_check_character and rime_receiver_placed returns a refusal number, RIME_DONE (0) where there is none.
  * A call never does half of its work. rime_judge_log alone does as many records as it can and says where it stopped; each
  * record is done whole or not at all. A refusal leaves every lent run and the state as they were, and fills `report`, `out`
- * of rime_status_step and rime_status_run, `facts`, `header`, `*next`, `counts`, `totals`, `units`, `*entries`,
- * `answer`, `slip` or the two entries or halves of a frame with zeros; an opening that is refused fills `state` with zeros, which is
- * itself refused 1.
+ * of rime_status_step and rime_status_run, `facts`, `header`, `*next`, `counts`, `totals`, `row`, `units`, `*entries`, `answer`,
+ * `slip`, `*written` and `written` or the two entries or halves of a frame with zeros; an opening that is refused fills `state`
+ * with zeros, which is itself refused 1.
  * Where several refusals apply, the first in the order of the list at each function is given.
  *
  * Lent memory: a run is a pointer and the number of its entries. A pointer is never NULL (a run of no entries may
@@ -105,7 +105,7 @@ enum {
     RIME_REFUSED_LOGS = 18,       /* a sheet over more than 4,096 logs */
     RIME_REFUSED_TOTAL = 19,      /* a sheet with a total above 4,294,967,295 */
     RIME_REFUSED_COUNT = 20,      /* the count of cells placed would pass 4,294,967,295 */
-    RIME_REFUSED_OUTPUT = 21,     /* an output of the salvage is shorter than what goes into it */
+    RIME_REFUSED_OUTPUT = 21,     /* an output of a salvage, or of a list in pieces, is shorter than what can go into it */
     RIME_REFUSED_PLAN = 22,       /* more than 64 circuits or 1,024 channels */
     RIME_REFUSED_FREQUENCY = 23,  /* a sampling frequency of 0 or above 1,000,000 */
     /* 24 and 25 are the management port's: rime_management.h */
@@ -429,6 +429,115 @@ uint8_t rime_anything(const uint8_t *log, size_t log_len, uint64_t answer[RIME_A
  */
 uint8_t rime_salvage(const uint8_t *log, size_t log_len, uint8_t *out, size_t out_len, uint64_t *list, size_t list_len,
                      uint64_t counts[RIME_COUNTS]);
+
+/*
+ * A log in pieces, as it comes off a disk or a line: its list, its salvage, whether there is anything on it and its figures, each
+ * by three calls. _start makes `state` and `held` ready; _take is given piece after piece, each of any length; _end is called
+ * where the log ends. What they write and answer together is that of the whole log, however it is divided. All that is known
+ * between two calls stands in `state`, which is numbers of 64 bits, and in `held`, the octets of a header or a record that isn't
+ * whole yet. Behind a fault, stages 2 and 3, nothing more is read.
+ * No state is refused: a number in it is taken modulo its width, and of a yes or no 0 is no and any other number yes. A state that
+ * no call left has answers that mean nothing, refusal numbers among them, and never more octets than is said below.
+ */
+
+/* Places in each of the four states: where the log stands, then the receiver's state. */
+enum {
+    RIME_PIECES_STAGE = 0,        /* 0 in the header, 1 among the records, 2 the header was refused, 3 a record was broken */
+    RIME_PIECES_FAULT = 1,        /* the refusal at stages 2 and 3, else 0; stage and fault are numbers of 8 bits */
+    RIME_PIECES_HELD = 2,         /* how many octets are held */
+    RIME_PIECES_LEFT = 3,         /* how many octets may still come */
+    RIME_PIECES_RECORDS = 4,      /* whole records so far */
+    RIME_PIECES_FORMAT = 5,       /* format, channels, order and last number have 8 bits */
+    RIME_PIECES_CHANNELS = 6,
+    RIME_PIECES_ORDER = 7,
+    RIME_PIECES_STARTED = 8,      /* a yes or no */
+    RIME_PIECES_LAST = 9,
+    RIME_PIECES_COUNT = 10        /* 32 bits */
+};
+
+/* Then what each counts itself, and how many numbers its state has. */
+enum { RIME_LIST_RECORDS = 11, RIME_LIST_SOUND = 12, RIME_LIST_MISSING = 13, RIME_LIST_REFUSED = 14, RIME_LIST_STATE = 15 };
+enum {
+    RIME_SALVAGE_OCTETS = 11,     /* of the log so far */
+    RIME_SALVAGE_REFUSAL = 12,    /* of the header: 8 bits */
+    RIME_SALVAGE_TAKEN = 13,      /* octets of the header and of the whole records */
+    RIME_SALVAGE_KEPT = 14,       /* records */
+    RIME_SALVAGE_LEFT_OUT = 15,
+    RIME_SALVAGE_STATE = 16
+};
+enum {
+    RIME_ANYTHING_REFUSAL = 11,   /* of the header: 8 bits */
+    RIME_ANYTHING_FOUND = 12,     /* a yes or no */
+    RIME_ANYTHING_NUMBER = 13,    /* for a yes the first such record, else how many whole records were read */
+    RIME_ANYTHING_STATE = 14
+};
+enum { RIME_FIGURES_COUNTS = 11, /* nine, in the order of a row of rime_sheet */ RIME_FIGURES_STATE = 20 };
+
+/*
+ * The room that a piece needs: so many octets, and so many more for each of `piece_len` / 49 + 1 records. An end needs the first
+ * of the two alone.
+ */
+enum {
+    RIME_TEXT_ROOM = 216,
+    RIME_TEXT_RECORD = 76,
+    RIME_OUT_ROOM = 3,
+    RIME_OUT_RECORD = 49,
+    RIME_NOTES_ROOM = 216,
+    RIME_NOTES_RECORD = 50
+};
+
+/* Places in what rime_salvage_take says it wrote. */
+enum { RIME_WRITTEN_OUT = 0, RIME_WRITTEN_NOTES = 1, RIME_WRITTEN = 2 };
+
+/*
+ * The list of a log in pieces, as rime_log_list writes it of the whole log. A log of more than 4,294,967,295 octets is refused 13
+ * in the list. rime_list_take writes from the start of `text` the lines that the piece makes whole, and rime_list_end what ends
+ * the list: nothing where a fault ended it before. What is past them stays. Both leave in `*written` how many octets they are.
+ * Refused, with all else untouched and `*written` 0: 21, `text` is shorter than 216 + 76 * (`piece_len` / 49 + 1) octets, at the
+ * end than 216. So no line is ever cut. rime_list_start refuses nothing.
+ */
+uint8_t rime_list_start(uint64_t state[RIME_LIST_STATE], uint8_t held[RIME_RECORD_OCTETS]);
+uint8_t rime_list_take(uint64_t state[RIME_LIST_STATE], uint8_t held[RIME_RECORD_OCTETS], const uint8_t *piece, size_t piece_len,
+                       uint8_t *text, size_t text_len, uint64_t *written);
+uint8_t rime_list_end(const uint64_t state[RIME_LIST_STATE], const uint8_t held[RIME_RECORD_OCTETS], uint8_t *text,
+                      size_t text_len, uint64_t *written);
+
+/*
+ * The salvage of a log in pieces, of any length. rime_salvage_take writes from the start of `out` what the piece makes of the new
+ * log, as rime_salvage has it, and from the start of `notes` a line for each whole record that is left out, as `1 refused 9`;
+ * rime_salvage_end writes the last line, as `end 5 kept 2 left out 17 cut` (records, records, octets), or `log refused 11` where
+ * the header is refused. What is past them stays. They leave in `written` and `*written` how many octets that is. Octets behind a
+ * fault are counted, so all of the log must be taken.
+ * Refused, with all else untouched and `written` or `*written` zeros: 21, `out` is shorter than 3 + 49 * (`piece_len` / 49 + 1)
+ * octets or `notes` than 216 + 50 * (`piece_len` / 49 + 1), at the end than 216. rime_salvage_start refuses nothing.
+ */
+uint8_t rime_salvage_start(uint64_t state[RIME_SALVAGE_STATE], uint8_t held[RIME_RECORD_OCTETS]);
+uint8_t rime_salvage_take(uint64_t state[RIME_SALVAGE_STATE], uint8_t held[RIME_RECORD_OCTETS], const uint8_t *piece,
+                          size_t piece_len, uint8_t *out, size_t out_len, uint8_t *notes, size_t notes_len,
+                          uint64_t written[RIME_WRITTEN]);
+uint8_t rime_salvage_end(const uint64_t state[RIME_SALVAGE_STATE], const uint8_t held[RIME_RECORD_OCTETS], uint8_t *notes,
+                         size_t notes_len, uint64_t *written);
+
+/*
+ * Is there anything on a log in pieces, of any length? rime_anything_take leaves in `*more` 1 where more octets could change the
+ * answer, else 0: behind the first yes, and behind a fault, nothing more need be read. rime_anything_end leaves in `answer` what
+ * rime_anything does of the whole log.
+ * Refused, by rime_anything_end alone, with `answer` zeros: 11, 1, 2 and 3, as rime_log_header has them.
+ */
+uint8_t rime_anything_start(uint64_t state[RIME_ANYTHING_STATE], uint8_t held[RIME_RECORD_OCTETS]);
+uint8_t rime_anything_take(uint64_t state[RIME_ANYTHING_STATE], uint8_t held[RIME_RECORD_OCTETS], const uint8_t *piece,
+                           size_t piece_len, uint64_t *more);
+uint8_t rime_anything_end(const uint64_t state[RIME_ANYTHING_STATE], const uint8_t held[RIME_RECORD_OCTETS],
+                          uint64_t answer[RIME_ANSWER]);
+
+/*
+ * The figures of one log in pieces, of any length. rime_figures_end leaves in `row` the ten numbers that rime_sheet has for it.
+ * Refused, by rime_figures_end alone, with `row` zeros: 19, one of the first nine is above 4,294,967,295.
+ */
+uint8_t rime_figures_start(uint64_t state[RIME_FIGURES_STATE], uint8_t held[RIME_RECORD_OCTETS]);
+uint8_t rime_figures_take(uint64_t state[RIME_FIGURES_STATE], uint8_t held[RIME_RECORD_OCTETS], const uint8_t *piece,
+                          size_t piece_len);
+uint8_t rime_figures_end(const uint64_t state[RIME_FIGURES_STATE], uint32_t row[10]);
 
 /* The preambles of an AES3 frame's halves, by their letters. */
 enum { RIME_PREAMBLE_X = 0x58, RIME_PREAMBLE_Y = 0x59, RIME_PREAMBLE_Z = 0x5A };

@@ -35,18 +35,21 @@ import mmap
 import os
 import pathlib
 from ctypes import POINTER, c_bool, c_char_p, c_int, c_size_t, c_ssize_t, c_uint, c_uint8, c_uint32, c_uint64, c_void_p
-from typing import Any, Iterator, NamedTuple, Sequence
+from typing import IO, Any, Iterator, NamedTuple, Protocol, Sequence
 
 __all__ = [
     "VERSION", "Anything", "Block", "Deed", "Entry", "Figures", "Fit", "Format", "Frame", "Handed", "Log", "Mark", "Pair",
-    "Receiver", "Record", "Refused", "Salvaged", "Sender", "Setup", "Sheet", "Slip", "Status", "Told", "Units", "Verdict", "Walked",
-    "Watch", "Writer", "anything", "check_character", "check_plan", "controller", "equipment", "export_frame", "export_units",
-    "import_frame", "listing", "plan", "port_packing", "port_settings", "read_unit", "salvage", "sheet", "words",
+    "Reader", "Receiver", "Record", "Refused", "Salvaged", "Sender", "Setup", "Sheet", "Slip", "Status", "Told", "Units",
+    "Verdict", "Walked", "Watch", "Writer", "anything", "anything_from", "check_character", "check_plan", "controller",
+    "equipment", "export_frame", "export_units", "figures_from", "import_frame", "lines", "listing", "plan", "port_packing",
+    "port_settings", "read_unit", "salvage", "salvage_from", "sheet", "words",
 ]
 
 _RUN8, _RUN32, _RUN64 = ([POINTER(kind), c_size_t] for kind in (c_uint8, c_uint32, c_uint64))
 _SETTINGS = [c_uint32, c_uint32, c_uint32]
 _SENDER, _RECEIVER, _REPORT, _STATUS = (POINTER(c_uint8 * octets) for octets in (7, 9, 4, 25))
+_LIST, _SALVAGE, _ANYTHING, _FIGURES = (POINTER(c_uint64 * numbers) for numbers in (15, 16, 14, 20))
+_HELD = POINTER(c_uint8 * 49)
 _ARGUMENTS: dict[str, list[Any]] = {
     "rime_format": [c_uint32, POINTER(c_uint32 * 4)],
     "rime_sender_open": [*_SETTINGS, c_uint32, c_bool, c_uint32, _SENDER],
@@ -67,6 +70,18 @@ _ARGUMENTS: dict[str, list[Any]] = {
     "rime_anything": [*_RUN8, POINTER(c_uint64 * 2)],
     "rime_salvage": [*_RUN8, *_RUN8, *_RUN64, POINTER(c_uint64 * 3)],
     "rime_sheet": [*_RUN8, *_RUN64, *_RUN32, POINTER(c_uint32 * 10)],
+    "rime_list_start": [_LIST, _HELD],
+    "rime_list_take": [_LIST, _HELD, *_RUN8, *_RUN8, POINTER(c_uint64)],
+    "rime_list_end": [_LIST, _HELD, *_RUN8, POINTER(c_uint64)],
+    "rime_salvage_start": [_SALVAGE, _HELD],
+    "rime_salvage_take": [_SALVAGE, _HELD, *_RUN8, *_RUN8, *_RUN8, POINTER(c_uint64 * 2)],
+    "rime_salvage_end": [_SALVAGE, _HELD, *_RUN8, POINTER(c_uint64)],
+    "rime_anything_start": [_ANYTHING, _HELD],
+    "rime_anything_take": [_ANYTHING, _HELD, *_RUN8, POINTER(c_uint64)],
+    "rime_anything_end": [_ANYTHING, _HELD, POINTER(c_uint64 * 2)],
+    "rime_figures_start": [_FIGURES, _HELD],
+    "rime_figures_take": [_FIGURES, _HELD, *_RUN8],
+    "rime_figures_end": [_FIGURES, POINTER(c_uint32 * 10)],
     "rime_aes3_import": [POINTER(kind * 2) for kind in (c_uint8, c_uint32, c_uint64, c_uint8)],
     "rime_aes3_export": [POINTER(kind * 2) for kind in (c_uint64, c_uint8, c_uint8, c_uint32)],
     "rime_units_export": [c_uint32, c_uint32, c_size_t, *_RUN64, *_RUN8, *_RUN8, POINTER(c_uint64 * 3)],
@@ -663,6 +678,102 @@ def sheet(logs: Sequence[bytes]) -> Sheet:
     rows, totals = _Lent(c_uint32, 10 * len(logs)), (c_uint32 * 10)()
     _call("rime_sheet", _octets(b"".join(logs)), _Lent(c_uint64, [len(log) for log in logs]), rows, totals)
     return Sheet([Figures(*rows.array[at:at + 10]) for at in range(0, len(rows.array), 10)], Figures(*totals))
+
+
+class Reader(Protocol):
+    """What a log in pieces is read from, as a file opened "rb": some octets at a time, none at the end."""
+
+    def read(self, most: int, /) -> bytes:
+        ...
+
+
+def _pieces(reader: Reader) -> Iterator[bytes]:
+    while piece := reader.read(65536):
+        yield piece
+
+
+def _room(first: int, each: int, piece: bytes) -> _Lent:
+    """A run that is long enough for what a piece makes, as include/rimesatchel.h has it."""
+    return _Lent(c_uint8, first + each * (len(piece) // 49 + 1))
+
+
+def _begun(name: str, numbers: int) -> tuple[Any, Any]:
+    """The state of a log in pieces before its first octet, and the octets that are held of it."""
+    state, held = (c_uint64 * numbers)(), (c_uint8 * 49)()
+    _call(f"rime_{name}_start", state, held)
+    return state, held
+
+
+def lines(reader: Reader) -> Iterator[str]:
+    """The list of a log, line by line, as it comes from a reader. A log that can't be read has a list that says so.
+
+    >>> import io
+    >>> list(lines(io.BytesIO(bytes([0x56, 2, 0]) + bytes(50))))
+    ['format 86 2 0', '0 refused 8', '1 broken 12', 'end 0 sound 0 missing 1 refused']
+    """
+    state, held = _begun("list", 15)
+    written = c_uint64()
+    for piece in _pieces(reader):
+        text = _room(216, 76, piece)
+        _call("rime_list_take", state, held, _octets(piece), text, written)
+        yield from bytes(text.array[:written.value]).decode().splitlines()
+    text = _Lent(c_uint8, 216)
+    _call("rime_list_end", state, held, text, written)
+    yield from bytes(text.array[:written.value]).decode().splitlines()
+
+
+def salvage_from(reader: Reader, out: IO[bytes], notes: IO[bytes]) -> None:
+    """Salvages a log as it comes from a reader: the new log goes to `out`, and a line for each record left out and the counts, or
+    the header's refusal, to `notes`.
+
+    >>> import io
+    >>> out, notes = io.BytesIO(), io.BytesIO()
+    >>> salvage_from(io.BytesIO(bytes([0x56, 2, 0]) + bytes(50)), out, notes)
+    >>> out.getvalue() == bytes([0x56, 2, 0]), notes.getvalue().decode().splitlines()
+    (True, ['0 refused 8', 'end 0 kept 1 left out 1 cut'])
+    """
+    state, held = _begun("salvage", 16)
+    both, last = (c_uint64 * 2)(), c_uint64()
+    for piece in _pieces(reader):
+        saved, said = _room(3, 49, piece), _room(216, 50, piece)
+        _call("rime_salvage_take", state, held, _octets(piece), saved, said, both)
+        out.write(bytes(saved.array[:both[0]]))
+        notes.write(bytes(said.array[:both[1]]))
+    said = _Lent(c_uint8, 216)
+    _call("rime_salvage_end", state, held, said, last)
+    notes.write(bytes(said.array[:last.value]))
+
+
+def anything_from(reader: Reader) -> Anything:
+    """Is there anything on a log at all? No more is read of it than the answer needs. Refused 11, 1, 2 or 3.
+
+    >>> import io
+    >>> anything_from(io.BytesIO(bytes([0x56, 2, 0]) + bytes(98)))
+    Anything(found=False, records=2)
+    """
+    state, held = _begun("anything", 14)
+    more, answer = c_uint64(), (c_uint64 * 2)()
+    for piece in _pieces(reader):
+        _call("rime_anything_take", state, held, _octets(piece), more)
+        if more.value == 0:
+            break
+    _call("rime_anything_end", state, held, answer)
+    return Anything(answer[0] == 1, answer[1])
+
+
+def figures_from(reader: Reader) -> Figures:
+    """The figures of a log as it comes from a reader, as a sheet has them. Refused 19.
+
+    >>> import io
+    >>> figures_from(io.BytesIO(bytes([0x56, 2, 0]) + bytes(98))).refused_8
+    2
+    """
+    state, held = _begun("figures", 20)
+    row = (c_uint32 * 10)()
+    for piece in _pieces(reader):
+        _call("rime_figures_take", state, held, _octets(piece))
+    _call("rime_figures_end", state, row)
+    return Figures(*row)
 
 
 class Frame(NamedTuple):

@@ -3,6 +3,8 @@
 //!
 //! A slice carries its own length and two `&mut` never overlap, which is all that the header asks of a caller.
 
+pub mod pieces;
+
 pub type SenderState = [u8; 7];
 pub type ReceiverState = [u8; 9];
 pub type Report = [u8; 4];

@@ -25,7 +25,15 @@ pub mod SalvagesWrong
 pub mod SheetsAdd
 pub mod SheetsOne
 pub mod SheetsWrong
+pub mod StatesLaws
 pub mod StatusesOne
+pub mod TakenDemand1
+pub mod TakenFiguresLaws
+pub mod TakenListsLaws
+pub mod TakenOne
+pub mod TakenSalvagesLaws
+pub mod TakenSearchesLaws
+pub mod TakenWrong
 pub mod WatchesLaws
 pub mod WatchesOne
 pub mod WatchesWrong

@@ -9,5 +9,10 @@ pub mod Network
 pub mod Plans
 pub mod Salvages
 pub mod Sheets
+pub mod States
 pub mod Statuses
+pub mod TakenFigures
+pub mod TakenLists
+pub mod TakenSalvages
+pub mod TakenSearches
 pub mod Watches

@@ -4,6 +4,7 @@ mod by_library;
 mod by_plain;
 mod line;
 mod management;
+mod pieces;
 mod slips;
 
 pub use by_library::by_library;

@@ -28,6 +28,10 @@ pub enum Kind {
     Anything,
     Salvage,
     Sheet,
+    ListPieces,
+    SalvagePieces,
+    AnythingPieces,
+    FiguresPieces,
     Aes3Import,
     Aes3Export,
     Equipment,
@@ -51,7 +55,7 @@ impl Kind {
 }
 
 /// Kind, name, and the fields in and out: n a number, r a run of numbers or a state, o octets, t text.
-const KINDS: [(Kind, &str, &str, &str); 32] = [
+const KINDS: [(Kind, &str, &str, &str); 36] = [
     (Kind::Format, "format", "n", "nnnnn"),
     (Kind::SenderOpen, "sender_open", "nnnnnn", "nr"),
     (Kind::ReceiverOpen, "receiver_open", "nnn", "nr"),
@@ -74,6 +78,10 @@ const KINDS: [(Kind, &str, &str, &str); 32] = [
     (Kind::Anything, "anything", "o", "nnn"),
     (Kind::Salvage, "salvage", "oor", "nornnn"),
     (Kind::Sheet, "sheet", "orn", "nrr"),
+    (Kind::ListPieces, "list_pieces", "or", "non"),
+    (Kind::SalvagePieces, "salvage_pieces", "or", "noon"),
+    (Kind::AnythingPieces, "anything_pieces", "or", "nnn"),
+    (Kind::FiguresPieces, "figures_pieces", "or", "nr"),
     (Kind::Aes3Import, "aes3_import", "or", "nrr"),
     (Kind::Aes3Export, "aes3_export", "rr", "nor"),
     (Kind::Equipment, "equipment", "ooo", "noonnnn"),

@@ -2,8 +2,8 @@
 //! where the part of the library isn't linked.
 
 use super::line::line;
-use super::management;
 use super::slips::slips;
+use super::{management, pieces};
 use crate::case::{values, Answer, Case, Kind, Value};
 use crate::face::{self, Entries, ReceiverState, Runs};
 
@@ -39,6 +39,10 @@ pub fn by_library(case: &Case) -> Option<Answer> {
         Kind::CircuitsCheck if cfg!(feature = "circuits") => circuits_check(case),
         Kind::CircuitsPlan if cfg!(feature = "circuits") => circuits_plan(case),
         Kind::Sheet if cfg!(feature = "figures") => sheet(case),
+        Kind::ListPieces if cfg!(feature = "log") => pieces::list_by_library(case),
+        Kind::SalvagePieces if cfg!(feature = "log") => pieces::salvage_by_library(case),
+        Kind::AnythingPieces if cfg!(feature = "log") => pieces::anything_by_library(case),
+        Kind::FiguresPieces if cfg!(feature = "figures") => pieces::figures_by_library(case),
         _ => None,
     }
 }

@@ -2,8 +2,8 @@
 //! it comes back as 0 or 1, and a refusal leaves all that was lent as it was.
 
 use super::line::line;
-use super::management;
 use super::slips::slips;
+use super::{management, pieces};
 use crate::case::{values, Answer, Case, Kind, Value};
 use crate::plain::{self, Anything, Block, Fault, Receiver, Record, Refusal, Sender, Shape};
 
@@ -39,6 +39,10 @@ pub fn by_plain(case: &Case) -> Answer {
         Kind::Anything => anything(case),
         Kind::Salvage => salvage(case),
         Kind::Sheet => sheet(case),
+        Kind::ListPieces => pieces::list_by_plain(case),
+        Kind::SalvagePieces => pieces::salvage_by_plain(case),
+        Kind::AnythingPieces => pieces::anything_by_plain(case),
+        Kind::FiguresPieces => pieces::figures_by_plain(case),
         Kind::Aes3Import => aes3_import(case),
         Kind::Aes3Export => aes3_export(case),
         Kind::UnitsExport => units_export(case),

@@ -154,6 +154,30 @@ pub fn anything(random: &mut Random, referee: &mut Referee) -> Played {
     referee.call(Case::new(Kind::Anything, values![&log[..]])).map(|_| ())
 }
 
+/// How a log is divided: into pieces of one length, whatever that is, or of lengths about those of records, now and then none.
+fn division(length: usize, random: &mut Random) -> Vec<u64> {
+    let longest = random.pick(&[8, 150]);
+    let (each, even) = (1 + random.below(longest), random.one_in(2));
+    let (mut left, mut lengths) = (length, vec![]);
+    while left > 0 && lengths.len() < 2000 {
+        let about = [0, 1, 2, 3, 8, 9, 46, 48, 49, 50, 52, 97, 98, 99, 1000];
+        let piece = if even { each } else { random.pick(&about) };
+        lengths.push(piece);
+        left = left.saturating_sub(piece as usize);
+    }
+    lengths
+}
+
+/// A log in pieces, by each of the four.
+pub fn pieces(random: &mut Random, referee: &mut Referee) -> Played {
+    let log = if random.one_in(3) { silent_log(random) } else { log(random) };
+    for kind in [Kind::ListPieces, Kind::SalvagePieces, Kind::AnythingPieces, Kind::FiguresPieces] {
+        let lengths = division(log.len(), random);
+        referee.call(Case::new(kind, values![&log[..], &lengths[..]]))?;
+    }
+    Ok(())
+}
+
 /// Now and then the log goes on with records of zeros, past what `linelist` reads at a time.
 pub fn list(random: &mut Random, referee: &mut Referee) -> Played {
     let mut log = log(random);
