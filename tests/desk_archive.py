@@ -245,7 +245,7 @@ def spoiled_sidecars():
         ends(2, words, 'receive', 'l.log', 'none/x.wav', '--sidecar', 'w.json', '--labels', 'none/l', '--cues')
         empty()
     for content in (b'', b'{', b'[]', b'null', b'1', b'{}', b'\xff', b'"x"', b'[' * 5000, b'{"sidecar": 1, "sidecar": 1}',
-                    text + b'x', text[:-1], b' ' * (1 << 26), pathlib.Path('in.wav').read_bytes(), text[:-1] + b', "md5": "x"}',
+                    text + b'x', text[:-1], b' ' * (1 << 26), pathlib.Path('in.wav').read_bytes(), text[:-1] + b', "bits": 24}',
                     json.dumps(kept | {'tags': {'title': 'x\0y'}}).encode()):
         wrong(content)
     for key, values in WRONG.items():

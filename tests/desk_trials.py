@@ -51,7 +51,7 @@ def run_one(trial):
     """Whether it fails."""
     try:
         trial()
-    except (AssertionError, subprocess.CalledProcessError, json.JSONDecodeError, KeyError) as fault:
+    except (AssertionError, subprocess.CalledProcessError, json.JSONDecodeError, LookupError) as fault:
         line = fault.__traceback__
         while line.tb_next is not None and not line.tb_next.tb_frame.f_code.co_filename.endswith('desk_trials.py'):
             line = line.tb_next
