@@ -1,8 +1,6 @@
 // Many records of a log in a call, for C, Rust and Python.
 use crate::boxes::receiver_octets;
 use crate::boxes::receiver_of;
-use crate::boxes::sender_octets;
-use crate::boxes::sender_of;
 ghost use Rattle.rimesatchel.specs.Batches.{JudgedOctets};
 
 // Judges a log's records from a place on, and writes five octets a record. Returns the refusal, 0 where there is none, and writes the
@@ -31,33 +29,5 @@ pub extern "C" fn rime_judge_log(
     }
     let next = judged.state;
     *state = receiver_octets(next);
-    0
-}
-
-#[no_mangle]
-pub extern "C" fn rime_send_log(
-    state: &mut [u8; 7],
-    indications: bool,
-    samples: &[u64],
-    ancillary: &[u8],
-    log: &mut [u8],
-    place: usize,
-    counts: &mut [u64; 4],
-) -> u8
-{
-    let lent = *state;
-    let sent = sender::many::send(sender_of(lent), indications, samples, ancillary, log, place);
-    *counts = [
-        sent.next as u64,
-        sent.entries as u64,
-        sent.stop as u64,
-        sent.cells as u64,
-    ];
-    let refusal = sent.refusal;
-    if refusal != 0 {
-        return refusal;
-    }
-    let next = sent.state;
-    *state = sender_octets(next);
     0
 }
