@@ -296,7 +296,18 @@ pub fn send_log(
     let (ancillary, ancillary_len) = (ancillary.as_ptr(), ancillary.len());
     let (log, log_len) = (log.as_mut_ptr(), log.len());
     unsafe {
-        raw::rime_send_log(state, indications, samples, samples_len, ancillary, ancillary_len, log, log_len, place, counts)
+        raw::rime_send_log(
+            state,
+            indications,
+            samples,
+            samples_len,
+            ancillary,
+            ancillary_len,
+            log,
+            log_len,
+            place,
+            counts,
+        )
     }
 }
 

@@ -23,9 +23,22 @@ module _ (κs : Lfts 5) (p q r s t : Place) where
   -- counts are lent as nines
   abbrev Sending : ℕ → ℕ → (ℕ → List ℕ → List ℕ → List ℕ → Type 0) → Type 0
   Sending format octets Wrong =
-      Never send-log-kinds.ps send-log-kinds.r send-log-reads.Post κs
-      (lent p (format ∷ 1 ∷ 0 ∷ 1 ∷ 0 ∷ 0 ∷ 7 ∷ []), (true, (lent q (replicate 8 1), (lent r (replicate 8 0), (lent s (replicate octets 9),
-      (0, (lent t (replicate 4 9), tt)))))))
+      Never send-log-kinds.ps send-log-kinds.r send-log-reads.Post κs (
+        lent p (format ∷ 1 ∷ 0 ∷ 1 ∷ 0 ∷ 0 ∷ 7 ∷ []),
+        (
+          true,
+          (
+            lent q (replicate 8 1),
+            (
+              lent r (replicate 8 0),
+              (
+                lent s (replicate octets 9),
+                (0, (lent t (replicate 4 9), tt)),
+              ),
+            ),
+          ),
+        ),
+      )
       (λ x v. Wrong x (v .0) (v .1 .1 .1 .1 .0) (v .1 .1 .1 .1 .1 .1 .0))
 
   -- a yes that isn't 1 left so, since no cell was sent

@@ -20,14 +20,7 @@ pub extern "C" fn rime_send_log(
         place r (now (state .exit)) (now (log .exit)) (now (counts .exit)) ⌝ }
 {
     let lent = *state;
-    let sent = sender::many::send(
-        sender_of(lent),
-        indications,
-        samples,
-        ancillary,
-        log,
-        place,
-    );
+    let sent = sender::many::send(sender_of(lent), indications, samples, ancillary, log, place);
     *counts = [
         sent.next as u64,
         sent.entries as u64,

@@ -155,7 +155,13 @@ fn row_any(
         let end = to + 49;
         log[to] = octet_of(indication);
         let sequence = pack::sequence_in(set.format, now.number, second);
-        pack::pack(set, sequence, &samples[at..past], &ancillary[at..past], &mut log[start..end]);
+        pack::pack(
+            set,
+            sequence,
+            &samples[at..past],
+            &ancillary[at..past],
+            &mut log[start..end],
+        );
         now = behind(now, indication, second);
         at = past;
         to = end;
@@ -194,7 +200,13 @@ fn row_usual(
         let end = to + 49;
         log[to] = octet_of(indication);
         let sequence = numbers::sequence_of(now.number, second);
-        usual::fill_usual(set, sequence, &samples[at..past], &ancillary[at..past], &mut log[start..end]);
+        usual::fill_usual(
+            set,
+            sequence,
+            &samples[at..past],
+            &ancillary[at..past],
+            &mut log[start..end],
+        );
         now = behind(now, indication, second);
         at = past;
         to = end;

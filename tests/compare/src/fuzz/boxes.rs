@@ -90,12 +90,20 @@ pub fn send_log(random: &mut Random, referee: &mut Referee) -> Played {
     for _ in 0..3 {
         let case = Case::new(
             Kind::SendLog,
-            values![&state[..], indications, &samples[from..], &ancillary[from.min(ancillary.len())..], &log[..], place],
+            values![
+                &state[..],
+                indications,
+                &samples[from..],
+                &ancillary[from.min(ancillary.len())..],
+                &log[..],
+                place
+            ],
         );
         let answer = referee.call(case)?;
         state = answer[1].run().to_vec();
         from += answer[4].number() as usize;
-        log = random.octets(random.place(250));
+        let octets = random.place(250);
+        log = random.octets(octets);
         place = random.pick(&[0, 1, 48]);
     }
     Ok(())
