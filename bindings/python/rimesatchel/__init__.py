@@ -283,8 +283,8 @@ class Sender:
         of 8 octets, of 1 and of 1, and none of them is copied. The indication is 1 in every cell whose number is a multiple of 8 where
         `indications` says yes. Refused 5 where the two runs aren't equally long.
 
-        >>> log = bytearray(100)
-        >>> Sender(Setup(0x56, 2)).send_log(array.array("Q", [7] * 36), bytes(36), log, 1)
+        >>> import array
+        >>> Sender(Setup(0x56, 2)).send_log(array.array("Q", [7] * 36), bytes(36), bytearray(100), 1)
         SentLog(next=99, entries=24, stop=12, cells=2)
         """
         counts = (c_uint64 * 4)()
