@@ -6,11 +6,11 @@
  * all state is the caller's, in the arrays below, and may hold any octets whatever.
  *
  * Every call but rime_check_character and rime_receiver_placed returns a refusal number, RIME_DONE (0) where there is none.
- * A call never does half of its work. rime_judge_log alone does as many records as it can and says where it stopped; each
- * record is done whole or not at all. A refusal leaves every lent run and the state as they were, and fills `report`, `out`
- * of rime_status_step and rime_status_run, `facts`, `header`, `*next`, `counts`, `totals`, `row`, `units`, `*entries`, `answer`,
- * `slip`, `*written` and `written` or the two entries or halves of a frame with zeros; an opening that is refused fills `state`
- * with zeros, which is itself refused 1.
+ * A call never does half of its work. Only the calls over many records, rime_judge_log and rime_send_log, do as many as they
+ * can and say where they stopped; each record is done whole or not at all. A refusal leaves every lent run and the state as they
+ * were, and fills `report`, `out` of rime_status_step and rime_status_run, `facts`, `header`, `*next`, `counts`, `totals`, `row`,
+ * `units`, `*entries`, `answer`, `slip`, `*written` and `written` or the two entries or halves of a frame with zeros; an opening
+ * that is refused fills `state` with zeros, which is itself refused 1.
  * Where several refusals apply, the first in the order of the list at each function is given.
  *
  * Lent memory: a run is a pointer and the number of its entries. A pointer is never NULL (a run of no entries may
@@ -55,6 +55,7 @@ enum {
     RIME_FORMAT = 4,
     RIME_JUDGED_LOG = 3,
     RIME_JUDGEMENT = 5,           /* of a record, in what rime_judge_log writes */
+    RIME_SENT_LOG = 4,
     RIME_MOST_SLOTS = 48,
     RIME_MOST_MISSING = 14
 };
@@ -394,6 +395,24 @@ enum { RIME_JUDGEMENT_REFUSAL = 0, RIME_JUDGEMENT_REPORT = 1 };
  */
 uint8_t rime_judge_log(uint8_t state[RIME_RECEIVER_STATE], const uint8_t *log, size_t log_len, size_t place,
                        uint8_t *reports, size_t reports_len, uint64_t counts[RIME_JUDGED_LOG]);
+
+/* Places in what rime_send_log counts. */
+enum { RIME_SENT_NEXT = 0, RIME_SENT_ENTRIES = 1, RIME_SENT_STOP = 2, RIME_SENT_CELLS = 3 };
+
+/*
+ * Sends cell after cell, each of the next C * T entries, and writes its record into a log from `place` on, as rime_send and
+ * rime_log_put_record would; all else in `log` stays. The indication is 1 in every cell whose number is a multiple of 8 where
+ * `indications` says yes, else in none.
+ * Leaves in `state` the sender's behind the last cell, with its yes-or-no octets as 0 or 1; in `counts` the next place, the
+ * entries taken, why it stopped, and the cells. It stops by 0, fewer than C * T entries are left; 12, no record fits any more, a
+ * place at the end or past it too; 6, the next cell has a number too large; of several the first in this order.
+ * After 12 the entries that are left go on in a new log or with more room; after 0 what is left goes to the front of the next runs.
+ * Refused, with `state` and `log` untouched and `counts` zeros: 1 to 4 of what stands in `state`; then 5, the two runs aren't
+ * equally long.
+ */
+uint8_t rime_send_log(uint8_t state[RIME_SENDER_STATE], bool indications, const uint64_t *samples, size_t samples_len,
+                      const uint8_t *ancillary, size_t ancillary_len, uint8_t *log, size_t log_len, size_t place,
+                      uint64_t counts[RIME_SENT_LOG]);
 
 /* Places in what rime_log_list says. */
 enum { RIME_LISTED_OCTETS = 0, RIME_LISTED_WHOLE = 1 };

@@ -64,6 +64,7 @@ _ARGUMENTS: dict[str, list[Any]] = {
     "rime_log_header": [*_RUN8, POINTER(c_uint32 * 4)],
     "rime_log_record": [*_RUN8, c_size_t, POINTER(c_uint64 * 4)],
     "rime_judge_log": [_RECEIVER, *_RUN8, c_size_t, *_RUN8, POINTER(c_uint64 * 3)],
+    "rime_send_log": [_SENDER, c_bool, *_RUN64, *_RUN8, *_RUN8, c_size_t, POINTER(c_uint64 * 4)],
     "rime_log_put_header": [*_RUN8, *_SETTINGS, POINTER(c_uint64)],
     "rime_log_put_record": [*_RUN8, c_size_t, *_RUN8, c_bool, POINTER(c_uint64)],
     "rime_log_list": [*_RUN8, *_RUN8, POINTER(c_uint64 * 2)],
@@ -292,6 +293,21 @@ class Sender:
         _call("rime_send", self._state, indication, _Lent(c_uint64, samples), _Lent(c_uint8, beside), cell)
         return bytes(cell.array)
 
+    def send_log(self, samples: Any, ancillary: Any, log: Any, place: int = 0, indications: bool = False) -> SentLog:
+        """Sends cell after cell and writes each one's record into a log from a place on, up to the end of the entries or of the log,
+        or a cell with a number too large. The three are anything with the buffer protocol (array, numpy, bytearray, mmap), of numbers
+        of 8 octets, of 1 and of 1, and none of them is copied. The indication is 1 in every cell whose number is a multiple of 8 where
+        `indications` says yes. Refused 5 where the two runs aren't equally long.
+
+        >>> import array
+        >>> Sender(Setup(0x56, 2)).send_log(array.array("Q", [7] * 36), bytes(36), bytearray(100), 1)
+        SentLog(next=99, entries=24, stop=12, cells=2)
+        """
+        counts = (c_uint64 * 4)()
+        _call("rime_send_log", self._state, indications, _Over(c_uint64, samples), _Over(c_uint8, ancillary),
+              _Over(c_uint8, log, written=True), _fitting(c_size_t, [place])[0], counts)
+        return SentLog(*counts)
+
     def to_bytes(self) -> bytes:
         """The state as the library keeps it, 7 octets, to be stored and gone on with."""
         return bytes(self._state)
@@ -306,6 +322,16 @@ class Sender:
         sender = cls.__new__(cls)
         sender._state = _state(7, state)
         return sender
+
+
+class SentLog(NamedTuple):
+    """How far sending into a log went: the place to go on from, the entries taken, why it stopped (0 fewer are left than a cell takes,
+    12 no record fits any more, 6 the next cell has a number too large), and the cells."""
+
+    next: int
+    entries: int
+    stop: int
+    cells: int
 
 
 class Mark(enum.IntEnum):

@@ -74,6 +74,36 @@ impl Sender {
         unless_refused(refusal, cell)
     }
 
+    /// Sends cell after cell, each of the next C×T entries, and writes its record into `log` from a place on, up to the end of the
+    /// entries, the end of the log, or a cell with a number too large. The indication is 1 in every cell whose number is a multiple
+    /// of 8 where `indications` says yes, else in none. Refused 5 where the runs aren't equally long, and then the sender and the
+    /// log are as they were.
+    ///
+    /// ```
+    /// use rimesatchel::{Sender, SendStop, Setup};
+    ///
+    /// let mut sender = Sender::open(Setup { format: 0x56, channels: 2, order: 0 })?;
+    /// let mut log = [9; 100];
+    /// let sent = sender.send_log(&[7; 36], &[0; 36], true, &mut log, 1)?; // three cells, and room for two
+    /// assert_eq!((sent.next, sent.entries, sent.cells, sent.stop), (99, 24, 2, SendStop::NoRoom));
+    /// assert_eq!((log[0], log[1], log[50], log[99]), (9, 1, 0, 9));
+    /// # Ok::<(), rimesatchel::Refusal>(())
+    /// ```
+    pub fn send_log(
+        &mut self,
+        samples: &[u64],
+        ancillary: &[u8],
+        indications: bool,
+        log: &mut [u8],
+        place: usize,
+    ) -> Result<SentLog, Refusal> {
+        let mut counts = [0; 4];
+        let refusal = face::send_log(&mut self.0, indications, samples, ancillary, log, place, &mut counts);
+        let [next, entries, stop, cells] = counts;
+        let stop = SendStop::of(stop);
+        unless_refused(refusal, SentLog { next: next as usize, entries: entries as usize, cells: cells as usize, stop })
+    }
+
     /// The state as the library keeps it, to be stored and gone on with.
     pub fn to_bytes(&self) -> [u8; 7] {
         self.0
@@ -82,6 +112,38 @@ impl Sender {
     /// A sender that goes on from a state. Any octets will do: what can't be is refused when it sends.
     pub fn from_bytes(state: [u8; 7]) -> Sender {
         Sender(state)
+    }
+}
+
+/// How far sending into a log went.
+#[derive(Debug, Clone, Copy, PartialEq, Eq)]
+pub struct SentLog {
+    /// The place to go on from.
+    pub next: usize,
+    /// The entries that the cells took.
+    pub entries: usize,
+    pub cells: usize,
+    pub stop: SendStop,
+}
+
+/// Why sending into a log stopped.
+#[derive(Debug, Clone, Copy, PartialEq, Eq)]
+pub enum SendStop {
+    /// Fewer entries are left than a cell takes.
+    NoEntries,
+    /// No record fits into the log any more.
+    NoRoom,
+    /// The next cell has a number too large for its bits.
+    TooLarge,
+}
+
+impl SendStop {
+    fn of(number: u64) -> SendStop {
+        match number {
+            0 => SendStop::NoEntries,
+            12 => SendStop::NoRoom,
+            _ => SendStop::TooLarge,
+        }
     }
 }
 

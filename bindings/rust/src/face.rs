@@ -102,6 +102,18 @@ mod raw {
             reports_len: usize,
             counts: *mut [u64; 3],
         ) -> u8;
+        pub fn rime_send_log(
+            state: *mut SenderState,
+            indications: bool,
+            samples: *const u64,
+            samples_len: usize,
+            ancillary: *const u8,
+            ancillary_len: usize,
+            log: *mut u8,
+            log_len: usize,
+            place: usize,
+            counts: *mut [u64; 4],
+        ) -> u8;
         pub fn rime_log_put_header(
             log: *mut u8,
             log_len: usize,
@@ -285,6 +297,34 @@ pub fn salvage(log: &[u8], out: &mut [u8], list: &mut [u64], counts: &mut [u64; 
 pub fn judge_log(state: &mut ReceiverState, log: &[u8], place: usize, reports: &mut [u8], counts: &mut [u64; 3]) -> u8 {
     let (reports, reports_len) = (reports.as_mut_ptr(), reports.len());
     unsafe { raw::rime_judge_log(state, log.as_ptr(), log.len(), place, reports, reports_len, counts) }
+}
+
+pub fn send_log(
+    state: &mut SenderState,
+    indications: bool,
+    samples: &[u64],
+    ancillary: &[u8],
+    log: &mut [u8],
+    place: usize,
+    counts: &mut [u64; 4],
+) -> u8 {
+    let (samples, samples_len) = (samples.as_ptr(), samples.len());
+    let (ancillary, ancillary_len) = (ancillary.as_ptr(), ancillary.len());
+    let (log, log_len) = (log.as_mut_ptr(), log.len());
+    unsafe {
+        raw::rime_send_log(
+            state,
+            indications,
+            samples,
+            samples_len,
+            ancillary,
+            ancillary_len,
+            log,
+            log_len,
+            place,
+            counts,
+        )
+    }
 }
 
 pub fn log_put_header(log: &mut [u8], [format, channels, order]: [u32; 3], next: &mut u64) -> u8 {

@@ -15,6 +15,9 @@ pub mod KeptOne
 pub mod KeptWrong
 pub mod Leaves
 pub mod LogsOne
+pub mod ManyLaws
+pub mod ManyOne
+pub mod ManyWrong
 pub mod NetworkLeaves
 pub mod NetworkOne
 pub mod NetworkWrong

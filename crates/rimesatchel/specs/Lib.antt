@@ -5,6 +5,7 @@ pub mod Facts
 pub mod Frames
 pub mod Kept
 pub mod Logs
+pub mod Many
 pub mod Network
 pub mod Plans
 pub mod Salvages

@@ -6,6 +6,7 @@ pub mod facts; // facts.rt: a format's facts
 pub mod frames; // frames.rt: frames of an AES3 cable
 pub mod kept; // kept.rt: writing a log, and the list of one
 pub mod logs; // logs.rt: a log's header and records
+pub mod many; // many.rt: many cells sent into a log in a call
 pub mod network; // network.rt: data units for the other network, out and back
 pub mod plans; // plans.rt: sharing channels out over circuits
 pub mod salvages; // salvages.rt: the salvage of a log

@@ -20,6 +20,7 @@ pub enum Kind {
     ReadHeader,
     ReadRecord,
     JudgeLog,
+    SendLog,
     PutHeader,
     PutRecord,
     LogList,
@@ -55,7 +56,7 @@ impl Kind {
 }
 
 /// Kind, name, and the fields in and out: n a number, r a run of numbers or a state, o octets, t text.
-const KINDS: [(Kind, &str, &str, &str); 36] = [
+const KINDS: [(Kind, &str, &str, &str); 37] = [
     (Kind::Format, "format", "n", "nnnnn"),
     (Kind::SenderOpen, "sender_open", "nnnnnn", "nr"),
     (Kind::ReceiverOpen, "receiver_open", "nnn", "nr"),
@@ -70,6 +71,7 @@ const KINDS: [(Kind, &str, &str, &str); 36] = [
     (Kind::ReadHeader, "read_header", "o", "nnnnn"),
     (Kind::ReadRecord, "read_record", "on", "nnnnn"),
     (Kind::JudgeLog, "judge_log", "rono", "nronnn"),
+    (Kind::SendLog, "send_log", "rnrron", "nronnnn"),
     (Kind::PutHeader, "put_header", "onnn", "non"),
     (Kind::PutRecord, "put_record", "onon", "non"),
     (Kind::LogList, "log_list", "oo", "nonn"),

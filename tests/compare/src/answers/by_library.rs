@@ -23,6 +23,7 @@ pub fn by_library(case: &Case) -> Option<Answer> {
         Kind::ReadHeader if cfg!(feature = "log") => read_header(case),
         Kind::ReadRecord if cfg!(feature = "log") => read_record(case),
         Kind::JudgeLog if cfg!(feature = "log") => judge_log(case),
+        Kind::SendLog if cfg!(feature = "log") => send_log(case),
         Kind::Anything if cfg!(feature = "log") => anything(case),
         Kind::Salvage if cfg!(feature = "log") => salvage(case),
         Kind::PutHeader if cfg!(feature = "log") => put_header(case),
@@ -208,6 +209,17 @@ fn judge_log(case: &Case) -> Option<Answer> {
     let (mut reports, mut counts) = (Fenced::around(case.octets(3), LEFT_OVER), [u64::MAX; 3]);
     let refusal = face::judge_log(&mut state, case.octets(1), place, reports.lent(), &mut counts);
     let mut answer = values![u64::from(refusal), &receiver_fields(&state)[..], &reports.back()[..]];
+    answer.extend(counts.map(Value::Number));
+    Some(answer)
+}
+
+fn send_log(case: &Case) -> Option<Answer> {
+    let mut state = narrow_array(case.run(0))?;
+    let ancillary: Vec<u8> = narrow(case.run(3))?;
+    let place = usize::try_from(case.number(5)).ok()?;
+    let (mut log, mut counts) = (Fenced::around(case.octets(4), LEFT_OVER), [u64::MAX; 4]);
+    let refusal = face::send_log(&mut state, case.yes(1), case.run(2), &ancillary, log.lent(), place, &mut counts);
+    let mut answer = values![u64::from(refusal), &wide(&state)[..], &log.back()[..]];
     answer.extend(counts.map(Value::Number));
     Some(answer)
 }

@@ -23,6 +23,7 @@ pub fn by_plain(case: &Case) -> Answer {
         Kind::ReadHeader => read_header(case),
         Kind::ReadRecord => read_record(case),
         Kind::JudgeLog => judge_log(case),
+        Kind::SendLog => send_log(case),
         Kind::PutHeader => {
             put(case.octets(0), plain::put_header(case.octets(0), case.number(1), case.number(2), case.number(3)))
         }
@@ -216,6 +217,37 @@ fn judge_log(case: &Case) -> Answer {
         (place, records) = (next as u64, records + 1);
     };
     values![0, &receiver_state(&receiver)[..], &reports[..], place, records as u64, stop]
+}
+
+/// The single calls in a row: a cell of the next entries, and its record. The three stops are asked in their order.
+fn send_log(case: &Case) -> Answer {
+    let (samples, ancillary, mut log) = (case.run(2), case.run(3), case.octets(4).to_vec());
+    let mut sender = sender_of(case.run(0));
+    let refusal = match sender.shape() {
+        Err(refusal) => u64::from(refusal),
+        Ok(_) if samples.len() != ancillary.len() => 5,
+        Ok(_) => 0,
+    };
+    if refusal != 0 {
+        return values![refusal, case.run(0), &log[..], 0, 0, 0, 0];
+    }
+    let used = sender.shape().map_or(1, |shape| shape.entries());
+    let (mut place, mut cells) = (case.number(5), 0);
+    let stop = loop {
+        let taken = used * cells..used * (cells + 1);
+        let Some(next) = samples.get(taken.clone()) else { break 0 };
+        if plain::put_record(&log, place, &[0; 48], false).is_err() {
+            break 12;
+        }
+        let indication = case.yes(1) && sender.number.is_multiple_of(8);
+        let (after, cell) = match sender.send(indication, next, &ancillary[taken], 48) {
+            Ok(sent) => sent,
+            Err(refusal) => break u64::from(refusal),
+        };
+        let (written, behind) = plain::put_record(&log, place, &cell, indication).expect("there is room");
+        (sender, log, place, cells) = (after, written, behind as u64, cells + 1);
+    };
+    values![0, &sender_state(&sender)[..], &log[..], place, (cells * used) as u64, stop, cells as u64]
 }
 
 fn anything(case: &Case) -> Answer {
