@@ -7,5 +7,6 @@ pub mod One
 pub mod Onward
 pub mod Reading
 pub mod Room
+pub mod Spread
 pub mod Unpacking
 pub mod Wrong
