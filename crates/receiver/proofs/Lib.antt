@@ -8,5 +8,6 @@ pub mod Onward
 pub mod Reading
 pub mod Room
 pub mod Spread
+pub mod Unpacked
 pub mod Unpacking
 pub mod Wrong
