@@ -59,6 +59,7 @@ _ARGUMENTS: dict[str, list[Any]] = {
     "rime_log_header": [*_RUN8, POINTER(c_uint32 * 4)],
     "rime_log_record": [*_RUN8, c_size_t, POINTER(c_uint64 * 4)],
     "rime_judge_log": [_RECEIVER, *_RUN8, c_size_t, *_RUN8, POINTER(c_uint64 * 3)],
+    "rime_receive_log": [_RECEIVER, *_RUN8, c_size_t, *_RUN64, *_RUN8, *_RUN8, POINTER(c_uint64 * 9)],
     "rime_log_put_header": [*_RUN8, *_SETTINGS, POINTER(c_uint64)],
     "rime_log_put_record": [*_RUN8, c_size_t, *_RUN8, c_bool, POINTER(c_uint64)],
     "rime_log_list": [*_RUN8, *_RUN8, POINTER(c_uint64 * 2)],

@@ -90,6 +90,19 @@ mod raw {
             reports_len: usize,
             counts: *mut [u64; 3],
         ) -> u8;
+        pub fn rime_receive_log(
+            state: *mut ReceiverState,
+            log: *const u8,
+            log_len: usize,
+            place: usize,
+            samples: *mut u64,
+            samples_len: usize,
+            ancillary: *mut u8,
+            ancillary_len: usize,
+            marks: *mut u8,
+            marks_len: usize,
+            counts: *mut [u64; 9],
+        ) -> u8;
         pub fn rime_log_put_header(
             log: *mut u8,
             log_len: usize,
@@ -269,6 +282,25 @@ pub fn salvage(log: &[u8], out: &mut [u8], list: &mut [u64], counts: &mut [u64; 
 pub fn judge_log(state: &mut ReceiverState, log: &[u8], place: usize, reports: &mut [u8], counts: &mut [u64; 3]) -> u8 {
     let (reports, reports_len) = (reports.as_mut_ptr(), reports.len());
     unsafe { raw::rime_judge_log(state, log.as_ptr(), log.len(), place, reports, reports_len, counts) }
+}
+
+pub fn receive_log(state: &mut ReceiverState, log: &[u8], place: usize, runs: Runs, counts: &mut [u64; 9]) -> u8 {
+    let Runs { samples, ancillary, marks } = runs;
+    unsafe {
+        raw::rime_receive_log(
+            state,
+            log.as_ptr(),
+            log.len(),
+            place,
+            samples.as_mut_ptr(),
+            samples.len(),
+            ancillary.as_mut_ptr(),
+            ancillary.len(),
+            marks.as_mut_ptr(),
+            marks.len(),
+            counts,
+        )
+    }
 }
 
 pub fn log_put_header(log: &mut [u8], [format, channels, order]: [u32; 3], next: &mut u64) -> u8 {

@@ -1,5 +1,7 @@
+pub mod Asked
 pub mod One
 pub mod Onward
-pub mod States
+pub mod Stands
+pub mod Takes
 pub mod Walks
 pub mod Wrong

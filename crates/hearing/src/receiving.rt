@@ -1,9 +1,15 @@
 // A log's records received in a row, from a place on: each cell's entries behind the last one's, as far as there is room.
-use crate::judging::stop_of;
 use crate::states;
-use log::Record;
 use receiver::Received;
 use receiver::Receiver;
+ghost use mathlib.Core.List.{[], _∷_};
+ghost use mathlib.Core.Path.{_≡_};
+ghost use Prim.Native.Nat.{_+_, _*_, _≤_, _<_, _^_};
+ghost use lib.ListN.{length};
+ghost use Rattle.log.specs.Records.{recordAt};
+ghost use Rattle.receiver.specs.Receiver.{stateRefusal, usedNow};
+ghost use Rattle.hearing.specs.Receiving.{begunAs, ReceivesOn, ReceivesLog};
+ghost use Rattle.hearing.specs.Steps.{stoppedAs, oneIf, neededOf, pastOne, heardAt, Counted, Puts, Ready, Steps};
 
 // The refusal of the call (0: none); the state to go on with, the next place, the entries written, and why it stopped; cells taken,
 // missing before them, and refused by 8, 9, 15 and 20.
@@ -21,8 +27,9 @@ pub struct Batch {
     pub refused_20: usize,
 }
 
-// Before the first record; with a refusal, all there is.
+// Before the first record; of a call that is refused, all there is.
 fn begun(refusal: u8, state: Receiver, place: usize) -> Batch
+    ensures { λ r. ⌜ r ≡ begunAs refusal state place ⌝ }
 {
     Batch {
         refusal,
@@ -40,10 +47,12 @@ fn begun(refusal: u8, state: Receiver, place: usize) -> Batch
 }
 
 fn stopped(b: Batch, stop: u8) -> Batch
+    ensures { λ r. ⌜ r ≡ stoppedAs b stop ⌝ }
 {
+    let state = b.state;
     Batch {
         refusal: b.refusal,
-        state: b.state,
+        state,
         next: b.next,
         entries: b.entries,
         stop,
@@ -57,12 +66,15 @@ fn stopped(b: Batch, stop: u8) -> Batch
 }
 
 fn one_if(number: u8, wanted: u8) -> usize
+    ensures { λ r. ⌜ (r ≡ oneIf number wanted) × (r ≤ 1) ⌝ }
 {
     if number == wanted { 1 } else { 0 }
 }
 
 // The entries of a record that was answered so: none where it is refused.
 fn needed(got: Received, used: usize) -> usize
+    requires { ⌜ used ≤ 48 ⌝ }
+    ensures { λ r. ⌜ r ≡ neededOf got used ⌝ }
 {
     if got.refusal != 0 {
         return 0;
@@ -72,20 +84,26 @@ fn needed(got: Received, used: usize) -> usize
 
 // Past a record that was answered so, with so many entries.
 fn past_one(b: Batch, got: Received, entries: usize) -> Batch
+    requires { ⌜ Counted b × (b .next + 49 < 2 ^ 63) × (b .entries + entries < 2 ^ 64) ⌝ }
+    ensures { λ r. ⌜ r ≡ pastOne b got entries ⌝ }
 {
     let taken = b.taken + one_if(got.refusal, 0);
     let refused_8 = b.refused_8 + one_if(got.refusal, 8);
     let refused_9 = b.refused_9 + one_if(got.refusal, 9);
     let refused_15 = b.refused_15 + one_if(got.refusal, 15);
     let refused_20 = b.refused_20 + one_if(got.refusal, 20);
+    let next = b.next + 49;
+    let written = b.entries + entries;
+    let missing = b.missing + got.missing as usize;
+    let state = got.state;
     Batch {
         refusal: b.refusal,
-        state: got.state,
-        next: b.next + 49,
-        entries: b.entries + entries,
+        state,
+        next,
+        entries: written,
         stop: b.stop,
         taken,
-        missing: b.missing + got.missing as usize,
+        missing,
         refused_8,
         refused_9,
         refused_15,
@@ -104,6 +122,10 @@ fn put(
     ancillary: &mut [u8],
     marks: &mut [u8],
 )
+    requires { ⌜ (stateRefusal state ≡ 0) × (recordAt (now log) place .what ≡ 1) × (got ≡ heardAt state (now log) place .answer)
+        × (at + neededOf got (usedNow state) ≤ length (now samples)) × (length (now ancillary) ≡ length (now samples)) × (length (now marks) ≡ length (now samples)) ⌝ }
+    ensures { λ _. ⌜ Puts (heardAt state (now (log .entry)) place ∷ []) at (now (samples .entry)) (now (ancillary .entry)) (now (marks .entry))
+        (now (samples .exit)) (now (ancillary .exit)) (now (marks .exit)) ⌝ }
 {
     if got.refusal != 0 {
         return;
@@ -130,32 +152,38 @@ fn one(
     ancillary: &mut [u8],
     marks: &mut [u8],
 ) -> Batch
+    requires { ⌜ Ready b used (now log) (now samples) (now ancillary) (now marks) × (recordAt (now log) (b .next) .what ≡ 1)
+        × (indication ≡ recordAt (now log) (b .next) .indication) ⌝ }
+    ensures { λ r. ⌜ Steps b used (now (log .entry)) (now (samples .entry)) (now (ancillary .entry)) (now (marks .entry)) r
+        (now (samples .exit)) (now (ancillary .exit)) (now (marks .exit)) ⌝ }
 {
-    let got = receiver::judged(b.state, log::read_cell(log, b.next), indication);
+    let state = b.state;
+    let got = receiver::judged(state, log::read_cell(log, b.next), indication);
     let entries = needed(got, used);
     if samples.len() - b.entries < entries {
         return stopped(b, 10);
     }
-    put(b.state, got, log, b.next, b.entries, samples, ancillary, marks);
+    put(
+        state, got, log, b.next, b.entries, samples, ancillary, marks,
+    );
     past_one(b, got, entries)
 }
 
 // The records from a place on, as far as their entries have room.
 fn walk(
     state: Receiver,
+    used: usize,
     log: &[u8],
     place: usize,
     samples: &mut [u64],
     ancillary: &mut [u8],
     marks: &mut [u8],
 ) -> Batch
+    requires { ⌜ (stateRefusal state ≡ 0) × (used ≡ usedNow state) × (length (now ancillary) ≡ length (now samples))
+        × (length (now marks) ≡ length (now samples)) ⌝ }
+    ensures { λ r. ⌜ ReceivesOn state (now (log .entry)) place (now (samples .entry)) (now (ancillary .entry)) (now (marks .entry)) r
+        (now (samples .exit)) (now (ancillary .exit)) (now (marks .exit)) ⌝ }
 {
-    let set = formats::settings(
-        state.format as u32,
-        state.channels as u32,
-        state.order as u32,
-    );
-    let used = set.channels * set.times;
     let mut b = begun(0, state, place);
     let mut found = log::read_record(log, place);
     while found.what == 1 {
@@ -179,6 +207,8 @@ pub fn receive(
     ancillary: &mut [u8],
     marks: &mut [u8],
 ) -> Batch
+    ensures { λ r. ⌜ ReceivesLog state (now (log .entry)) place (now (samples .entry)) (now (ancillary .entry)) (now (marks .entry)) r
+        (now (samples .exit)) (now (ancillary .exit)) (now (marks .exit)) ⌝ }
 {
     let refusal = states::refusal_of(state);
     if refusal != 0 {
@@ -190,5 +220,11 @@ pub fn receive(
     if marks.len() != samples.len() {
         return begun(5, state, 0);
     }
-    walk(state, log, place, samples, ancillary, marks)
+    let set = formats::settings(
+        state.format as u32,
+        state.channels as u32,
+        state.order as u32,
+    );
+    let used = set.channels * set.times;
+    walk(state, used, log, place, samples, ancillary, marks)
 }

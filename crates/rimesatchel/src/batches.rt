@@ -1,7 +1,7 @@
 // Many records of a log in a call, for C, Rust and Python.
 use crate::boxes::receiver_octets;
 use crate::boxes::receiver_of;
-ghost use Rattle.rimesatchel.specs.Batches.{JudgedOctets};
+ghost use Rattle.rimesatchel.specs.Batches.{JudgedOctets, ReceivedLogOctets};
 
 // Judges a log's records from a place on, and writes five octets a record. Returns the refusal, 0 where there is none, and writes the
 // next place, the records judged and why it stopped; three zeros where it is refused, 1 to 4, and then state and run are as they were.
@@ -45,6 +45,8 @@ pub extern "C" fn rime_receive_log(
     marks: &mut [u8],
     counts: &mut [u64; 9],
 ) -> u8
+    ensures { λ r. ⌜ ReceivedLogOctets (now (state .entry)) (now (log .entry)) place (now (samples .entry)) (now (ancillary .entry))
+        (now (marks .entry)) r (now (state .exit)) (now (samples .exit)) (now (ancillary .exit)) (now (marks .exit)) (now (counts .exit)) ⌝ }
 {
     let lent = *state;
     let batch = hearing::receiving::receive(

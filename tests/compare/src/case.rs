@@ -18,6 +18,7 @@ pub enum Kind {
     ReadHeader,
     ReadRecord,
     JudgeLog,
+    ReceiveLog,
     PutHeader,
     PutRecord,
     LogList,
@@ -49,7 +50,7 @@ impl Kind {
 }
 
 /// Kind, name, and the fields in and out: n a number, r a run of numbers or a state, o octets.
-const KINDS: [(Kind, &str, &str, &str); 30] = [
+const KINDS: [(Kind, &str, &str, &str); 31] = [
     (Kind::Format, "format", "n", "nnnnn"),
     (Kind::SenderOpen, "sender_open", "nnnnnn", "nr"),
     (Kind::ReceiverOpen, "receiver_open", "nnn", "nr"),
@@ -62,6 +63,7 @@ const KINDS: [(Kind, &str, &str, &str); 30] = [
     (Kind::ReadHeader, "read_header", "o", "nnnnn"),
     (Kind::ReadRecord, "read_record", "on", "nnnnn"),
     (Kind::JudgeLog, "judge_log", "rono", "nronnn"),
+    (Kind::ReceiveLog, "receive_log", "ronroo", "nrroonnnnnnnnn"),
     (Kind::PutHeader, "put_header", "onnn", "non"),
     (Kind::PutRecord, "put_record", "onon", "non"),
     (Kind::LogList, "log_list", "oo", "nonn"),

@@ -81,7 +81,7 @@ impl Referee<'_> {
 
 fn play(scenario: u64, seed: u64, referee: &mut Referee) -> Played {
     let mut random = Random::for_scenario(seed, scenario);
-    match random.below(103) {
+    match random.below(106) {
         0..=3 => boxes::open_sender(&mut random, referee),
         4..=6 => boxes::open_receiver(&mut random, referee),
         7..=22 => boxes::one_send(&mut random, referee),
@@ -108,6 +108,7 @@ fn play(scenario: u64, seed: u64, referee: &mut Referee) -> Played {
         98 => boxes::format(&mut random, referee),
         99 if scenario.is_multiple_of(4) => status::runs(&mut random, referee),
         101..=102 => log::judge(&mut random, referee),
+        103..=105 => log::receive(&mut random, referee),
         _ => status::check(&mut random, referee),
     }
 }
