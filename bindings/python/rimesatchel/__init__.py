@@ -29,18 +29,20 @@ What each call keeps to is written in include/rimesatchel.h, and the rules behin
 
 from __future__ import annotations
 
+import contextlib
 import ctypes
 import enum
 import os
 import pathlib
+from array import array
 from ctypes import POINTER, c_bool, c_char_p, c_size_t, c_uint, c_uint8, c_uint32, c_uint64
 from typing import Any, Iterator, NamedTuple, Sequence
 
 __all__ = [
-    "VERSION", "Anything", "Block", "Deed", "Entry", "Figures", "Fit", "Format", "Frame", "Handed", "Log", "Mark", "Pair",
-    "Receiver", "Record", "Refused", "Salvaged", "Sender", "Setup", "Sheet", "Status", "Units", "Verdict", "Walked",
+    "VERSION", "Anything", "Batch", "Block", "Deed", "Entry", "Figures", "Fit", "Format", "Frame", "Handed", "Log", "Mark", "Pair",
+    "Received", "Receiver", "Record", "Refused", "Salvaged", "Sender", "Setup", "Sheet", "Status", "Units", "Verdict", "Walked",
     "Writer", "anything", "check_character", "check_plan", "controller", "equipment", "export_frame", "export_units",
-    "import_frame", "listing", "plan", "port_packing", "port_settings", "read_unit", "salvage", "sheet", "words",
+    "import_frame", "listing", "plan", "port_packing", "port_settings", "read_unit", "received", "salvage", "sheet", "words",
 ]
 
 _RUN8, _RUN32, _RUN64 = ([POINTER(kind), c_size_t] for kind in (c_uint8, c_uint32, c_uint64))
@@ -161,6 +163,37 @@ def _octets(octets: bytes | Sequence[int]) -> _Lent:
     lent = _Lent(c_uint8, 0)
     lent.array = (c_uint8 * len(octets)).from_buffer_copy(bytes(octets))
     return lent
+
+
+class _View(ctypes.Structure):
+    """What Python says of a buffer, its Py_buffer: so one that mustn't be written can be lent without a copy too."""
+
+    _fields_ = [
+        ("address", ctypes.c_void_p), ("of", ctypes.c_void_p), ("octets", ctypes.c_ssize_t), ("size", ctypes.c_ssize_t),
+        ("kept", ctypes.c_int), ("dimensions", ctypes.c_int), *((name, ctypes.c_void_p) for name in "abcde"),
+    ]
+
+
+@contextlib.contextmanager
+def _borrowed(buffer: Any, kind: Any, written: bool) -> Iterator[_Lent]:
+    """A buffer of the caller's, lent as it stands."""
+    size = ctypes.sizeof(kind)
+    with memoryview(buffer) as told:
+        if told.itemsize != size or told.format not in ("B", "c", "b", "Q", "L", "q", "l"):
+            raise TypeError(f"a buffer of whole numbers of {size} octets each is wanted")
+    view = _View()
+    get = ctypes.pythonapi.PyObject_GetBuffer
+    get.argtypes, get.restype = [ctypes.py_object, POINTER(_View), ctypes.c_int], ctypes.c_int
+    get(buffer, view, 1 if written else 0)  # it raises where the buffer isn't in one piece, or mustn't be written
+    try:
+        lent = _Lent(kind, 0)
+        if view.octets:
+            lent.array = (kind * (view.octets // size)).from_address(view.address)
+        yield lent
+    finally:
+        release = ctypes.pythonapi.PyBuffer_Release
+        release.argtypes, release.restype = [POINTER(_View)], None
+        release(view)
 
 
 def _state(length: int, octets: bytes) -> Any:
@@ -321,6 +354,42 @@ class Receiver:
         return bytes(reports.array[:5 * walked.records]), walked
 
 
+    def receive_log(self, log: Any, samples: Any, ancillary: Any, marks: Any, place: int = 0) -> Batch:
+        """Receives the records of a log from a place on, into runs of the caller's: each cell's entries, with those of the cells
+        missing before it, behind the last one's; what stands past them stays. A record that is refused 8, 15, 9 or 20 is passed over
+        and counted. It goes on up to a record that is broken, the log's end, or a record whose entries have no room: with 720 entries
+        in each run every call goes on. The log is anything with octets in a buffer, the runs anything that can be written, of 8, 1
+        and 1 octets an entry (`array`, numpy); nothing is copied. Refused 5, where the runs aren't equally long, and then the receiver
+        and the runs are as they were.
+
+        >>> samples, ancillary, marks = array("Q", [7] * 20), bytearray(20), bytearray(20)
+        >>> Receiver(Setup(0x08, 1)).receive_log(bytes(98), samples, ancillary, marks)[:4]
+        (49, 12, 10, 1)
+        >>> samples[11], samples[12]
+        (0, 7)
+        """
+        counts = (c_uint64 * 9)()
+        with _borrowed(log, c_uint8, False) as octets, _borrowed(samples, c_uint64, True) as first:
+            with _borrowed(ancillary, c_uint8, True) as second, _borrowed(marks, c_uint8, True) as third:
+                _call("rime_receive_log", self._state, octets, _fitting(c_size_t, [place])[0], first, second, third, counts)
+        return Batch(*counts)
+
+
+class Batch(NamedTuple):
+    """How far a log was received: the place to go on from, the entries written to each run, why it stopped (0 the end, 10 no room, 11
+    or 12 a record that is broken), cells taken, cells missing before them, and records refused by 8, 9, 15 and 20."""
+
+    next: int
+    entries: int
+    stop: int
+    taken: int
+    missing: int
+    refused_8: int
+    refused_9: int
+    refused_15: int
+    refused_20: int
+
+
 class Walked(NamedTuple):
     """How far a walk through a log went: the place to go on from, the records, and why it stopped (0 the end, 10 no room, 11 or
     12 a record that is broken)."""
@@ -440,6 +509,40 @@ class Log:
             if what == 0:
                 return
             yield Record(indication == 1, bytes(self._octets.array[start:place]))
+
+
+class Received(NamedTuple):
+    """What was received of a log: samples (numbers of 8 octets), ancillary numbers and marks, and how far it went."""
+
+    samples: array[int]
+    ancillary: array[int]
+    marks: array[int]
+    batch: Batch
+
+
+def received(log: Any, room: int = 65536) -> Iterator[Received]:
+    """The samples of a log, block by block, of up to so many entries, 720 at least. Refused 11, 1, 2 or 3 where it can't be read, and
+    11 or 12 behind the last whole record where one is broken.
+
+    >>> writer, sender = Writer(Setup(0x56, 2)), Sender(Setup(0x56, 2))
+    >>> writer.push(sender.send([7] * 12))
+    >>> [(list(part.samples[:2]), part.batch.entries) for part in received(writer.octets)]
+    [([7, 7], 12)]
+    """
+    header, room = (c_uint32 * 4)(), max(room, 720)
+    with _borrowed(log, c_uint8, False) as octets:
+        _call("rime_log_header", octets, header)
+    receiver, place, stop = Receiver(Setup(*header[1:])), header[0], 10
+    while stop == 10:
+        samples, ancillary, marks = array("Q", bytes(8 * room)), array("B", bytes(room)), array("B", bytes(room))
+        batch = receiver.receive_log(log, samples, ancillary, marks, place)
+        for run in (samples, ancillary, marks):
+            del run[batch.entries:]
+        if batch.next != place:
+            yield Received(samples, ancillary, marks, batch)
+        place, stop = batch.next, batch.stop
+    if stop != 0:
+        raise Refused(stop)
 
 
 def listing(log: bytes) -> str:

@@ -42,7 +42,7 @@ mod status;
 mod tools;
 
 pub use archive::{list, Log, Record, Records, Writer};
-pub use boxes::{Entry, Format, Handed, Mark, Receiver, Report, Sender, Setup, Stop, Walked};
+pub use boxes::{Batch, Entry, Format, Handed, Mark, Receiver, Report, Sender, Setup, Stop, Walked};
 pub use cable::{export_frame, import_frame, Frame, Pair};
 pub use network::{export_units, read_unit, Units};
 pub use plans::{check_plan, plan, Verdict};

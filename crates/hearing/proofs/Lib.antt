@@ -1,6 +1,8 @@
 pub mod Asked
+pub mod GoesOn
 pub mod One
 pub mod Onward
+pub mod ReceivingWrong
 pub mod Stands
 pub mod Takes
 pub mod Walks
