@@ -34,15 +34,16 @@ import enum
 import mmap
 import os
 import pathlib
+from array import array
 from ctypes import POINTER, c_bool, c_char_p, c_int, c_size_t, c_ssize_t, c_uint, c_uint8, c_uint32, c_uint64, c_void_p
 from typing import IO, Any, Iterator, NamedTuple, Protocol, Sequence
 
 __all__ = [
-    "VERSION", "Anything", "Block", "Deed", "Entry", "Figures", "Fit", "Format", "Frame", "Handed", "Log", "Mark", "Pair",
-    "Reader", "Receiver", "Record", "Refused", "Salvaged", "Sender", "Setup", "Sheet", "Slip", "Status", "Told", "Units",
-    "Verdict", "Walked", "Watch", "Writer", "anything", "anything_from", "check_character", "check_plan", "controller",
-    "equipment", "export_frame", "export_units", "figures_from", "import_frame", "lines", "listing", "plan", "port_packing",
-    "port_settings", "read_unit", "salvage", "salvage_from", "sheet", "words",
+    "VERSION", "Anything", "Batch", "Block", "Deed", "Entry", "Figures", "Fit", "Format", "Frame", "Handed", "Log", "Mark",
+    "Pair", "Reader", "Received", "Receiver", "Record", "Refused", "Salvaged", "Sender", "Setup", "Sheet", "Slip", "Status",
+    "Told", "Units", "Verdict", "Walked", "Watch", "Writer", "anything", "anything_from", "check_character", "check_plan",
+    "controller", "equipment", "export_frame", "export_units", "figures_from", "import_frame", "lines", "listing", "plan",
+    "port_packing", "port_settings", "read_unit", "received", "salvage", "salvage_from", "sheet", "words",
 ]
 
 _RUN8, _RUN32, _RUN64 = ([POINTER(kind), c_size_t] for kind in (c_uint8, c_uint32, c_uint64))
@@ -65,6 +66,7 @@ _ARGUMENTS: dict[str, list[Any]] = {
     "rime_log_record": [*_RUN8, c_size_t, POINTER(c_uint64 * 4)],
     "rime_judge_log": [_RECEIVER, *_RUN8, c_size_t, *_RUN8, POINTER(c_uint64 * 3)],
     "rime_send_log": [_SENDER, c_bool, *_RUN64, *_RUN8, *_RUN8, c_size_t, POINTER(c_uint64 * 4)],
+    "rime_receive_log": [_RECEIVER, *_RUN8, c_size_t, *_RUN64, *_RUN8, *_RUN8, POINTER(c_uint64 * 9)],
     "rime_log_put_header": [*_RUN8, *_SETTINGS, POINTER(c_uint64)],
     "rime_log_put_record": [*_RUN8, c_size_t, *_RUN8, c_bool, POINTER(c_uint64)],
     "rime_log_list": [*_RUN8, *_RUN8, POINTER(c_uint64 * 2)],
@@ -190,8 +192,8 @@ class _Over(_Lent):
         self._held: _Buffer | None = None
         view = memoryview(buffer)
         width = ctypes.sizeof(kind)
-        if not view.c_contiguous or view.itemsize != width:
-            raise TypeError(f"a run here is numbers of {width} octets, one behind the other")
+        if not view.c_contiguous or view.itemsize != width or view.format.lstrip("@=<>!") not in tuple("?cbBlLqQ"):
+            raise TypeError(f"a run here is whole numbers of {width} octets, one behind the other")
         if written and view.readonly:
             raise TypeError("a run that is written into can't be read-only")
         held = _Buffer()
@@ -414,6 +416,40 @@ class Receiver:
         walked = Walked(*counts)
         return _first(reports, 5 * walked.records), walked
 
+    def receive_log(self, log: Any, samples: Any, ancillary: Any, marks: Any, place: int = 0) -> Batch:
+        """Receives the records of a log from a place on, into runs of the caller's: each cell's entries, with those of the cells
+        missing before it, behind the last one's; what stands past them stays. A record that is refused 8, 15, 9 or 20 is passed over
+        and counted. It goes on up to a record that is broken, the log's end, or a record whose entries have no room: with 720 entries
+        in each run every call goes on. The log is anything with octets in a buffer, the runs anything that can be written, of 8, 1
+        and 1 octets an entry (`array`, numpy); nothing is copied. Refused 5, where the runs aren't equally long, and then the receiver
+        and the runs are as they were.
+
+        >>> samples, ancillary, marks = array("Q", [7] * 20), bytearray(20), bytearray(20)
+        >>> Receiver(Setup(0x08, 1)).receive_log(bytes(98), samples, ancillary, marks)[:4]
+        (49, 12, 10, 1)
+        >>> samples[11], samples[12]
+        (0, 7)
+        """
+        counts = (c_uint64 * 9)()
+        runs = [_Over(kind, run, written=True) for kind, run in ((c_uint64, samples), (c_uint8, ancillary), (c_uint8, marks))]
+        _call("rime_receive_log", self._state, _octets(log), _fitting(c_size_t, [place])[0], *runs, counts)
+        return Batch(*counts)
+
+
+class Batch(NamedTuple):
+    """How far a log was received: the place to go on from, the entries written to each run, why it stopped (0 the end, 10 no room, 11
+    or 12 a record that is broken), cells taken, cells missing before them, and records refused by 8, 9, 15 and 20."""
+
+    next: int
+    entries: int
+    stop: int
+    taken: int
+    missing: int
+    refused_8: int
+    refused_9: int
+    refused_15: int
+    refused_20: int
+
 
 class Walked(NamedTuple):
     """How far a walk through a log went: the place to go on from, the records, and why it stopped (0 the end, 10 no room, 11 or
@@ -588,6 +624,39 @@ class Log:
             if what == 0:
                 return
             yield Record(indication == 1, bytes(self._octets.array[start:place]))
+
+
+class Received(NamedTuple):
+    """What was received of a log: samples (numbers of 8 octets), ancillary numbers and marks, and how far it went."""
+
+    samples: array[int]
+    ancillary: array[int]
+    marks: array[int]
+    batch: Batch
+
+
+def received(log: Any, room: int = 65536) -> Iterator[Received]:
+    """The samples of a log, block by block, of up to so many entries, 720 at least. Refused 11, 1, 2 or 3 where it can't be read, and
+    11 or 12 behind the last whole record where one is broken.
+
+    >>> writer, sender = Writer(Setup(0x56, 2)), Sender(Setup(0x56, 2))
+    >>> writer.push(sender.send([7] * 12))
+    >>> [(list(part.samples[:2]), part.batch.entries) for part in received(writer.octets)]
+    [([7, 7], 12)]
+    """
+    header, room = (c_uint32 * 4)(), max(room, 720)
+    _call("rime_log_header", _octets(log), header)
+    receiver, place, stop = Receiver(Setup(*header[1:])), header[0], 10
+    while stop == 10:
+        samples, ancillary, marks = array("Q", bytes(8 * room)), array("B", bytes(room)), array("B", bytes(room))
+        batch = receiver.receive_log(log, samples, ancillary, marks, place)
+        for run in (samples, ancillary, marks):
+            del run[batch.entries:]
+        if batch.next != place:
+            yield Received(samples, ancillary, marks, batch)
+        place, stop = batch.next, batch.stop
+    if stop != 0:
+        raise Refused(stop)
 
 
 def listing(log: bytes) -> str:

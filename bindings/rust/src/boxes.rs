@@ -272,6 +272,53 @@ impl Receiver {
         let stop = Stop::of(stop);
         unless_refused(refusal, Walked { next: next as usize, records: records as usize, stop })
     }
+
+    /// Receives the records of a log from a place on, into runs of the caller's: each cell's entries, with those of the cells
+    /// missing before it, behind the last one's; what stands past them stays. A record that is refused 8, 15, 9 or 20 is passed over
+    /// and counted. It goes on up to a record that is broken, the log's end, or a record whose entries have no room. Refused 5,
+    /// where the runs aren't equally long, and then the receiver and the runs are as they were; 1 to 4 never happen to a receiver
+    /// that was opened.
+    ///
+    /// ```
+    /// use rimesatchel::{face::Runs, Receiver, Setup, Stop};
+    ///
+    /// let mut receiver = Receiver::open(Setup { format: 0x08, channels: 1, order: 0 })?;
+    /// let (mut samples, mut ancillary, mut marks) = ([7; 20], [7; 20], [7; 20]);
+    /// let runs = Runs { samples: &mut samples, ancillary: &mut ancillary, marks: &mut marks };
+    /// let batch = receiver.receive_log(&[0; 98], 0, runs)?; // two records of 12 entries, and room for one
+    /// assert_eq!((batch.next, batch.entries, batch.taken, batch.stop), (49, 12, 1, Stop::NoRoom));
+    /// assert_eq!((samples[11], samples[12]), (0, 7));
+    /// # Ok::<(), rimesatchel::Refusal>(())
+    /// ```
+    pub fn receive_log(&mut self, log: &[u8], place: usize, runs: face::Runs) -> Result<Batch, Refusal> {
+        let mut counts = [0; 9];
+        let refusal = face::receive_log(&mut self.0, log, place, runs, &mut counts);
+        let [next, entries, stop, taken, missing, refused_8, refused_9, refused_15, refused_20] = counts;
+        let stop = Stop::of(stop);
+        let [next, entries] = [next, entries].map(|number| number as usize);
+        unless_refused(
+            refusal,
+            Batch { next, entries, stop, taken, missing, refused_8, refused_9, refused_15, refused_20 },
+        )
+    }
+}
+
+/// How far a log was received.
+#[derive(Debug, Clone, Copy, PartialEq, Eq)]
+pub struct Batch {
+    /// The place to go on from.
+    pub next: usize,
+    /// How many entries were written to each run.
+    pub entries: usize,
+    pub stop: Stop,
+    /// Cells taken, and cells missing before them.
+    pub taken: u64,
+    pub missing: u64,
+    /// Records refused, by the number.
+    pub refused_8: u64,
+    pub refused_9: u64,
+    pub refused_15: u64,
+    pub refused_20: u64,
 }
 
 /// What a receiver reports of a cell that it took.

@@ -114,6 +114,19 @@ mod raw {
             place: usize,
             counts: *mut [u64; 4],
         ) -> u8;
+        pub fn rime_receive_log(
+            state: *mut ReceiverState,
+            log: *const u8,
+            log_len: usize,
+            place: usize,
+            samples: *mut u64,
+            samples_len: usize,
+            ancillary: *mut u8,
+            ancillary_len: usize,
+            marks: *mut u8,
+            marks_len: usize,
+            counts: *mut [u64; 9],
+        ) -> u8;
         pub fn rime_log_put_header(
             log: *mut u8,
             log_len: usize,
@@ -322,6 +335,25 @@ pub fn send_log(
             log,
             log_len,
             place,
+            counts,
+        )
+    }
+}
+
+pub fn receive_log(state: &mut ReceiverState, log: &[u8], place: usize, runs: Runs, counts: &mut [u64; 9]) -> u8 {
+    let Runs { samples, ancillary, marks } = runs;
+    unsafe {
+        raw::rime_receive_log(
+            state,
+            log.as_ptr(),
+            log.len(),
+            place,
+            samples.as_mut_ptr(),
+            samples.len(),
+            ancillary.as_mut_ptr(),
+            ancillary.len(),
+            marks.as_mut_ptr(),
+            marks.len(),
             counts,
         )
     }

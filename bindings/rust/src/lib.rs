@@ -44,7 +44,7 @@ mod status;
 mod tools;
 
 pub use archive::{list, Log, Record, Records, Writer};
-pub use boxes::{Entry, Format, Handed, Mark, Receiver, Report, SendStop, Sender, SentLog, Setup, Stop, Walked};
+pub use boxes::{Batch, Entry, Format, Handed, Mark, Receiver, Report, SendStop, Sender, SentLog, Setup, Stop, Walked};
 pub use cable::{export_frame, import_frame, Frame, Pair};
 pub use network::{export_units, read_unit, Units};
 pub use pieces::{anything_from, figures_from, lines, salvage_from, Lines};

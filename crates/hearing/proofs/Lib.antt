@@ -1,5 +1,9 @@
+pub mod Asked
+pub mod GoesOn
 pub mod One
 pub mod Onward
-pub mod States
+pub mod ReceivingWrong
+pub mod Stands
+pub mod Takes
 pub mod Walks
 pub mod Wrong

@@ -21,6 +21,7 @@ pub enum Kind {
     ReadRecord,
     JudgeLog,
     SendLog,
+    ReceiveLog,
     PutHeader,
     PutRecord,
     LogList,
@@ -56,7 +57,7 @@ impl Kind {
 }
 
 /// Kind, name, and the fields in and out: n a number, r a run of numbers or a state, o octets, t text.
-const KINDS: [(Kind, &str, &str, &str); 37] = [
+const KINDS: [(Kind, &str, &str, &str); 38] = [
     (Kind::Format, "format", "n", "nnnnn"),
     (Kind::SenderOpen, "sender_open", "nnnnnn", "nr"),
     (Kind::ReceiverOpen, "receiver_open", "nnn", "nr"),
@@ -72,6 +73,7 @@ const KINDS: [(Kind, &str, &str, &str); 37] = [
     (Kind::ReadRecord, "read_record", "on", "nnnnn"),
     (Kind::JudgeLog, "judge_log", "rono", "nronnn"),
     (Kind::SendLog, "send_log", "rnrron", "nronnnn"),
+    (Kind::ReceiveLog, "receive_log", "ronroo", "nrroonnnnnnnnn"),
     (Kind::PutHeader, "put_header", "onnn", "non"),
     (Kind::PutRecord, "put_record", "onon", "non"),
     (Kind::LogList, "log_list", "oo", "nonn"),

@@ -82,7 +82,7 @@ impl Referee<'_> {
 
 fn play(scenario: u64, seed: u64, referee: &mut Referee) -> Played {
     let mut random = Random::for_scenario(seed, scenario);
-    match random.below(109) {
+    match random.below(112) {
         0..=3 => boxes::open_sender(&mut random, referee),
         4..=6 => boxes::open_receiver(&mut random, referee),
         7..=22 => boxes::one_send(&mut random, referee),
@@ -113,6 +113,7 @@ fn play(scenario: u64, seed: u64, referee: &mut Referee) -> Played {
         101..=102 => log::judge(&mut random, referee),
         103..=105 => log::pieces(&mut random, referee),
         106..=108 => boxes::send_log(&mut random, referee),
+        109..=111 => log::receive(&mut random, referee),
         _ => status::check(&mut random, referee),
     }
 }

@@ -24,6 +24,7 @@ pub fn by_library(case: &Case) -> Option<Answer> {
         Kind::ReadRecord if cfg!(feature = "log") => read_record(case),
         Kind::JudgeLog if cfg!(feature = "log") => judge_log(case),
         Kind::SendLog if cfg!(feature = "log") => send_log(case),
+        Kind::ReceiveLog if cfg!(feature = "log") => receive_log(case),
         Kind::Anything if cfg!(feature = "log") => anything(case),
         Kind::Salvage if cfg!(feature = "log") => salvage(case),
         Kind::PutHeader if cfg!(feature = "log") => put_header(case),
@@ -220,6 +221,21 @@ fn send_log(case: &Case) -> Option<Answer> {
     let (mut log, mut counts) = (Fenced::around(case.octets(4), LEFT_OVER), [u64::MAX; 4]);
     let refusal = face::send_log(&mut state, case.yes(1), case.run(2), &ancillary, log.lent(), place, &mut counts);
     let mut answer = values![u64::from(refusal), &wide(&state)[..], &log.back()[..]];
+    answer.extend(counts.map(Value::Number));
+    Some(answer)
+}
+
+fn receive_log(case: &Case) -> Option<Answer> {
+    let mut state = receiver_octets(case.run(0))?;
+    let place = usize::try_from(case.number(2)).ok()?;
+    let mut samples = Fenced::around(case.run(3), u64::MAX);
+    let mut ancillary = Fenced::around(case.octets(4), LEFT_OVER);
+    let mut marks = Fenced::around(case.octets(5), LEFT_OVER);
+    let runs = Runs { samples: samples.lent(), ancillary: ancillary.lent(), marks: marks.lent() };
+    let mut counts = [u64::MAX; 9];
+    let refusal = face::receive_log(&mut state, case.octets(1), place, runs, &mut counts);
+    let after = receiver_fields(&state);
+    let mut answer = values![u64::from(refusal), &after[..], &samples.back()[..], &ancillary.back()[..], &marks.back()[..]];
     answer.extend(counts.map(Value::Number));
     Some(answer)
 }

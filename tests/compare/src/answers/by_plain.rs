@@ -24,6 +24,7 @@ pub fn by_plain(case: &Case) -> Answer {
         Kind::ReadRecord => read_record(case),
         Kind::JudgeLog => judge_log(case),
         Kind::SendLog => send_log(case),
+        Kind::ReceiveLog => receive_log(case),
         Kind::PutHeader => {
             put(case.octets(0), plain::put_header(case.octets(0), case.number(1), case.number(2), case.number(3)))
         }
@@ -248,6 +249,47 @@ fn send_log(case: &Case) -> Answer {
         (sender, log, place, cells) = (after, written, behind as u64, cells + 1);
     };
     values![0, &sender_state(&sender)[..], &log[..], place, (cells * used) as u64, stop, cells as u64]
+}
+
+/// The single calls in a row: the record at the place, and the receiver's answer to it with what is left of the runs.
+fn receive_log(case: &Case) -> Answer {
+    let (log, mut samples) = (case.octets(1), case.run(3).to_vec());
+    let (mut ancillary, mut marks) = (case.octets(4).to_vec(), case.octets(5).to_vec());
+    let mut receiver = receiver_of(case.run(0));
+    let unequal = samples.len() != ancillary.len() || samples.len() != marks.len();
+    if let Err(refusal) = receiver.shape().and(if unequal { Err(5) } else { Ok(()) }) {
+        let mut answer = values![u64::from(refusal), case.run(0), &samples[..], &ancillary[..], &marks[..]];
+        answer.extend([0; 9].map(Value::Number));
+        return answer;
+    }
+    let (mut place, mut at, mut taken, mut missing, mut refused) = (case.number(2), 0, 0, 0, [0; 4]);
+    let stop = loop {
+        let (indication, start, next) = match plain::record(log, place) {
+            Ok(Record::End) => break 0,
+            Err(refusal) => break u64::from(refusal),
+            Ok(Record::Cell { indication, start, next }) => (indication, start, next),
+        };
+        match receiver.receive(&log[start..start + 48], indication, [samples.len() - at; 3]) {
+            Ok((after, received)) => {
+                for entry in &received.entries {
+                    (samples[at], ancillary[at], marks[at]) = (entry.sample, entry.ancillary as u8, entry.mark as u8);
+                    at += 1;
+                }
+                (receiver, taken, missing) = (after, taken + 1, missing + received.missing);
+            }
+            Err(10) => break 10,
+            Err(refusal) => {
+                let which = [8, 9, 15, 20].iter().position(|&number| number == refusal);
+                refused[which.expect("a record is refused by one of these")] += 1;
+            }
+        }
+        place = next as u64;
+    };
+    let state = receiver_state(&receiver);
+    let mut answer = values![0, &state[..], &samples[..], &ancillary[..], &marks[..]];
+    answer.extend([place, at as u64, stop, taken, missing].map(Value::Number));
+    answer.extend(refused.map(Value::Number));
+    answer
 }
 
 fn anything(case: &Case) -> Answer {

@@ -1,8 +1,8 @@
--- `hearing::judging::is_of_state` meets its contract.
+-- `hearing::states::is_of_state` meets its contract.
 -- Assumes nothing.
 use borrow.Author.Tests.{eq-eqb, ne-eqb}
-use Rattle.hearing.proofs.judging.is_of_state.Statement.{statement}
-use Rattle.hearing.proofs.judging.is_of_state.Tie as tie
+use Rattle.hearing.proofs.states.is_of_state.Statement.{statement}
+use Rattle.hearing.proofs.states.is_of_state.Tie as tie
 
 returns : tie.Need-returns
 returns c = rw (eq-eqb _ _ (c .if1 .taken))
