@@ -9,6 +9,7 @@ pub mod Face
 pub mod Linked
 pub mod Logged
 pub mod Printed
+pub mod Ran
 pub mod Read
 pub mod Refused
 pub mod Requests
