@@ -2,7 +2,7 @@
 """Tries the mutants: small wrong changes of the crates, each of which the prover must refuse.
 
   run.py [CRATE...]     try the mutants of these crates, or all: `make mutants`
-  run.py --joint [CRATE...]  try the joint edits of these crates, or all: those with a line `above: CRATE`
+  run.py --joint [CRATE...]  try the joint edits of these crates, or all: those with a line `above:`
   run.py --applies      only see that each edit, those of tests/edits and the must-fail edits too, still fits the file that it changes:
                         the gate
 
@@ -49,10 +49,15 @@ def fault_of(edit, crate):
     return '' if pairs else 'it has no `old:` and `new:`'
 
 
-def above_of(edit):
-    """The crate with the page that must refuse a joint edit, or nothing."""
-    found = re.search(r'^above: (\w+)$', edit.read_text(encoding='utf-8'), re.M)
+def line_of(edit, word):
+    """What an edit says behind a word, as `above:`, or nothing."""
+    found = re.search(rf'^{word}: (.+)$', edit.read_text(encoding='utf-8'), re.M)
     return found[1] if found else ''
+
+
+def above_of(edit):
+    """The crate with the page that must refuse a joint edit, `vectors` where no statement does, or nothing."""
+    return line_of(edit, 'above')
 
 
 def apply(edit, crate):
@@ -67,27 +72,55 @@ def apply(edit, crate):
             file.write_text(file.read_text(encoding='utf-8').replace(old, line[4:].removeprefix(' ')), encoding='utf-8')
 
 
-def try_joint(crates):
-    """Tries each joint edit: its own crate must stay proved, and the crate above must not; says whether all did so."""
-    good = bad = 0
+def rounds_of(crates):
+    """The joint edits of these crates in rounds: one edit of a crate in each, and one crate above. What only vectors stop goes with pages."""
+    rounds = {}
     for edit in sorted(edit for crate in crates for edit in (MUTANTS / crate).glob('*.edit') if above_of(edit)):
-        own, above, name = edit.parent.name, above_of(edit), f'{edit.parent.name}/{edit.stem}'
-        prepare([])
-        apply(edit, SCRATCH / 'crates' / own)
-        first = subprocess.run(['rt', 'check', own], cwd=SCRATCH, capture_output=True, text=True, errors='replace', check=False)
-        if first.returncode != 0:
-            bad += 1
-            print(f'NOT COUNTED  {name}: its own crate refuses it', flush=True)
-            continue
-        second = subprocess.run(['rt', 'check', above], cwd=SCRATCH, capture_output=True, text=True, errors='replace', check=False)
-        found = re.search(r'crates/(\S*?): error: (?:`([^`]*)`)?', second.stdout + second.stderr)
-        if second.returncode == 0 or not found:
-            bad += 1
-            print(f'NOT REFUSED  {name}: {what_is_wrong(edit)}', flush=True)
+        above, k = above_of(edit).replace('vectors', 'pages'), 0
+        while any(other.parent == edit.parent for other in rounds.get((above, k), [])):
+            k += 1
+        rounds.setdefault((above, k), []).append(edit)
+    return rounds
+
+
+def proved(crate):
+    """Proves a crate of the copy; gives the statements that it refuses, as `CRATE/FILE LEMMA`, or nothing where it is proved."""
+    run = subprocess.run(['rt', 'check', crate], cwd=SCRATCH, capture_output=True, text=True, errors='replace', check=False)
+    found = re.findall(r'crates/(\w+)/(?:proofs|specs)/(\S+?)\.antt:\S* error: `([^`]*)`([^\n]*)', run.stdout + run.stderr)
+    first = [f'{own}/{file} {lemma}' for own, file, lemma, rest in found if 'was not admitted' not in rest]
+    return [] if run.returncode == 0 else first or ['no line named']
+
+
+def try_round(above, edits):
+    """Tries the edits of a round together: each one's own crate must stay proved, and the crate above refuse just what they name."""
+    bad = 0
+    prepare([])
+    for edit in edits:
+        apply(edit, SCRATCH / 'crates' / edit.parent.name)
+    for edit in edits:
+        errors = proved(edit.parent.name)
+        if errors:
+            print(f'NOT COUNTED  {edit.parent.name}/{edit.stem}: its own crate refuses it ({errors[0]})', flush=True)
+            return len(edits)
+    errors = proved(above)
+    named = [f'{above}/{line_of(edit, "refused")}' for edit in edits if above_of(edit) != 'vectors']
+    for edit in edits:
+        wrong, statement = what_is_wrong(edit), f'{above}/{line_of(edit, "refused")}'
+        if above_of(edit) == 'vectors' and set(errors) == set(named):
+            print(f'vectors      {edit.parent.name}/{edit.stem}: {wrong}', flush=True)
+        elif above_of(edit) != 'vectors' and statement in errors:
+            print(f'refused      {edit.parent.name}/{edit.stem}: {wrong} ({statement})', flush=True)
         else:
-            good += 1
-            print(f'refused      {name}: {what_is_wrong(edit)} ({found[1]} {found[2] or ""})', flush=True)
-    print(f'joint edits: {good} refused above, {bad} not')
+            bad += 1
+            print(f'NOT REFUSED  {edit.parent.name}/{edit.stem}: {wrong} ({errors[0] if errors else "nothing is"})', flush=True)
+    return bad
+
+
+def try_joint(crates):
+    """Tries the joint edits, round after round; says whether each was refused as it says."""
+    rounds = rounds_of(crates)
+    bad = sum(try_round(above, edits) for (above, _), edits in sorted(rounds.items()))
+    print(f'joint edits: {sum(map(len, rounds.values())) - bad} as they say, {bad} not')
     return not bad
 
 
@@ -171,7 +204,8 @@ def main():
     if not check_edits():
         return False
     # What is changed must be proved as it is: rt proves what isn't yet.
-    prove = [sys.executable, ROOT / 'tools' / 'native.py', 'rt', 'check', *crates]
+    proves = {*crates, *(above for above, _ in rounds_of(crates))} if joint else crates
+    prove = [sys.executable, ROOT / 'tools' / 'native.py', 'rt', 'check', *sorted(proves)]
     if subprocess.run(prove, cwd=ROOT, stdout=subprocess.DEVNULL, check=False).returncode != 0:
         print('mutants: a crate is not proved as it stands; see `rt check`', file=sys.stderr)
         return False

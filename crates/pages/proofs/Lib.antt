@@ -1,8 +1,6 @@
 pub mod Asked
 pub mod Boxes
 pub mod Calls
-pub mod Cases
-pub mod Characters
 pub mod Document
 pub mod Ended
 pub mod Face

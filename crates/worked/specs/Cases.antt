@@ -23,10 +23,19 @@ use Rattle.status.specs.Step.{stepOf}
 use Rattle.status.specs.declared.step.Stepped.{Stepped}
 use Rattle.units.specs.Units.{exportRefusal, readRefusal, exportOctets, exportedOf}
 use Rattle.units.specs.declared.Exported.{Exported}
-use Rattle.pages.specs.Papers.{fourSlots, zeroRecord, paper'sLog}
 
 abbrev two : ℕ → ℕ → List ℕ
 two first second = first ∷ second ∷ []
+
+-- document 01: "For 56 02 00, then twice 00 and the zero cell": 00 00 00 07 four times, 00 00 00 0F four times, 00 00 00 07 four times
+abbrev pub fourSlots : ℕ → List ℕ → List ℕ
+fourSlots low rest = 0 ∷ 0 ∷ 0 ∷ low ∷ 0 ∷ 0 ∷ 0 ∷ low ∷ 0 ∷ 0 ∷ 0 ∷ low ∷ 0 ∷ 0 ∷ 0 ∷ low ∷ rest
+
+abbrev pub zeroRecord : List ℕ → List ℕ
+zeroRecord rest = 0 ∷ fourSlots 7 (fourSlots 15 (fourSlots 7 rest))
+
+abbrev pub paper'sLog : List ℕ
+paper'sLog = 0x56 ∷ 2 ∷ 0 ∷ zeroRecord (zeroRecord [])
 
 -- the paper's log with a third record that is cut behind two octets
 abbrev tornLog : List ℕ

@@ -15,7 +15,7 @@ use Rattle.presence.proofs.Wrong as presence
 use Rattle.saving.proofs.Wrong as saving
 use Rattle.status.proofs.Wrong as status
 use Rattle.units.proofs.Wrong as units
-use Rattle.pages.specs.Cases.{
+use Rattle.worked.specs.Cases.{
   status-asked,
   status-said,
   list-asked,
