@@ -73,7 +73,7 @@ def apply(edit, crate):
 
 
 def rounds_of(crates):
-    """The joint edits of these crates in rounds: one edit of a crate in each, and one crate above. What only vectors stop goes with pages."""
+    """The joint edits of these crates in rounds: one edit of a crate in each, and one crate above."""
     rounds = {}
     for edit in sorted(edit for crate in crates for edit in (MUTANTS / crate).glob('*.edit') if above_of(edit)):
         above, k = above_of(edit).replace('vectors', 'pages'), 0
@@ -83,44 +83,44 @@ def rounds_of(crates):
     return rounds
 
 
-def proved(crate):
-    """Proves a crate of the copy; gives the statements that it refuses, as `CRATE/FILE LEMMA`, or nothing where it is proved."""
-    run = subprocess.run(['rt', 'check', crate], cwd=SCRATCH, capture_output=True, text=True, errors='replace', check=False)
+def refused_in(scratch, crate):
+    """Proves a crate of the copy; gives the statements that are refused in it or below, as `CRATE/FILE LEMMA`, or none if it is proved."""
+    run = subprocess.run(['rt', 'check', crate], cwd=scratch, capture_output=True, text=True, errors='replace', check=False)
     found = re.findall(r'crates/(\w+)/(?:proofs|specs)/(\S+?)\.antt:\S* error: `([^`]*)`([^\n]*)', run.stdout + run.stderr)
     first = [f'{own}/{file} {lemma}' for own, file, lemma, rest in found if 'was not admitted' not in rest]
     return [] if run.returncode == 0 else first or ['no line named']
 
 
-def try_round(above, edits):
-    """Tries the edits of a round together: each one's own crate must stay proved, and the crate above refuse just what they name."""
-    bad = 0
-    prepare([])
+def try_round(above, k, edits):
+    """Tries the edits of a round together: each one's own crate must stay proved, and the crate above refuse the statements that they
+    name. Where the statement is in the own crate, nothing else of it may be refused, so that every function is proved. Says how many
+    didn't do so."""
+    scratch = prepare([], f'joint-{above}-{k}')
     for edit in edits:
-        apply(edit, SCRATCH / 'crates' / edit.parent.name)
+        apply(edit, scratch / 'crates' / edit.parent.name)
     for edit in edits:
-        errors = proved(edit.parent.name)
+        errors = refused_in(scratch, edit.parent.name) if edit.parent.name != above else []
         if errors:
             print(f'NOT COUNTED  {edit.parent.name}/{edit.stem}: its own crate refuses it ({errors[0]})', flush=True)
             return len(edits)
-    errors = proved(above)
-    named = [f'{above}/{line_of(edit, "refused")}' for edit in edits if above_of(edit) != 'vectors']
+    bad, errors = 0, refused_in(scratch, above)
+    named = {f'{above}/{line_of(edit, "refused")}' for edit in edits if above_of(edit) != 'vectors'}
     for edit in edits:
-        wrong, statement = what_is_wrong(edit), f'{above}/{line_of(edit, "refused")}'
-        if above_of(edit) == 'vectors' and set(errors) == set(named):
-            print(f'vectors      {edit.parent.name}/{edit.stem}: {wrong}', flush=True)
-        elif above_of(edit) != 'vectors' and statement in errors:
-            print(f'refused      {edit.parent.name}/{edit.stem}: {wrong} ({statement})', flush=True)
-        else:
-            bad += 1
-            print(f'NOT REFUSED  {edit.parent.name}/{edit.stem}: {wrong} ({errors[0] if errors else "nothing is"})', flush=True)
+        statement = f'{above}/{line_of(edit, "refused")}'
+        only = edit.parent.name == above or above_of(edit) == 'vectors'
+        good = named == set(errors) if only else statement in errors
+        bad += not good
+        by = 'vectors alone' if above_of(edit) == 'vectors' else statement
+        print(f'{"refused    " if good else "NOT REFUSED"}  {edit.parent.name}/{edit.stem}: {what_is_wrong(edit)} ({by if good else errors})',
+              flush=True)
     return bad
 
 
 def try_joint(crates):
     """Tries the joint edits, round after round; says whether each was refused as it says."""
     rounds = rounds_of(crates)
-    bad = sum(try_round(above, edits) for (above, _), edits in sorted(rounds.items()))
-    print(f'joint edits: {sum(map(len, rounds.values())) - bad} as they say, {bad} not')
+    bad = sum(try_round(above, k, edits) for (above, k), edits in sorted(rounds.items(), reverse=True))
+    print(f'joint edits: {sum(map(len, rounds.values())) - bad} refused as they say, {bad} not')
     return not bad
 
 
@@ -139,20 +139,22 @@ def check_edits():
     return not bad
 
 
-def prepare(crates):
-    """A copy of the repository's crates as they are proved, with mutants in the place of must-fail edits."""
-    shutil.rmtree(SCRATCH, ignore_errors=True)
-    SCRATCH.mkdir(parents=True)
-    shutil.copy(ROOT / 'crates.txt', SCRATCH)
-    shutil.copytree(ROOT / 'crates', SCRATCH / 'crates', ignore=shutil.ignore_patterns('must-fail'))
+def prepare(crates, name='mutants'):
+    """A copy of the repository's crates as they are proved, with mutants in the place of must-fail edits; where it is."""
+    scratch = ROOT / 'target' / name
+    shutil.rmtree(scratch, ignore_errors=True)
+    scratch.mkdir(parents=True)
+    shutil.copy(ROOT / 'crates.txt', scratch)
+    shutil.copytree(ROOT / 'crates', scratch / 'crates', ignore=shutil.ignore_patterns('must-fail'))
     for part in ('rlib', 'stamp'):
-        shutil.copytree(ROOT / 'target' / part, SCRATCH / 'target' / part)
+        shutil.copytree(ROOT / 'target' / part, scratch / 'target' / part)
     for crate in crates:
-        place = SCRATCH / 'crates' / crate / 'must-fail'
+        place = scratch / 'crates' / crate / 'must-fail'
         place.mkdir()
         for edit in (MUTANTS / crate).glob('*.edit'):
             if not above_of(edit):
                 shutil.copy(edit, place)
+    return scratch
 
 
 def first_error(name):

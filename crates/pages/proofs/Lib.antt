@@ -12,6 +12,7 @@ pub mod Read
 pub mod Refused
 pub mod Requests
 pub mod Sent
+pub mod Shut
 pub mod Slots
 pub mod Streams
 pub mod WrongBoxes

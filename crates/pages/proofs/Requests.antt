@@ -39,11 +39,15 @@ use Rattle.rimesatchel.specs.Salvages.{SalvagedLog}
 use Rattle.rimesatchel.specs.Sheets.{DrawsUp}
 use Rattle.rimesatchel.specs.Statuses.{SteppedOctets}
 use Rattle.rimesatchel.proofs.SheetsAdd.{rime-sheets-add-up}
-use Rattle.management.specs.Demands.{Equips, Controls}
+use Rattle.management.specs.Demands.{Equips, Controls, Settles, Codes}
 use Rattle.management.proofs.equipment.rime_equipment.Kinds as equipment-kinds
 use Rattle.management.proofs.equipment.rime_equipment.Reads as equipment-reads
 use Rattle.management.proofs.controller.rime_controller.Kinds as controller-kinds
 use Rattle.management.proofs.controller.rime_controller.Reads as controller-reads
+use Rattle.management.proofs.packing.rime_port_settings.Kinds as port-settings-kinds
+use Rattle.management.proofs.packing.rime_port_settings.Reads as port-settings-reads
+use Rattle.management.proofs.packing.rime_port_packing.Kinds as port-packing-kinds
+use Rattle.management.proofs.packing.rime_port_packing.Reads as port-packing-reads
 use Rattle.line.proofs.Ensures.{Ensured}
 use Rattle.pages.specs.Papers.{
   AnswersFit,
@@ -152,7 +156,8 @@ pub checks : (octet channels frequency : ℕ) (shares allowances : List ℕ) (re
     → Checks octet channels frequency shares allowances answer
 checks = Asked.checks
 
--- 12. The theorems on the management port stand on management/Demands, over `Equips` and `Controls`: these are the calls' own `ensures`.
+-- 12. The theorems on the management port stand on management/Demands, over `Equips`, `Controls`, `Settles` and `Codes`: these are the calls'
+-- own `ensures`.
 pub equipment-ensures : Ensured equipment-kinds.ps equipment-kinds.r equipment-reads.Post
     (λ κs a x v. Equips (record {
       ports = now (a .0);
@@ -168,6 +173,14 @@ equipment-ensures κs a x v p = p
 pub controller-ensures : Ensured controller-kinds.ps controller-kinds.r controller-reads.Post
     (λ κs a x v. Controls (record { ports = now (a .0); message = now (a .1 .0); refusal = x; portsAfter = v .0 }))
 controller-ensures κs a x v p = p
+
+pub port-settings-ensures : Ensured port-settings-kinds.ps port-settings-kinds.r port-settings-reads.Post
+    (λ κs a x v. Settles (record { port = now (a .0); refusal = x; settings = v .1 .0 }))
+port-settings-ensures κs a x v p = p
+
+pub port-packing-ensures : Ensured port-packing-kinds.ps port-packing-kinds.r port-packing-reads.Post
+    (λ κs a x v. Codes (record { format = a .0; channels = a .1 .0; order = a .1 .1 .0; refusal = x; packing = v .1 .1 .1 .0 }))
+port-packing-ensures κs a x v p = p
 
 -- 13. "a data unit holds whole frames, as many as fit a stated size, the last one perhaps fewer", of `rime_units_export`; "Reading the
 -- units back gives every sample and ancillary bit", of `rime_unit_read`.

@@ -2,3 +2,4 @@ pub mod Boxes
 pub mod Face
 pub mod Papers
 pub mod Rows
+pub mod Shut
