@@ -164,7 +164,7 @@ runs {block} {ancillary} {marks} {from} {step} p =
           λ some.
           let is = run-refused (blockOf block) ancillary marks from step (λ none. some (p .refused ∙ none)) in (
             λ long.
-            p .leaves ∙ ap (λ (r : Ran). r .stepped .block .bits ∷ r .stepped .block .octets) is ∙ first-rest block (λ none. omega (arith, long, none)),
+                p .leaves ∙ ap (λ (r : Ran). r .stepped .block .bits ∷ r .stepped .block .octets) is ∙ first-rest block (λ none. omega (arith, long, none)),
             p .hands ∙ ap (λ (r : Ran). r .stepped .handed .answer ∷ r .stepped .handed .octets) is,
             p .goes-on ∙ ap (λ (r : Ran). r .next) is,
           );

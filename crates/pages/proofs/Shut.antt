@@ -153,9 +153,11 @@ sends-none =
     low : (k : ℕ) → begins k ≤ 15
     low zero = omega arith
     low (suc k) = omega arith
+
     later : (k : ℕ) → 0 < k → k < 192 → bOf (begins k) ≡ 0
     later zero h l = absurd (not-suc-le-zero h)
     later (suc k) h l = refl
+
     none : (k : ℕ) → cOf (begins k) ≡ 0
     none zero = refl
     none (suc k) = refl
