@@ -1,6 +1,7 @@
 -- Requests 1, 3, 6, 7, 9, 11, 12, 13 and 14 of document 02, on one page: each sentence beside its theorem, of the C calls where there is
 -- one, each proof a citation. What a C call promises is the record that its `ensures` names.
 -- Assumes nothing.
+use mathlib.Core.Bool.{true, false}
 use mathlib.Core.List.{List, _∷_, _++_}
 use mathlib.Core.Path.{_≡_, ap}
 use Prim.Native.Nat.{ℕ, _+_, _*_, _≤_, _<_}
@@ -20,7 +21,9 @@ use Rattle.listing.proofs.Whole as listing
 use Rattle.presence.specs.Handed.{FirstIn, AllSilent}
 use Rattle.presence.specs.Presence.{presenceOf}
 use Rattle.presence.specs.Taking as P
+use Rattle.presence.specs.declared.Search.{Search}
 use Rattle.presence.proofs.Going as presence
+use Rattle.presence.proofs.Stops as stops
 use Rattle.saving.specs.Demands.{SameLine}
 use Rattle.salvaging.specs.Lines.{endLine}
 use Rattle.salvaging.specs.Said as Said
@@ -114,6 +117,13 @@ module _ (log : List ℕ) (refusal : ℕ) (answer : List ℕ) (said : (refusal �
   pub anything-no : refusal ≡ 0 → getD answer 0 0 ≡ 0
       → (getD answer 1 0 ≡ length (recordsIn (behindHeader log))) × AllSilent (freshOf (headerOf log)) (recordsIn (behindHeader log))
   anything-no = Asked.anything-no log refusal answer said
+
+-- "It should stop at the first one": behind a yes the program asks for no octet more, and whatever follows, the answer stays
+pub anything-stops : (s : Search) → s .sought .found ≡ true → P.readsOn s ≡ false
+anything-stops = Asked.anything-stops
+
+pub anything-settled : (log more : List ℕ) → presenceOf log .found ≡ true → presenceOf (log ++ more) ≡ presenceOf log
+anything-settled = stops.yes-whatever-follows
 
 -- "Tickets 3, 7 and 9 may use it and their answers stay as they are"
 pub anything-in-pieces : (held : List ℕ) (pieces : List (List ℕ)) → length held ≡ 49 → length (joinedOf pieces) ≤ 18446744073709551615

@@ -11,6 +11,7 @@ use Rattle.listing.specs.List.{lineOf, linesOf, endLines, listTo}
 use Rattle.cable.proofs.Wrong as cable
 use Rattle.circuits.proofs.Wrong as circuits
 use Rattle.figures.proofs.Wrong as figures
+use Rattle.presence.specs.Taking.{readsOn}
 use Rattle.presence.proofs.Wrong as presence
 use Rattle.saving.proofs.Wrong as saving
 use Rattle.status.proofs.Wrong as status
@@ -51,7 +52,7 @@ unfolding sheets-asked sheets-said figures.unfolded heardBy given hear
 sheets-cases = refl
 
 presence-cases : presence-asked ≡ presence-said
-unfolding presence-asked presence-said presence.unfolded heardBy given hear
+unfolding presence-asked presence-said presence.unfolded readsOn heardBy given hear
 presence-cases = refl
 
 salvage-cases : salvage-asked ≡ salvage-said

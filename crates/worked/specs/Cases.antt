@@ -1,7 +1,7 @@
 -- Cases of document 01's channel status and list and of the requests' own numbers: what the definitions give, at each bound and of small
 -- logs, blocks, frames and units, and what the sentences say. A pair of lists for each request, row by row.
 -- Assumes nothing.
-use mathlib.Core.Bool.{cond}
+use mathlib.Core.Bool.{Bool, true, false, cond}
 use mathlib.Core.List.{List, [], _∷_}
 use Prim.Native.Nat.{ℕ, _-_, _^_}
 use lib.ListN.{replicate}
@@ -15,7 +15,9 @@ use Rattle.figures.specs.Sheets.{logsOf, rowsOf, sheetRefusal}
 use Rattle.figures.specs.declared.Counts.{Counts}
 use Rattle.listing.specs.List.{listOf}
 use Rattle.presence.specs.Presence.{presenceOf}
+use Rattle.presence.specs.Taking.{readsOn, searchStart}
 use Rattle.presence.specs.declared.Presence.{Presence}
+use Rattle.presence.specs.declared.Search.{Search}
 use Rattle.saving.specs.Salvage as Saving
 use Rattle.saving.specs.declared.Salvaged.{Salvaged}
 use Rattle.status.specs.Bits.{zeros}
@@ -172,15 +174,27 @@ present log =
     let answer : Presence = presenceOf log in
     answer .refusal ∷ cond (answer .found) 1 0 ∷ answer .number ∷ []
 
+-- a search before the first octet, with this answer so far: 1 where it reads on
+readsWith : Bool → ℕ
+readsWith found =
+    let start : Search = searchStart in
+    cond (readsOn (record {
+      standing = start .standing;
+      sought = record { state = start .sought .state; refusal = 0; found = found; number = 0 };
+    })) 1 0
+
 unfoldable pub presence-asked : List (List ℕ)
-unfolding present
+unfolding present readsWith
 presence-asked =
+    two (readsWith false) (readsWith true) ∷
     present (lastSample 5) ∷ present (lastSample 0) ∷ present tornLog ∷ present damagedLog ∷ present (0x56 ∷ 13 ∷ 0 ∷ []) ∷ []
 
 unfoldable pub presence-said : List (List ℕ)
 presence-said =
+    -- "It should stop at the first one"
+    two 1 0
     -- "is there a sample marked 0 that isn't zero?"; "It also tells the first such record"
-    (0 ∷ 1 ∷ 1 ∷ [])
+    ∷ (0 ∷ 1 ∷ 1 ∷ [])
     -- "a no tells how many whole records were read", "up to the first framing fault or the end"
     ∷ (0 ∷ 0 ∷ 2 ∷ []) ∷ (0 ∷ 0 ∷ 2 ∷ []) ∷ (0 ∷ 0 ∷ 2 ∷ [])
     -- "A log whose header is refused answers with that refusal"
