@@ -7,7 +7,8 @@
                         the gate
 
 The crates are copied to target/mutants, with the mutants in the place of their must-fail edits; `rt must-fail` tries them
-there. It leaves what the prover said of each in target/mutants/target/must-fail/CRATE/NAME/.log.
+there. It leaves what the prover said of each in target/mutants/target/must-fail/CRATE/NAME/.log. Joint edits of different crates are
+tried together, in target/joint/ABOVE-ROUND.
 """
 import os
 import pathlib
@@ -95,7 +96,8 @@ def try_round(above, k, edits):
     """Tries the edits of a round together: each one's own crate must stay proved, and the crate above refuse the statements that they
     name. Where the statement is in the own crate, nothing else of it may be refused, so that every function is proved. Says how many
     didn't do so."""
-    scratch = prepare([], f'joint-{above}-{k}')
+    scratch = ROOT / 'target' / 'joint' / f'{above}-{k}'
+    prepare([], scratch)
     for edit in edits:
         apply(edit, scratch / 'crates' / edit.parent.name)
     for edit in edits:
@@ -119,7 +121,8 @@ def try_round(above, k, edits):
 def try_joint(crates):
     """Tries the joint edits, round after round; says whether each was refused as it says."""
     rounds = rounds_of(crates)
-    bad = sum(try_round(above, k, edits) for (above, k), edits in sorted(rounds.items(), reverse=True))
+    # the rounds that prove most anew come last
+    bad = sum(try_round(*key, rounds[key]) for key in sorted(rounds, key=lambda key: (('line', 'pages').count(key[0]), key)))
     print(f'joint edits: {sum(map(len, rounds.values())) - bad} refused as they say, {bad} not')
     return not bad
 
@@ -139,22 +142,21 @@ def check_edits():
     return not bad
 
 
-def prepare(crates, name='mutants'):
-    """A copy of the repository's crates as they are proved, with mutants in the place of must-fail edits; where it is."""
-    scratch = ROOT / 'target' / name
-    shutil.rmtree(scratch, ignore_errors=True)
-    scratch.mkdir(parents=True)
-    shutil.copy(ROOT / 'crates.txt', scratch)
+def prepare(crates, scratch):
+    """A copy of the repository's crates as they are proved, with mutants in the place of must-fail edits. What the copy proved in an
+    earlier run stays: rt proves anew what changed since."""
+    shutil.rmtree(scratch / 'crates', ignore_errors=True)
     shutil.copytree(ROOT / 'crates', scratch / 'crates', ignore=shutil.ignore_patterns('must-fail'))
+    shutil.copy(ROOT / 'crates.txt', scratch)
     for part in ('rlib', 'stamp'):
-        shutil.copytree(ROOT / 'target' / part, scratch / 'target' / part)
+        if not (scratch / 'target' / part).is_dir():
+            shutil.copytree(ROOT / 'target' / part, scratch / 'target' / part)
     for crate in crates:
         place = scratch / 'crates' / crate / 'must-fail'
         place.mkdir()
         for edit in (MUTANTS / crate).glob('*.edit'):
             if not above_of(edit):
                 shutil.copy(edit, place)
-    return scratch
 
 
 def first_error(name):
@@ -213,7 +215,8 @@ def main():
         return False
     if joint:
         return try_joint(crates)
-    prepare(crates)
+    shutil.rmtree(SCRATCH, ignore_errors=True)
+    prepare(crates, SCRATCH)
     return try_mutants(crates)
 
 

@@ -61,7 +61,7 @@ use Rattle.pages.specs.Papers.{
 -- request 7: a search behind its yes
 pub anything-stops : (s : Search) → s .sought .found ≡ true → readsOn s ≡ false
 unfolding readsOn
-anything-stops s yes = rw yes
+anything-stops s found = rw found
 
 -- request 1: a frame imported and exported again
 pub frame-back : (preambles subframes samples ancillary preambles₁ subframes₁ : List ℕ) (x y : ℕ) → Halves preambles subframes
