@@ -94,7 +94,7 @@ def refused_in(scratch, crate):
 
 def try_round(above, k, edits):
     """Tries the edits of a round together: each one's own crate must stay proved, and the crate above refuse the statements that they
-    name. Where the statement is in the own crate, nothing else of it may be refused, so that every function is proved. Says how many
+    name. Where the statement is in the own crate, only statements may be refused in it, so that every function is proved. Says how many
     didn't do so."""
     scratch = ROOT / 'target' / 'joint' / f'{above}-{k}'
     prepare([], scratch)
@@ -106,13 +106,12 @@ def try_round(above, k, edits):
             print(f'NOT COUNTED  {edit.parent.name}/{edit.stem}: its own crate refuses it ({errors[0]})', flush=True)
             return len(edits)
     bad, errors = 0, refused_in(scratch, above)
-    named = {f'{above}/{line_of(edit, "refused")}' for edit in edits if above_of(edit) != 'vectors'}
+    functions = [error for error in errors if '/Proof ' in error]
     for edit in edits:
         statement = f'{above}/{line_of(edit, "refused")}'
-        only = edit.parent.name == above or above_of(edit) == 'vectors'
-        good = named == set(errors) if only else statement in errors
-        bad += not good
+        good = not errors if above_of(edit) == 'vectors' else statement in errors and not functions
         by = 'vectors alone' if above_of(edit) == 'vectors' else statement
+        bad += not good
         print(f'{"refused    " if good else "NOT REFUSED"}  {edit.parent.name}/{edit.stem}: {what_is_wrong(edit)} ({by if good else errors})',
               flush=True)
     return bad
