@@ -85,10 +85,12 @@ def rounds_of(crates):
 
 
 def refused_in(scratch, crate):
-    """Proves a crate of the copy; gives the statements that are refused in it or below, as `CRATE/FILE LEMMA`, or none if it is proved."""
+    """Proves a crate of the copy; gives the statements, as `CRATE/FILE LEMMA`, and the functions that are refused, or none if it is
+    proved."""
     run = subprocess.run(['rt', 'check', crate], cwd=scratch, capture_output=True, text=True, errors='replace', check=False)
     found = re.findall(r'crates/(\w+)/(?:proofs|specs)/(\S+?)\.antt:\S* error: `([^`]*)`([^\n]*)', run.stdout + run.stderr)
     first = [f'{own}/{file} {lemma}' for own, file, lemma, rest in found if 'was not admitted' not in rest]
+    first += [f'function {name}' for name in re.findall(r'^fn (\S+): (?:not proved|no proof)', run.stdout, re.M)]
     return [] if run.returncode == 0 else first or ['no line named']
 
 
@@ -106,7 +108,7 @@ def try_round(above, k, edits):
             print(f'NOT COUNTED  {edit.parent.name}/{edit.stem}: its own crate refuses it ({errors[0]})', flush=True)
             return len(edits)
     bad, errors = 0, refused_in(scratch, above)
-    functions = [error for error in errors if '/Proof ' in error]
+    functions = [error for error in errors if '/Proof ' in error or error.startswith('function ')]
     for edit in edits:
         statement = f'{above}/{line_of(edit, "refused")}'
         good = not errors if above_of(edit) == 'vectors' else statement in errors and not functions
