@@ -113,9 +113,9 @@ def try_round(above, k, edits):
         statement = f'{above}/{line_of(edit, "refused")}'
         good = not errors if above_of(edit) == 'vectors' else statement in errors and not functions
         by = 'vectors alone' if above_of(edit) == 'vectors' else statement
+        verdict = 'refused    ' if good else 'NOT REFUSED'
         bad += not good
-        print(f'{"refused    " if good else "NOT REFUSED"}  {edit.parent.name}/{edit.stem}: {what_is_wrong(edit)} ({by if good else errors})',
-              flush=True)
+        print(f'{verdict}  {edit.parent.name}/{edit.stem}: {what_is_wrong(edit)} ({by if good else errors})', flush=True)
     return bad
 
 
@@ -197,7 +197,7 @@ def main():
     if sys.argv[1:] == ['--applies']:
         return check_edits()
     joint = sys.argv[1:2] == ['--joint']
-    with_mutants = sorted(folder.name for folder in MUTANTS.iterdir() if any(bool(above_of(edit)) == joint for edit in folder.glob('*.edit')))
+    with_mutants = sorted({edit.parent.name for edit in MUTANTS.glob('*/*.edit') if bool(above_of(edit)) == joint})
     crates = sys.argv[2 if joint else 1:] or with_mutants
     for crate in crates:
         if crate not in with_mutants:
