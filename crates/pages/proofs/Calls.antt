@@ -6,7 +6,7 @@ use mathlib.Core.Bool.{cond}
 use mathlib.Core.Path.{_≡_}
 use denote.Ref.{now}
 use lib.ListN.{length, getD, replicate}
-use Rattle.formats.specs.Formats.{settingsRefusal}
+use Rattle.formats.specs.Formats.{isListed, settingsRefusal}
 use Rattle.sender.specs.Sender as S
 use Rattle.receiver.specs.Receiver as R
 use Rattle.status.specs.Step.{isRefused}
@@ -22,6 +22,10 @@ use Rattle.circuits.specs.Circuits.{octetRefusal, checkRefusal, planRefusalOf}
 use Rattle.slips.specs.Watch.{stepRefusal}
 use Rattle.rimesatchel.specs.Boxes.{senderOf, receiverOf, countOf}
 use Rattle.rimesatchel.specs.Watches.{watchOf}
+use Rattle.rimesatchel.proofs.facts.rime_format.Kinds as format-kinds
+use Rattle.rimesatchel.proofs.facts.rime_format.Reads as format-reads
+use Rattle.rimesatchel.proofs.batches.rime_judge_log.Kinds as judge-log-kinds
+use Rattle.rimesatchel.proofs.batches.rime_judge_log.Reads as judge-log-reads
 use Rattle.rimesatchel.proofs.boxes.rime_sender_open.Kinds as sender-open-kinds
 use Rattle.rimesatchel.proofs.boxes.rime_sender_open.Reads as sender-open-reads
 use Rattle.rimesatchel.proofs.boxes.rime_send.Kinds as send-kinds
@@ -34,6 +38,8 @@ use Rattle.rimesatchel.proofs.boxes.rime_receiver_placed.Kinds as placed-kinds
 use Rattle.rimesatchel.proofs.boxes.rime_receiver_placed.Reads as placed-reads
 use Rattle.rimesatchel.proofs.statuses.rime_status_step.Kinds as status-kinds
 use Rattle.rimesatchel.proofs.statuses.rime_status_step.Reads as status-reads
+use Rattle.rimesatchel.proofs.statuses.rime_status_run.Kinds as status-run-kinds
+use Rattle.rimesatchel.proofs.statuses.rime_status_run.Reads as status-run-reads
 use Rattle.rimesatchel.proofs.statuses.rime_check_character.Kinds as character-kinds
 use Rattle.rimesatchel.proofs.statuses.rime_check_character.Reads as character-reads
 use Rattle.rimesatchel.proofs.logs.rime_log_header.Kinds as header-kinds
@@ -66,14 +72,26 @@ use Rattle.rimesatchel.proofs.plans.rime_circuits_plan.Kinds as plan-kinds
 use Rattle.rimesatchel.proofs.plans.rime_circuits_plan.Reads as plan-reads
 use Rattle.rimesatchel.proofs.watches.rime_slip.Kinds as slip-kinds
 use Rattle.rimesatchel.proofs.watches.rime_slip.Reads as slip-reads
-use Rattle.management.specs.Demands.{equipmentRefusal, controllerRefusal}
+use Rattle.management.specs.Demands as M
+use Rattle.management.proofs.packing.rime_port_settings.Kinds as port-settings-kinds
+use Rattle.management.proofs.packing.rime_port_settings.Reads as port-settings-reads
+use Rattle.management.proofs.packing.rime_port_packing.Kinds as port-packing-kinds
+use Rattle.management.proofs.packing.rime_port_packing.Reads as port-packing-reads
 use Rattle.management.proofs.equipment.rime_equipment.Kinds as equipment-kinds
 use Rattle.management.proofs.equipment.rime_equipment.Reads as equipment-reads
 use Rattle.management.proofs.controller.rime_controller.Kinds as controller-kinds
 use Rattle.management.proofs.controller.rime_controller.Reads as controller-reads
 use Rattle.line.specs.Demands.{Refuses, recordTable}
 use Rattle.line.proofs.Ensures.{Ensured}
+use Rattle.pages.specs.Papers.{runRefusal}
 use Rattle.pages.proofs.Refused as Refused
+
+-- a format's facts: 1 for "an octet that is none of the fourteen"
+pub format-refuses : Ensured format-kinds.ps format-kinds.r format-reads.Post
+    (λ κs a x v.
+    let facts = v .1 .0 in
+    Refuses x (cond (isListed (a .0)) 0 1) (facts ≡ replicate 4 0))
+format-refuses κs a x v p = Refused.names-format (a .0) p
 
 -- an opening: the state is all that it answers through, and is zeros where it refuses
 pub sender-open-refuses : Ensured sender-open-kinds.ps sender-open-kinds.r sender-open-reads.Post
@@ -145,6 +163,17 @@ pub status-refuses : Ensured status-kinds.ps status-kinds.r status-reads.Post
     ((length block ≡ 25 → block-left ≡ block) × (out ≡ replicate 25 0)))
 status-refuses κs a x v p = Refused.steps p
 
+-- many steps: 5, then 14 at any entry that the call would use
+pub status-run-refuses : Ensured status-run-kinds.ps status-run-kinds.r status-run-reads.Post
+    (λ κs a x v.
+    let block = now (a .0) in
+    let block-left = v .0 in
+    let out = v .1 .1 .1 .1 .1 .0 in
+    let next = v .1 .1 .1 .1 .1 .1 .0 in
+    Refuses x (runRefusal block (now (a .1 .0)) (now (a .1 .1 .0)) (a .1 .1 .1 .0) (a .1 .1 .1 .1 .0))
+    ((length block ≡ 25 → block-left ≡ block) × (out ≡ replicate 25 0) × (next ≡ 0)))
+status-run-refuses κs a x v p = Refused.runs p
+
 -- it refuses nothing
 pub character-answers : Ensured character-kinds.ps character-kinds.r character-reads.Post (λ κs a x v. x ≡ checkCharacter (now (a .0)))
 character-answers κs a x v p = p
@@ -161,6 +190,17 @@ pub record-refuses : Ensured record-kinds.ps record-kinds.r record-reads.Post
     let answer = v .1 .1 .0 in
     Refuses x (recordTable (now (a .0)) (a .1 .0)) (answer ≡ replicate 4 0))
 record-refuses κs a x v p = Refused.reads-record (now (a .0)) (a .1 .0) p
+
+-- many records: where it stopped is no refusal, so that a state alone is refused, 1 to 4
+pub judge-log-refuses : Ensured judge-log-kinds.ps judge-log-kinds.r judge-log-reads.Post
+    (λ κs a x v.
+    let state = now (a .0) in
+    let reports = now (a .1 .1 .1 .0) in
+    let state-left = v .0 in
+    let reports-left = v .1 .1 .1 .0 in
+    let counts = v .1 .1 .1 .1 .0 in
+    Refuses x (R.stateRefusal (receiverOf state)) ((state-left ≡ state) × (reports-left ≡ reports) × (counts ≡ replicate 3 0)))
+judge-log-refuses κs a x v p = Refused.judges p
 
 pub put-header-refuses : Ensured put-header-kinds.ps put-header-kinds.r put-header-reads.Post
     (λ κs a x v.
@@ -265,7 +305,7 @@ pub equipment-refuses : Ensured equipment-kinds.ps equipment-kinds.r equipment-r
     let ports-left = v .0 in
     let answer-left = v .1 .1 .0 in
     let report = v .1 .1 .1 .0 in
-    Refuses x (equipmentRefusal ports (now (a .1 .0)) (length answer))
+    Refuses x (M.equipmentRefusal ports (now (a .1 .0)) (length answer))
     ((ports-left ≡ ports) × (answer-left ≡ answer) × (report ≡ replicate 4 0)))
 equipment-refuses κs a x v p = Refused.equips (now (a .1 .0)) p
 
@@ -273,5 +313,18 @@ pub controller-refuses : Ensured controller-kinds.ps controller-kinds.r controll
     (λ κs a x v.
     let ports = now (a .0) in
     let ports-left = v .0 in
-    Refuses x (controllerRefusal (now (a .1 .0))) (ports-left ≡ ports))
+    Refuses x (M.controllerRefusal (now (a .1 .0))) (ports-left ≡ ports))
 controller-refuses κs a x v p = Refused.controls p
+
+-- a port's settings, by its record and by its packing octet: checks 1 to 3
+pub port-settings-refuses : Ensured port-settings-kinds.ps port-settings-kinds.r port-settings-reads.Post
+    (λ κs a x v.
+    let settings = v .1 .0 in
+    Refuses x (M.recordRefusal (now (a .0))) (settings ≡ replicate 3 0))
+port-settings-refuses κs a x v p = Refused.settles p
+
+pub port-packing-refuses : Ensured port-packing-kinds.ps port-packing-kinds.r port-packing-reads.Post
+    (λ κs a x v.
+    let packing = v .1 .1 .1 .0 in
+    Refuses x (settingsRefusal (a .0) (a .1 .0) (a .1 .1 .0)) (packing ≡ 0))
+port-packing-refuses κs a x v p = Refused.packs p

@@ -8,10 +8,14 @@ use native.Mathlib.Omega.{arith}
 use borrow.Author.Tests.{ne-eqb}
 use lib.Dec.{eqb}
 use lib.ListN.{length, getD, drop, replicate}
-use Rattle.formats.specs.Formats.{settingsRefusal}
+use Rattle.runs.specs.Runs.{over}
+use Rattle.runs.proofs.Laws.{split}
+use Rattle.formats.specs.Formats.{isListed, formatOf, settingsRefusal}
 use Rattle.sender.specs.Sender as S
 use Rattle.receiver.specs.Receiver as R
 use Rattle.status.specs.Step.{isRefused}
+use Rattle.status.specs.declared.run.Ran.{Ran}
+use Rattle.hearing.specs.declared.judging.Judged.{Judged}
 use Rattle.log.specs.Numbers.{numberAt}
 use Rattle.log.specs.Records.{headerRefusal, secondNumber, thirdNumber, headerOf, recordAt}
 use Rattle.log.specs.Written.{Keeps}
@@ -23,6 +27,7 @@ use Rattle.units.specs.Units as U
 use Rattle.circuits.specs.Circuits.{octetRefusal, checkRefusal, planRefusalOf, Plans}
 use Rattle.slips.specs.Watch.{stepRefusal}
 use Rattle.slips.proofs.Demand1 as slips
+use Rattle.rimesatchel.specs.Batches.{judgedNumbers, JudgedOctets}
 use Rattle.rimesatchel.specs.Boxes.{
   yesNo,
   senderOf,
@@ -37,6 +42,7 @@ use Rattle.rimesatchel.specs.Boxes.{
   ReceivedOctets,
 }
 use Rattle.rimesatchel.specs.Contents.{presenceNumbers}
+use Rattle.rimesatchel.specs.Facts.{formatNumbers, formatRefusal}
 use Rattle.rimesatchel.specs.Frames.{ImportedFrame, ExportedFrame}
 use Rattle.rimesatchel.specs.Kept.{keptAs}
 use Rattle.rimesatchel.specs.Logs.{headerNumbers, recordNumbers}
@@ -44,16 +50,19 @@ use Rattle.rimesatchel.specs.Network.{ExportedUnits, ReadUnit}
 use Rattle.rimesatchel.specs.Plans.{CheckedPlan}
 use Rattle.rimesatchel.specs.Salvages.{SalvagedLog}
 use Rattle.rimesatchel.specs.Sheets.{DrawsUp}
-use Rattle.rimesatchel.specs.Statuses.{SteppedOctets}
+use Rattle.rimesatchel.specs.Statuses.{blockOf, SteppedOctets, RanOctets}
 use Rattle.rimesatchel.specs.Watches.{watchOf, slippedOf, SlippedOctets}
 use Rattle.management.specs.Controller.{Takes}
-use Rattle.management.specs.Demands.{equipmentRefusal, controllerRefusal}
+use Rattle.management.specs.Demands.{recordRefusal, equipmentRefusal, controllerRefusal}
 use Rattle.management.specs.Equipment.{Leaves, equipmentOf}
+use Rattle.management.specs.Packing.{Sets, Packs}
 use Rattle.management.proofs.Demands as management
 use Rattle.line.specs.Contracts.{SendCall, ReceiveCall}
 use Rattle.line.specs.Demands.{Refuses, recordTable}
 use Rattle.line.proofs.Demands as line
 use Rattle.line.proofs.Refused as laws
+use Rattle.pages.specs.Papers.{runRefusal}
+use Rattle.pages.proofs.Ran.{run-refusal, run-refused, judge-refusal, judge-refused, none-reported}
 
 -- a refusal that is another one's, and leaves nothing where the other does
 as-said : {refusal said table : ℕ} {Said Nothing : Type 0} → refusal ≡ said → Refuses said table Said
@@ -147,6 +156,50 @@ steps {block} {ancillary} {mark} p =
       λ long. p .leaves ∙ (λ i. none .block-as-lent i .bits ∷ none .block-as-lent i .octets) ∙ first-rest block (λ none. omega (arith, long, none)),
       p .hands ∙ ap₂ (λ (answer : ℕ) (octets : List ℕ). answer ∷ octets) (none .neither) (none .zeros-out),
     ))
+
+pub runs : {block ancillary marks : List ℕ} {from step refusal : ℕ} {left out : List ℕ} {next : ℕ}
+    → RanOctets block ancillary marks from step refusal left out next
+    → Refuses refusal (runRefusal block ancillary marks from step) ((length block ≡ 25 → left ≡ block) × (out ≡ replicate 25 0) × (next ≡ 0))
+runs {block} {ancillary} {marks} {from} {step} p =
+    record {
+      by-the-table = p .refused ∙ run-refusal block ancillary marks from step;
+      then-nothing =
+          λ some.
+          let is = run-refused (blockOf block) ancillary marks from step (λ none. some (p .refused ∙ none)) in (
+            λ long.
+                p .leaves ∙ ap (λ (r : Ran). r .stepped .block .bits ∷ r .stepped .block .octets) is ∙ first-rest block (λ none. omega (arith, long, none)),
+            p .hands ∙ ap (λ (r : Ran). r .stepped .handed .answer ∷ r .stepped .handed .octets) is,
+            p .goes-on ∙ ap (λ (r : Ran). r .next) is,
+          );
+    }
+
+pub names-format : (octet : ℕ) {refusal : ℕ} {facts : List ℕ}
+    → (refusal ≡ formatRefusal octet) × (facts ≡ formatNumbers (formatOf octet))
+    → Refuses refusal (cond (isListed octet) 0 1) (facts ≡ replicate 4 0)
+unfolding formatOf
+names-format octet p =
+    record {
+      by-the-table = p .0;
+      then-nothing = λ some. split (isListed octet) (λ e. absurd (some (p .0 ∙ rw e))) (λ e. p .1 ∙ rw e);
+    }
+
+pub judges : {state log : List ℕ} {place : ℕ} {reports : List ℕ} {refusal : ℕ} {left reports₁ counts : List ℕ}
+    → JudgedOctets state log place reports refusal left reports₁ counts
+    → Refuses refusal (R.stateRefusal (receiverOf state)) ((left ≡ state) × (reports₁ ≡ reports) × (counts ≡ replicate 3 0))
+unfolding over
+judges {state} {log} {place} {reports} p =
+    let st = receiverOf state in
+    let by = p .refused ∙ judge-refusal st log place (length reports) in
+    record {
+      by-the-table = by;
+      then-nothing =
+          λ some.
+          let refused : R.stateRefusal st ≡ 0 → ⊥ = λ none. some (by ∙ none) in (
+            stays _ _ (λ none. some (p .refused ∙ none)) (p .leaves),
+            p .judges .reports-after ∙ ap (λ (given : List ℕ). over given reports) (none-reported st log place (length reports) refused),
+            p .counted ∙ ap judgedNumbers (judge-refused st log place (length reports) refused),
+          );
+    }
 
 pub reads-header : (log : List ℕ) {refusal : ℕ} {header : List ℕ}
     → (refusal ≡ headerOf log .refusal) × (header ≡ headerNumbers (headerOf log))
@@ -289,3 +342,16 @@ watches {watch} {report} p =
             p .tells ∙ ap₂ (λ (a b : ℕ). a ∷ b ∷ []) (nothing .nothing-told) (nothing .no-cells),
           );
     }
+
+pub settles : {port : List ℕ} {refusal : ℕ} {settings : List ℕ} → Sets port refusal settings
+    → Refuses refusal (recordRefusal port) (settings ≡ replicate 3 0)
+settles {port} {refusal} {settings} p =
+    let one = management.demand-1-port-settings (record { port = port; refusal = refusal; settings = settings }) p in
+    record { by-the-table = one .0; then-nothing = one .1 }
+
+pub packs : {format channels order refusal packing : ℕ} → Packs format channels order refusal packing
+    → Refuses refusal (settingsRefusal format channels order) (packing ≡ 0)
+packs {format} {channels} {order} {refusal} {packing} p =
+    let one = management.demand-1-port-packing
+    (record { format = format; channels = channels; order = order; refusal = refusal; packing = packing }) p in
+    record { by-the-table = one .0; then-nothing = one .1 }
