@@ -1,0 +1,33 @@
+/*
+ * A log that is recorded: it has its own name from the start, whole records are appended, and what was appended stays whatever
+ * happens. output.c is for files that are whole or not there at all.
+ */
+#ifndef KEPT_H
+#define KEPT_H
+
+#include "desk.h"
+
+enum { KEPT_HELD = 1024 };        /* records */
+enum { KEPT_RECORDS = 87652393 }; /* the most in a log of 4,294,967,295 octets */
+
+struct kept {
+    char *path;
+    int fd;
+    uint64_t octets;  /* written */
+    uint64_t records; /* in all, those that are held among them */
+    bool reserved;    /* room was taken beforehand */
+    uint8_t held[KEPT_HELD * RIME_RECORD_OCTETS];
+    uint64_t used; /* octets of it that aren't written yet */
+};
+
+/* The name of a piece: OUT.log is followed by OUT.2.log. To be freed. */
+char *kept_name(const char *name, unsigned piece);
+
+/* Each says what is wrong. Where writing fails, the log is cut to whole records, closed, and how many are kept is said. */
+int kept_open(struct kept *kept, const char *name, unsigned piece, struct settings settings); /* a status */
+bool kept_reserve(struct kept *kept, uint64_t octets);
+bool kept_put(struct kept *kept, const uint8_t cell[RIME_CELL_OCTETS], bool indication);
+bool kept_sync(struct kept *kept);  /* all of it is on the disk */
+bool kept_close(struct kept *kept); /* that too; room that wasn't used is given back */
+
+#endif

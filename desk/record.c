@@ -1,0 +1,387 @@
+/* rimesatchel record: what comes from the line into a log, durably, with a status that a nightly job can trust. */
+#include <argp.h>
+#include <err.h>
+#include <errno.h>
+#include <linux/sock_diag.h>
+#include <netinet/in.h>
+#include <poll.h>
+#include <stdio.h>
+#include <string.h>
+#include <time.h>
+#include <unistd.h>
+
+#include "capture.h"
+#include "options.h"
+#include "told.h"
+
+enum { SECOND = 1000000000, BATCH = 64, ROOM = 4 << 20, DOZE = 10, LOOK = 200, MILLI = 1000000, WRONG_CALL = 64 };
+enum { GAP = RIME_MOST_MISSING, PIECES = 100, PIECES_MOST = 10000, RATE = 48000, SILENCE = 10 };
+
+struct record {
+    const char *capture_name, *from;
+    bool listens, is_every, is_port;
+    struct end at;
+    unsigned port, gap;
+    uint64_t for_, idle; /* nanoseconds; 0 where they aren't given */
+
+    struct recording recording;
+    struct order order;
+    struct told told;
+    struct senders senders;
+    int socket;
+    uint64_t synced;
+};
+
+static volatile sig_atomic_t stopped;
+
+static void stop(int number) {
+    stopped = number;
+}
+
+enum { KEY_FOR = 256, KEY_IDLE, KEY_MOST, KEY_GAP, KEY_PIECES, KEY_EVERY, KEY_SILENCE, KEY_LEAST, KEY_ALLOW };
+
+static const struct argp_option options[] = {
+    {"listen", 'L', "[ADDRESS:]PORT", 0, "take datagrams that come here; the address is 127.0.0.1 where none is given", 0},
+    {"capture", 'C', "FILE", 0, "take datagrams from a capture instead", 0},
+    {"port", 'p', "PORT", 0, "the port in the capture; 6635 where this is left out", 0},
+    {"from", 'H', "HOST", 0, "take datagrams of this host alone; must be given where ADDRESS isn't loopback", 0},
+    {"label", 'l', "NUMBER", 0, "label of the pseudowire, 16 to 1048575; 100 where this is left out", 0},
+    {"circuit", 'c', "VPI/VCI", 0, "the circuit on it; 0/128 where this is left out", 0},
+    {"format", 'f', "OCTET", 0, "subframe format, in hex; 56 where this is left out", 0},
+    {"channels", 'n', "NUMBER", 0, "channels; must be given", 0},
+    {"order", 'o', "0|1", 0, "order of the slots in a cell; 0 where this is left out", 0},
+    {"rate", 'r', "HZ", 0, "sampling frequency; 48000 where this is left out", 0},
+    {"for", KEY_FOR, "S", 0, "end after S seconds; room on the disk is taken beforehand", 0},
+    {"idle", KEY_IDLE, "S", 0, "end when no cell came for S seconds", 0},
+    {"most", KEY_MOST, "OCTETS", 0, "the most octets of all logs; where more comes the status is 3", 0},
+    {"gap", KEY_GAP, "CELLS", 0, "begin a new log where more cells than this are lost in a row; 14 where this is left out", 0},
+    {"pieces", KEY_PIECES, "NUMBER", 0, "the most logs; 100 where this is left out", 0},
+    {"every", KEY_EVERY, "S", 0, "a line each S seconds; on a terminal each second where this is left out", 0},
+    {"silence", KEY_SILENCE, "S", 0, "tell of silence from S seconds on; 10 where this is left out. Given: a longer one is a no", 0},
+    {"least", KEY_LEAST, "S", 0, "less sound than S seconds is a no", 0},
+    {"allow", KEY_ALLOW, "NUMBER", 0, "this number of cells in a million may be missing", 0},
+    {"quiet", 'q', NULL, 0, "no line while it runs and no summary", 0},
+    {0},
+};
+
+/* Seconds, also a part of one, in nanoseconds. */
+static uint64_t option_seconds(const struct argp_state *state, const char *name, const char *word) {
+    char *end;
+    double number = strtod(word, &end);
+    if (strspn(word, "0123456789.") != strlen(word) || *end != '\0' || number < 0.001 || number > 1e9)
+        argp_error(state, "--%s: seconds, 0.001 to 1000000000", name);
+    return (uint64_t)(number * SECOND + 0.5);
+}
+
+static uint64_t option_within(const struct argp_state *state, const char *name, const char *word, uint64_t least, uint64_t most) {
+    uint64_t number = option_up_to(state, name, word, 10, UINT64_MAX);
+    if (number < least || number > most)
+        argp_error(state, "--%s: %llu to %llu", name, (unsigned long long)least, (unsigned long long)most);
+    return number;
+}
+
+/* In formats without overhead nothing in the log could tell the place: there every lost datagram begins a new one. */
+static void see_call(struct record *record, const struct argp_state *state) {
+    const struct settings *settings = &record->recording.settings;
+    uint32_t facts[RIME_FORMAT];
+    bool known = rime_format(settings->format, facts) == RIME_DONE;
+    if (record->recording.name == NULL) argp_usage(state);
+    if (strcmp(record->recording.name, "-") == 0) argp_error(state, "a log is recorded into a file");
+    if (record->listens == (record->capture_name != NULL)) argp_error(state, "one of --listen and --capture");
+    if (record->is_port && record->listens) argp_error(state, "--port goes with --capture");
+    if (settings->channels == UINT32_MAX) argp_error(state, "--channels must be given");
+    if (known && facts[RIME_FORMAT_OVERHEAD_BITS] == 0 && record->gap > 0 && record->gap != UINT32_MAX)
+        argp_error(state, "--gap: %02X hex has no overhead, and every lost datagram begins a new log", settings->format);
+    record->recording.gap = record->gap == UINT32_MAX ? GAP : record->gap;
+    if (record->recording.gap > RIME_MOST_MISSING)
+        argp_error(state, "--gap: more than %d isn't told yet by what this is built with", RIME_MOST_MISSING);
+}
+
+static error_t parse_limit(int key, char *word, struct argp_state *state) {
+    struct record *record = state->input;
+    struct recording *recording = &record->recording;
+    struct told *told = &record->told;
+    switch (key) {
+    case KEY_FOR: record->for_ = option_seconds(state, "for", word); break;
+    case KEY_IDLE: record->idle = option_seconds(state, "idle", word); break;
+    case KEY_MOST:
+        recording->most = option_within(state, "most", word, RIME_HEADER_OCTETS + RIME_RECORD_OCTETS, INT64_MAX);
+        break;
+    case KEY_GAP: record->gap = (unsigned)option_within(state, "gap", word, 0, 119); break;
+    case KEY_PIECES: recording->pieces = (unsigned)option_within(state, "pieces", word, 1, PIECES_MOST); break;
+    case KEY_EVERY:
+        told->every = option_seconds(state, "every", word);
+        record->is_every = true;
+        break;
+    case KEY_SILENCE:
+        recording->silence = option_seconds(state, "silence", word);
+        told->demands.is_silence = true;
+        break;
+    case KEY_LEAST: told->demands.least = option_seconds(state, "least", word); break;
+    case KEY_ALLOW:
+        told->demands.allowed = option_within(state, "allow", word, 0, 1000000);
+        told->demands.is_allowed = true;
+        break;
+    default: return ARGP_ERR_UNKNOWN;
+    }
+    return 0;
+}
+
+static error_t parse(int key, char *word, struct argp_state *state) {
+    struct record *record = state->input;
+    struct settings *settings = &record->recording.settings;
+    switch (key) {
+    case 'L':
+        record->at = option_end(state, "listen", word, OPTION_PORT);
+        record->listens = true;
+        break;
+    case 'C': record->capture_name = word; break;
+    case 'p':
+        record->port = (unsigned)option_within(state, "port", word, 1, 65535);
+        record->is_port = true;
+        break;
+    case 'H': record->from = word; break;
+    case 'l': record->recording.circuit.label = option_label(state, word); break;
+    case 'c': option_circuit(state, word, &record->recording.circuit); break;
+    case 'f': settings->format = option_number(state, "format", word, 16); break;
+    case 'n': settings->channels = (unsigned)option_up_to(state, "channels", word, 10, UINT32_MAX - 1); break;
+    case 'o': settings->order = option_number(state, "order", word, 10); break;
+    case 'r': record->recording.rate = option_rate(state, word); break;
+    case 'q': record->recording.quiet = record->told.quiet = true; break;
+    case ARGP_KEY_ARG:
+        if (record->recording.name != NULL) argp_usage(state);
+        record->recording.name = word;
+        break;
+    case ARGP_KEY_END: see_call(record, state); break;
+    default: return parse_limit(key, word, state);
+    }
+    return 0;
+}
+
+static uint64_t now(void) {
+    struct timespec time;
+    clock_gettime(CLOCK_MONOTONIC, &time);
+    return (uint64_t)time.tv_sec * SECOND + (uint64_t)time.tv_nsec;
+}
+
+/* A buffer for what comes while the disk keeps us waiting. */
+static void take_room(const struct record *record) {
+    int room = ROOM, got = 0;
+    socklen_t size = sizeof got;
+    if (setsockopt(record->socket, SOL_SOCKET, SO_RCVBUFFORCE, &room, sizeof room) != 0)
+        setsockopt(record->socket, SOL_SOCKET, SO_RCVBUF, &room, sizeof room);
+    getsockopt(record->socket, SOL_SOCKET, SO_RCVBUF, &got, &size);
+    if (got / 2 < ROOM) /* the system says twice what it gives */
+        warnx("the socket's buffer is %d octets and not %d: sysctl net.core.rmem_max", got / 2, ROOM);
+}
+
+static int open_socket(struct record *record) {
+    if (record->at.host[0] == '\0') strcpy(record->at.host, "127.0.0.1");
+    struct addrinfo *found = line_find(&record->at);
+    if (found == NULL) return STATUS_FILE;
+    struct sockaddr_storage here = {0};
+    memcpy(&here, found->ai_addr, found->ai_addrlen);
+    struct address address = address_of(&here);
+    int status = STATUS_WELL, one = 1;
+    if (record->from == NULL && !address_is_home(&address)) {
+        warnx("--listen: %s isn't loopback, and everybody could write into the reading: --from HOST", record->at.host);
+        status = WRONG_CALL;
+    } else {
+        record->socket = socket(found->ai_family, SOCK_DGRAM | SOCK_CLOEXEC, 0);
+        if (found->ai_family == AF_INET6) setsockopt(record->socket, IPPROTO_IPV6, IPV6_V6ONLY, &one, sizeof one);
+        if (record->socket < 0 || bind(record->socket, found->ai_addr, found->ai_addrlen) != 0) {
+            warn("%s, port %u", record->at.host, record->at.port);
+            status = STATUS_FILE;
+        } else take_room(record);
+    }
+    freeaddrinfo(found);
+    return status;
+}
+
+/* False where nothing more can be written. */
+static bool take(struct record *record, struct datagram datagram, const struct address *from) {
+    struct recording *recording = &record->recording;
+    uint16_t sequence;
+    enum wire why = senders_have(&record->senders, from)
+                        ? wire_datagram(datagram.octets, datagram.count, &recording->circuit, &sequence)
+                        : WIRE_STRANGER;
+    if (why == WIRE_TAKEN) return order_take(&record->order, sequence, datagram);
+    recording->not_taken[why]++;
+    return true;
+}
+
+/* What the time brings: those that waited long enough, lines, the disk each second. */
+static bool pass(struct record *record, uint64_t time) {
+    struct recording *recording = &record->recording;
+    if (!order_wait(&record->order, time)) return false;
+    recording_at(recording, time);
+    told_at(&record->told, time);
+    return true;
+}
+
+static bool is_over(const struct record *record, uint64_t time) {
+    const struct recording *recording = &record->recording;
+    if (stopped != 0) return true;
+    if (record->for_ != 0 && time >= recording->begun && time - recording->begun >= record->for_) return true;
+    return record->idle != 0 && time >= recording->last && time - recording->last >= record->idle;
+}
+
+static void begin(struct record *record, uint64_t time) {
+    record->recording.begun = record->recording.last = record->recording.now = record->synced = record->told.since = time;
+    record->told.next = time + record->told.every;
+}
+
+struct batch {
+    struct mmsghdr messages[BATCH];
+    struct iovec places[BATCH];
+    struct sockaddr_storage from[BATCH];
+    uint8_t octets[BATCH][WIRE_ROOM + 1]; /* one that is longer has more than can be taken */
+};
+
+/* How many came, at most a batch; -1 where the socket fails. */
+static int receive(const struct record *record, struct batch *batch) {
+    for (int at = 0; at < BATCH; at++) {
+        batch->places[at] = (struct iovec){batch->octets[at], sizeof batch->octets[at]};
+        batch->messages[at].msg_hdr = (struct msghdr){.msg_name = &batch->from[at],
+                                                      .msg_namelen = sizeof batch->from[at],
+                                                      .msg_iov = &batch->places[at],
+                                                      .msg_iovlen = 1};
+    }
+    int came = recvmmsg(record->socket, batch->messages, BATCH, MSG_DONTWAIT, NULL);
+    if (came >= 0) return came;
+    return errno == EAGAIN || errno == EINTR ? 0 : -1;
+}
+
+/* The counter that SO_RXQ_OVFL hands out with the next datagram: asked for here, it has those behind the last one too. */
+static void count_dropped(struct record *record) {
+    uint32_t about[SK_MEMINFO_VARS] = {0};
+    socklen_t room = sizeof about;
+    if (getsockopt(record->socket, SOL_SOCKET, SO_MEMINFO, about, &room) == 0) record->told.dropped = about[SK_MEMINFO_DROPS];
+}
+
+/* Sleeps, so that many datagrams are read at a time. Where none come it waits for one, or for what the time brings. */
+static void doze(const struct record *record, bool any) {
+    struct timespec little = {0, DOZE * MILLI};
+    struct pollfd wait = {record->socket, POLLIN, 0};
+    if (any || record->order.full > 0) nanosleep(&little, NULL);
+    else poll(&wait, 1, LOOK);
+}
+
+static int from_socket(struct record *record) {
+    static struct batch batch;
+    begin(record, now());
+    for (uint64_t time = record->recording.begun; !is_over(record, time); time = now()) {
+        int came = receive(record, &batch);
+        time = now();
+        for (int at = 0; at < came; at++) {
+            struct datagram datagram = {batch.octets[at], batch.messages[at].msg_len, time};
+            struct address from = address_of(&batch.from[at]);
+            if (!take(record, datagram, &from)) return STATUS_FILE;
+        }
+        if (came < 0) return say_failed(record->at.host);
+        if (!pass(record, time)) return STATUS_FILE;
+        if (time - record->synced >= SECOND) {
+            if (!kept_sync(&record->recording.kept)) return STATUS_FILE;
+            record->synced = now();
+        }
+        if (came < BATCH) doze(record, came > 0);
+    }
+    count_dropped(record);
+    return order_end(&record->order) ? STATUS_WELL : STATUS_FILE;
+}
+
+static int from_capture(struct record *record, struct capture *capture) {
+    struct captured captured;
+    enum capture_step step;
+    bool begun = false;
+    while ((step = capture_next(capture, &captured)) == CAPTURE_DATAGRAM) {
+        struct datagram datagram = {captured.octets, captured.count, captured.came};
+        if (!begun) begin(record, captured.came);
+        begun = true;
+        if (is_over(record, captured.came)) break;
+        if (!pass(record, captured.came) || !take(record, datagram, &captured.from)) return STATUS_FILE;
+    }
+    if (!order_end(&record->order)) return STATUS_FILE;
+    if (capture->passed > 0 && !record->told.quiet)
+        fprintf(stderr, "%s: %llu packet%s passed over, %llu of them captured in part\n", capture->name,
+                (unsigned long long)capture->passed, plural(capture->passed), (unsigned long long)capture->part);
+    return step == CAPTURE_CUT ? STATUS_REFUSED : step == CAPTURE_FAILED ? STATUS_FILE : STATUS_WELL;
+}
+
+/* The end is orderly whatever brings it. A write that fails is told by write; a line that can't be printed ends nothing. */
+static void set_signals(void) {
+    struct sigaction action = {.sa_handler = stop}, before;
+    sigaction(SIGINT, &action, NULL);
+    sigaction(SIGTERM, &action, NULL);
+    if (sigaction(SIGHUP, NULL, &before) == 0 && before.sa_handler != SIG_IGN) sigaction(SIGHUP, &action, NULL);
+    signal(SIGXFSZ, SIG_IGN);
+    signal(SIGPIPE, SIG_IGN);
+}
+
+/* Octets of all cells that can come in the time. */
+static uint64_t room_for(const struct record *record) {
+    const struct recording *recording = &record->recording;
+    uint32_t facts[RIME_FORMAT];
+    unsigned channels = recording->settings.channels;
+    if (record->for_ == 0 || rime_format(recording->settings.format, facts) != RIME_DONE || channels == 0) return 0;
+    unsigned times = facts[RIME_FORMAT_SLOTS] / channels;
+    if (times == 0) return 0;
+    double cells = (double)record->for_ / SECOND * recording->rate / times + 1;
+    uint64_t room = RIME_HEADER_OCTETS + (uint64_t)cells * RIME_RECORD_OCTETS;
+    return room < recording->most ? room : recording->most;
+}
+
+static int record_all(struct record *record, struct capture *capture) {
+    struct recording *recording = &record->recording;
+    int status = recording_open(recording);
+    if (status != STATUS_WELL) return status;
+    status = record->listens ? from_socket(record) : from_capture(record, capture);
+    if (!recording_close(recording)) status = STATUS_FILE;
+    told_clear();
+    if (recording->full)
+        warnx("%s: more came than --most lets in: %llu records are kept", recording->name, (unsigned long long)recording->cells);
+    if (!record->told.quiet) told_summary(&record->told);
+    status = told_answer(&record->told, status);
+    told_line(&record->told, status);
+    return printed(status);
+}
+
+int desk_record(int argc, char **argv) {
+    static struct record record = {
+        .port = WIRE_PORT,
+        .gap = UINT32_MAX,
+        .socket = -1,
+        .senders.any = true,
+        .recording = {.circuit = {100, 0, 128},
+                      .settings = {0x56, UINT32_MAX, 0, 0, 0},
+                      .rate = RATE,
+                      .pieces = PIECES,
+                      .most = UINT64_MAX,
+                      .silence = UINT64_C(1000000000) * SILENCE},
+    };
+    static struct capture capture;
+    static const struct argp argp = {
+        .options = options,
+        .parser = parse,
+        .args_doc = "OUT.log",
+        .doc = "Records what comes from the line: the cells of one circuit, from the datagrams of a pseudowire, into a log. Ends "
+               "with 1 where the reading isn't whole, or nothing came.",
+    };
+    argp_parse(&argp, argc, argv, 0, NULL, &record);
+    record.order.turn = recording_turn;
+    record.order.user = &record.recording;
+    record.told.recording = &record.recording;
+    record.told.order = &record.order;
+    record.told.terminal = !record.is_every && isatty(STDERR_FILENO);
+    if (record.told.terminal) record.told.every = SECOND;
+    if (record.told.quiet) record.told.every = 0;
+    record.recording.room = room_for(&record);
+    set_signals();
+    int status = record.from == NULL ? STATUS_WELL : senders_find(&record.senders, record.from);
+    if (status == STATUS_WELL)
+        status = record.listens ? open_socket(&record) : capture_open(&capture, record.capture_name, record.port);
+    if (status == STATUS_WELL) status = record_all(&record, &capture);
+    if (capture.buffer != NULL) capture_close(&capture);
+    if (record.socket >= 0) close(record.socket);
+    return status;
+}

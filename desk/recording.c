@@ -1,0 +1,205 @@
+/* Cells from the line into logs, with the receiver beside. */
+#include "recording.h"
+
+#include <err.h>
+#include <stdio.h>
+#include <stdlib.h>
+#include <string.h>
+#include <unistd.h>
+
+#include "told.h"
+
+static double seconds(uint64_t nanoseconds) {
+    return (double)nanoseconds / 1e9;
+}
+
+static double samples(const struct recording *recording, uint64_t times) {
+    return (double)times / recording->rate;
+}
+
+double recording_silence(const struct recording *recording) {
+    return samples(recording, recording->silent_most);
+}
+
+/* A line with the time before it. */
+static void say(const struct recording *recording, const char *words, double length) {
+    char time[DURATION], lasting[DURATION];
+    if (recording->quiet) return;
+    told_clear();
+    fprintf(stderr, "%s: %s%s\n", duration(seconds(recording->now - recording->begun), time), words,
+            duration(length, lasting));
+}
+
+/* No later piece may be there either: it would end a recording in the middle. */
+static int see_names(const struct recording *recording) {
+    for (unsigned piece = 1; piece <= recording->pieces; piece++) {
+        char *name = kept_name(recording->name, piece);
+        bool there = access(name, F_OK) == 0;
+        if (there) say_unfit(name, "is there already, and is kept");
+        free(name);
+        if (there) return STATUS_FILE;
+    }
+    return STATUS_WELL;
+}
+
+int recording_open(struct recording *recording) {
+    struct settings settings = recording->settings;
+    unsigned refusal = rime_receiver_open(settings.format, settings.channels, settings.order, recording->state);
+    if (refusal != RIME_DONE) return say_settings(recording->name, "the receiver is", refusal, settings);
+    recording->format = format_of(settings.format);
+    recording->times = recording->format.slots / settings.channels;
+    recording->entries = settings.channels * recording->times;
+    if (!recording->format.overhead) recording->gap = 0;
+    int status = see_names(recording);
+    if (status == STATUS_WELL) status = kept_open(&recording->kept, recording->name, 1, settings);
+    if (status != STATUS_WELL) return status;
+    recording->logs = 1;
+    return recording->room == 0 || kept_reserve(&recording->kept, recording->room) ? STATUS_WELL : STATUS_FILE;
+}
+
+/* The next log. What is left of the room goes with it. */
+static bool next_log(struct recording *recording) {
+    struct kept *kept = &recording->kept;
+    uint64_t used = kept->octets + kept->used;
+    recording->full = recording->most - used < RIME_HEADER_OCTETS + RIME_RECORD_OCTETS;
+    if (recording->full) return false;
+    if (!kept_close(kept) || kept_open(kept, recording->name, recording->logs + 1, recording->settings) != STATUS_WELL)
+        return false;
+    recording->logs++;
+    recording->room = recording->room > used ? recording->room - used : 0;
+    recording->most -= recording->most == UINT64_MAX ? 0 : used;
+    return recording->room == 0 || kept_reserve(kept, recording->room);
+}
+
+/* A new log, in which the receiver begins anew: the place of what follows isn't known, or it is another sender's. */
+static bool begin_piece(struct recording *recording, const char *why) {
+    uint64_t away = recording->away, record = recording->kept.records;
+    recording->missing += away;
+    recording->gaps += away > 0;
+    recording->away = recording->turned = 0;
+    if (record == 0) return true;
+    if (recording->cuts + 1 >= recording->pieces) {
+        told_clear();
+        if (recording->past_pieces++ == 0)
+            warnx("%s: %s after record %llu, and %u logs is the most: from here on cells may stand in a wrong place",
+                  recording->kept.path, why, (unsigned long long)record, recording->pieces);
+        return true;
+    }
+    recording->cuts++;
+    char *before = strdup(recording->kept.path);
+    bool good = next_log(recording);
+    told_clear();
+    if (good && before != NULL)
+        warnx("%s begins: %s after record %llu of %s, %llu cell%s lost", recording->kept.path, why,
+              (unsigned long long)record, before, (unsigned long long)away, plural(away));
+    free(before);
+    rime_receiver_open(recording->settings.format, recording->settings.channels, recording->settings.order, recording->state);
+    return good;
+}
+
+/* The log is as long as a log can be. The receiver goes on, but its count of cells placed is that of one log. */
+static bool begin_length(struct recording *recording) {
+    memset(recording->state + RIME_RECEIVER_COUNT, 0, sizeof(uint32_t));
+    return next_log(recording);
+}
+
+static void hear(struct recording *recording, uint64_t missing, bool heard) {
+    uint64_t threshold = recording->silence;
+    recording->silent += missing * recording->times;
+    if (!heard) recording->silent += recording->times;
+    if (recording->silent > recording->silent_most) recording->silent_most = recording->silent;
+    double length = samples(recording, recording->silent);
+    if (!recording->is_silent && length >= seconds(threshold)) {
+        recording->is_silent = true;
+        say(recording, "nothing but silence for ", length);
+    }
+    if (!heard) return;
+    if (recording->is_silent) say(recording, "sound again, after silence of ", length);
+    recording->is_silent = false;
+    recording->silent = 0;
+    recording->heard++;
+}
+
+/* What the receiver makes of a cell. */
+static void judge(struct recording *recording, const uint8_t cell[RIME_CELL_OCTETS], bool indication) {
+    static uint64_t values[DESK_ROOM];
+    static uint8_t ancillary[DESK_ROOM], marks[DESK_ROOM];
+    uint8_t report[RIME_REPORT];
+    unsigned refusal = rime_receive(recording->state, cell, RIME_CELL_OCTETS, indication, values, DESK_ROOM, ancillary,
+                                    DESK_ROOM, marks, DESK_ROOM, report);
+    if (refusal != RIME_DONE) {
+        recording->refused++;
+        recording->refused_by[refusal]++;
+        recording->turned += refusal != RIME_REFUSED_REPEAT;
+        return;
+    }
+    uint64_t told = report[RIME_REPORT_MISSING], missing = told > recording->away ? told : recording->away;
+    bool heard = false;
+    size_t first = told * recording->entries;
+    for (size_t at = first; at < first + recording->entries; at++) {
+        recording->damaged += marks[at] == RIME_MARK_DOUBTFUL;
+        heard |= marks[at] == RIME_MARK_SOUND && values[at] != 0;
+    }
+    recording->sound++;
+    recording->missing += missing;
+    recording->gaps += missing > 0;
+    recording->time += (told + 1) * recording->times;
+    recording->away = recording->turned = 0;
+    hear(recording, told, heard);
+}
+
+static bool put_cell(struct recording *recording, const uint8_t cell[RIME_CELL_OCTETS], bool indication) {
+    struct kept *kept = &recording->kept;
+    bool gap = recording->away > 0 && recording->away + recording->turned > recording->gap;
+    if (gap && !begin_piece(recording, "a gap")) return false;
+    if (kept->records == KEPT_RECORDS && !begin_length(recording)) return false;
+    if (kept->octets + kept->used + RIME_RECORD_OCTETS > recording->most) {
+        recording->full = true;
+        return false;
+    }
+    recording->cells++;
+    if (!kept_put(kept, cell, indication)) return false;
+    judge(recording, cell, indication);
+    return true;
+}
+
+static void came(struct recording *recording, uint64_t now) {
+    if (now <= recording->last) return;
+    if (recording->is_off) say(recording, "cells again, after ", seconds(now - recording->last));
+    recording->is_off = false;
+    recording->last = now;
+}
+
+bool recording_turn(const struct turn *turn, void *user) {
+    struct recording *recording = user;
+    const uint8_t *octets = turn->datagram.octets;
+    if (turn->again && !begin_piece(recording, "the sender began again")) return false;
+    recording->lost += turn->lost;
+    recording->away += turn->lost * turn->each;
+    for (size_t at = WIRE_FRONT; at < turn->datagram.count; at += WIRE_CELL) {
+        bool indication;
+        enum wire why = wire_header(octets + at, &recording->circuit, &indication);
+        if (why != WIRE_TAKEN) {
+            recording->not_taken[why]++;
+            continue;
+        }
+        came(recording, turn->datagram.came);
+        if (!put_cell(recording, octets + at + WIRE_HEADER, indication)) return false;
+    }
+    return true;
+}
+
+void recording_at(struct recording *recording, uint64_t now) {
+    recording->now = now;
+    uint64_t off = now > recording->last ? now - recording->last : 0;
+    if (recording->is_off || off < recording->silence) return;
+    recording->is_off = true;
+    say(recording, "NO CELL for ", seconds(off));
+}
+
+bool recording_close(struct recording *recording) {
+    recording->missing += recording->away;
+    recording->gaps += recording->away > 0;
+    recording->away = 0;
+    return recording->kept.fd < 0 || kept_close(&recording->kept);
+}
