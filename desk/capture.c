@@ -1,4 +1,5 @@
-/* Capture files, in and out. A packet is looked at where it stands, and no length in it is believed before it is compared. */
+/* Capture files, in and out. A packet is looked at where it stands, and no length in it is believed before it is
+ * compared. */
 #include "capture.h"
 
 #include <err.h>
@@ -78,7 +79,8 @@ static bool in_ipv6(struct rest *rest, struct address *from, bool *part) {
     return within(rest, IPV6, IPV6 + get16(at + 4), part);
 }
 
-bool capture_find(const uint8_t *packet, size_t count, unsigned link, unsigned port, struct captured *captured, bool *part) {
+bool capture_find(const uint8_t *packet, size_t count, unsigned link, unsigned port, struct captured *captured,
+                  bool *part) {
     struct rest rest = {packet, count};
     unsigned type = link_type(&rest, link);
     *part = false;
@@ -99,7 +101,7 @@ static bool hold(struct capture *capture, size_t count) {
     capture->held -= capture->place;
     memmove(capture->buffer, capture->buffer + capture->place, capture->held);
     capture->place = 0;
-    while (capture->held < count && !capture->ended) {
+    while (capture->held < count && !capture->ended && *capture->stopped == 0) {
         ssize_t got = read(capture->fd, capture->buffer + capture->held, BUFFER - capture->held);
         if (got < 0 && errno == EINTR) continue;
         if (got < 0) {
@@ -130,15 +132,16 @@ static int read_start(struct capture *capture) {
     if (magic != MICRO && magic != NANO) return say_unknown(capture, "this isn't a capture (a classic pcap file)");
     capture->link = get32(start + 20, capture->big) & 0xFFFF;
     if (capture->link != LINK_ETHERNET && capture->link != LINK_RAW && capture->link != LINK_COOKED) {
-        warnx("%s: link %u isn't read: 1 (Ethernet), 101 (raw IP) and 113 (Linux cooked) are", capture->name, capture->link);
+        warnx("%s: link %u isn't read: 1 (Ethernet), 101 (raw IP) and 113 (Linux cooked) are", capture->name,
+              capture->link);
         return STATUS_REFUSED;
     }
     capture->place = CAPTURE_START;
     return STATUS_WELL;
 }
 
-int capture_open(struct capture *capture, const char *name, unsigned port) {
-    *capture = (struct capture){.name = shown(name, false), .port = port};
+int capture_open(struct capture *capture, const char *name, unsigned port, const volatile sig_atomic_t *stopped) {
+    *capture = (struct capture){.name = shown(name, false), .port = port, .stopped = stopped};
     capture->fd = strcmp(name, "-") == 0 ? STDIN_FILENO : open(name, O_RDONLY | O_CLOEXEC);
     if (capture->fd < 0) return say_failed(name);
     capture->buffer = malloc(BUFFER);
@@ -169,12 +172,14 @@ enum capture_step capture_next(struct capture *capture, struct captured *capture
         bool part;
         if (capture_find(header + PACKET_HEADER, count, capture->link, capture->port, captured, &part)) {
             uint64_t part_of_second = get32(header + 4, capture->big);
-            captured->came = get32(header, capture->big) * UINT64_C(1000000000) + part_of_second * (capture->nano ? 1 : 1000);
+            captured->came =
+                get32(header, capture->big) * UINT64_C(1000000000) + part_of_second * (capture->nano ? 1 : 1000);
             return CAPTURE_DATAGRAM;
         }
         capture->passed++;
         capture->part += part;
     }
+    if (*capture->stopped != 0) return CAPTURE_STOPPED;
     warnx("%s: the capture is cut or damaged %llu octets after its start", capture->name,
           (unsigned long long)(capture->octets - (capture->held - capture->place)));
     return CAPTURE_CUT;

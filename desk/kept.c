@@ -16,7 +16,8 @@ char *kept_name(const char *name, unsigned piece) {
     const char *slash = strrchr(name, '/'), *dot = strrchr(slash == NULL ? name : slash, '.');
     int stem = dot == NULL || dot == name || dot[-1] == '/' ? (int)strlen(name) : (int)(dot - name);
     char *path;
-    int length = piece == 1 ? asprintf(&path, "%s", name) : asprintf(&path, "%.*s.%u%s", stem, name, piece, name + stem);
+    int length =
+        piece == 1 ? asprintf(&path, "%s", name) : asprintf(&path, "%.*s.%u%s", stem, name, piece, name + stem);
     if (length < 0) errx(STATUS_FILE, "%s: no memory", name);
     return path;
 }
@@ -39,7 +40,8 @@ static bool failed(struct kept *kept, const char *what) {
         leave(kept);
         return false;
     }
-    if (ftruncate(kept->fd, (off_t)whole) != 0) warn("%s: a part of a record at its end couldn't be cut off", kept->path);
+    if (ftruncate(kept->fd, (off_t)whole) != 0)
+        warn("%s: a part of a record at its end couldn't be cut off", kept->path);
     if (fdatasync(kept->fd) != 0) warn("%s: whether it is on the disk isn't known", kept->path);
     warnx("%s: %llu whole record%s kept", kept->path, (unsigned long long)records, records == 1 ? " is" : "s are");
     leave(kept);
@@ -105,8 +107,8 @@ bool kept_reserve(struct kept *kept, uint64_t octets) {
 bool kept_put(struct kept *kept, const uint8_t cell[RIME_CELL_OCTETS], bool indication) {
     if (kept->used + RIME_RECORD_OCTETS > sizeof kept->held && !write_held(kept)) return false;
     kept->records++;
-    return rime_log_put_record(kept->held, sizeof kept->held, kept->used, cell, RIME_CELL_OCTETS, indication, &kept->used) ==
-           RIME_DONE;
+    return rime_log_put_record(kept->held, sizeof kept->held, kept->used, cell, RIME_CELL_OCTETS, indication,
+                               &kept->used) == RIME_DONE;
 }
 
 bool kept_close(struct kept *kept) {

@@ -1,6 +1,6 @@
 /*
- * A log that is recorded: it has its own name from the start, whole records are appended, and what was appended stays whatever
- * happens. output.c is for files that are whole or not there at all.
+ * A log that is recorded: it has its own name from the start, whole records are appended, and what was appended stays
+ * whatever happens. output.c is for files that are whole or not there at all.
  */
 #ifndef KEPT_H
 #define KEPT_H
@@ -23,7 +23,8 @@ struct kept {
 /* The name of a piece: OUT.log is followed by OUT.2.log. To be freed. */
 char *kept_name(const char *name, unsigned piece);
 
-/* Each says what is wrong. Where writing fails, the log is cut to whole records, closed, and how many are kept is said. */
+/* Each says what is wrong. Where writing fails, the log is cut to whole records, closed, and how many are kept is said.
+ */
 int kept_open(struct kept *kept, const char *name, unsigned piece, struct settings settings); /* a status */
 bool kept_reserve(struct kept *kept, uint64_t octets);
 bool kept_put(struct kept *kept, const uint8_t cell[RIME_CELL_OCTETS], bool indication);

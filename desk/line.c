@@ -20,8 +20,8 @@ uint32_t option_label(const struct argp_state *state, const char *word) {
 void option_circuit(const struct argp_state *state, const char *word, struct circuit *circuit) {
     unsigned vpi, vci;
     char more;
-    if (strspn(word, "0123456789/") != strlen(word) || sscanf(word, "%5u/%6u%c", &vpi, &vci, &more) != 2 || vpi > VPI_MOST ||
-        vci > VCI_MOST)
+    if (strspn(word, "0123456789/") != strlen(word) || sscanf(word, "%5u/%6u%c", &vpi, &vci, &more) != 2 ||
+        vpi > VPI_MOST || vci > VCI_MOST)
         argp_error(state, "--circuit: VPI/VCI, 0 to %d and 0 to %d", VPI_MOST, VCI_MOST);
     circuit->vpi = (uint16_t)vpi;
     circuit->vci = (uint16_t)vci;
@@ -38,7 +38,8 @@ struct end option_end(const struct argp_state *state, const char *name, const ch
     const char *host = word, *colon = strrchr(word, ':'), *bracket = strchr(word, ']');
     size_t length = colon == NULL ? strlen(word) : (size_t)(colon - word);
     if (word[0] == '[') {
-        if (bracket == NULL || (bracket[1] != '\0' && bracket + 1 != colon)) argp_error(state, "--%s: [ADDRESS]:PORT", name);
+        if (bracket == NULL || (bracket[1] != '\0' && bracket + 1 != colon))
+            argp_error(state, "--%s: [ADDRESS]:PORT", name);
         if (bracket[1] == '\0') colon = NULL;
         host = word + 1;
         length = (size_t)(bracket - host);
@@ -56,7 +57,8 @@ struct end option_end(const struct argp_state *state, const char *name, const ch
 }
 
 static struct addrinfo *look_up(const char *host, const char *port) {
-    struct addrinfo hints = {.ai_family = AF_UNSPEC, .ai_socktype = SOCK_DGRAM, .ai_flags = AI_NUMERICSERV}, *found = NULL;
+    struct addrinfo hints = {.ai_family = AF_UNSPEC, .ai_socktype = SOCK_DGRAM, .ai_flags = AI_NUMERICSERV},
+                    *found = NULL;
     int fault = getaddrinfo(host, port, &hints, &found);
     if (fault == 0) return found;
     warnx("%s: %s", host, gai_strerror(fault));

@@ -1,7 +1,8 @@
 /*
- * Datagrams in the order of their sequence numbers. One that comes before its turn waits, in a window of 64 numbers, until those
- * before it came, it has waited 50 ms, or one comes that the window has no place for. Late and repeated ones are counted and
- * dropped: numbers of cells count to 16 alone, and such a datagram would put all that follows in a wrong place.
+ * Datagrams in the order of their sequence numbers. One that comes before its turn waits, in a window of 64 numbers,
+ * until those before it came, it has waited 50 ms, or one comes that the window has no place for. Late and repeated
+ * ones are counted and dropped: numbers of cells count to 16 alone, and such a datagram would put all that follows in a
+ * wrong place.
  */
 #ifndef ORDER_H
 #define ORDER_H
@@ -43,10 +44,10 @@ struct order {
     order_turn *turn;
     void *user;
 
-    bool started, given; /* one came; one had its turn */
-    uint16_t next;       /* the number whose turn it is */
-    uint64_t gap;        /* numbers given up since the last turn */
-    uint64_t had;        /* of the 64 numbers before `next`, the last one lowest: those that had their turn */
+    bool started, given;  /* one came; one had its turn */
+    uint16_t next;        /* the number whose turn it is */
+    uint64_t gap;         /* numbers given up since the last turn */
+    uint64_t had;         /* of the 64 numbers before `next`, the last one lowest: those that had their turn */
     unsigned first, full; /* in `window`: the place of `next`, and how many wait */
     uint64_t oldest;      /* none that waits came before this */
     struct waiting window[ORDER_WINDOW];

@@ -38,7 +38,8 @@ struct play {
 };
 
 static const struct argp_option options[] = {
-    {"to", 't', "HOST[:PORT]", 0, "where the datagrams go; the port is 6635 where none is given, IPv6 stands in brackets", 0},
+    {"to", 't', "HOST[:PORT]", 0,
+     "where the datagrams go; the port is 6635 where none is given, IPv6 stands in brackets", 0},
     {"capture", 'C', "FILE", 0, "write a capture of the datagrams instead, with sample time from 0", 0},
     {"label", 'l', "NUMBER", 0, "label of the pseudowire, 16 to 1048575; 100 where this is left out", 0},
     {"circuit", 'c', "VPI/VCI", 0, "the circuit on it; 0/128 where this is left out", 0},
@@ -146,7 +147,8 @@ static enum step play_all(struct play *play) {
     enum step step;
     play->start = now();
     while ((step = reading_step(reading)) == STEP_SOUND || step == STEP_REFUSED) {
-        wire_cell(play->datagram + WIRE_FRONT + play->cells * WIRE_CELL, &play->circuit, reading->indication, reading->cell);
+        wire_cell(play->datagram + WIRE_FRONT + play->cells * WIRE_CELL, &play->circuit, reading->indication,
+                  reading->cell);
         if (++play->cells == play->group && !leave(play)) break;
     }
     leave(play);
@@ -185,8 +187,8 @@ static void say_summary(const struct play *play) {
             (unsigned long long)play->played, plural(play->played), (unsigned long long)play->datagrams,
             plural(play->datagrams), duration((double)due(play, play->played) / SECOND, length), play->rate);
     if (play->held_up > 0)
-        fprintf(stderr, "%s: held up %llu time%s, %.3f s in all\n", play->reading.name, (unsigned long long)play->held_up,
-                plural(play->held_up), (double)play->held_for / SECOND);
+        fprintf(stderr, "%s: held up %llu time%s, %.3f s in all\n", play->reading.name,
+                (unsigned long long)play->held_up, plural(play->held_up), (double)play->held_for / SECOND);
 }
 
 /* How the sending ended. */
@@ -229,7 +231,8 @@ int desk_play(int argc, char **argv) {
         .options = options,
         .parser = parse,
         .args_doc = "LOG",
-        .doc = "Plays a log onto the line: its cells in datagrams of a pseudowire, each when its last cell is over. A LOG - is "
+        .doc = "Plays a log onto the line: its cells in datagrams of a pseudowire, each when its last cell is over. A "
+               "LOG - is "
                "standard input.",
     };
     argp_parse(&argp, argc, argv, 0, NULL, &play);

@@ -2,19 +2,17 @@
 #include <argp.h>
 #include <err.h>
 #include <errno.h>
-#include <linux/sock_diag.h>
-#include <netinet/in.h>
-#include <poll.h>
 #include <stdio.h>
 #include <string.h>
 #include <time.h>
 #include <unistd.h>
 
 #include "capture.h"
+#include "listen.h"
 #include "options.h"
 #include "told.h"
 
-enum { SECOND = 1000000000, BATCH = 64, ROOM = 4 << 20, DOZE = 10, LOOK = 200, MILLI = 1000000, WRONG_CALL = 64 };
+enum { SECOND = 1000000000 };
 enum { GAP = RIME_MOST_MISSING, PIECES = 100, PIECES_MOST = 10000, RATE = 48000, SILENCE = 10 };
 
 struct record {
@@ -28,7 +26,8 @@ struct record {
     struct order order;
     struct told told;
     struct senders senders;
-    int socket;
+    struct listener listener;
+    struct capture capture;
     uint64_t synced;
 };
 
@@ -41,7 +40,8 @@ static void stop(int number) {
 enum { KEY_FOR = 256, KEY_IDLE, KEY_MOST, KEY_GAP, KEY_PIECES, KEY_EVERY, KEY_SILENCE, KEY_LEAST, KEY_ALLOW };
 
 static const struct argp_option options[] = {
-    {"listen", 'L', "[ADDRESS:]PORT", 0, "take datagrams that come here; the address is 127.0.0.1 where none is given", 0},
+    {"listen", 'L', "[ADDRESS:]PORT", 0, "take datagrams that come here; the address is 127.0.0.1 where none is given",
+     0},
     {"capture", 'C', "FILE", 0, "take datagrams from a capture instead", 0},
     {"port", 'p', "PORT", 0, "the port in the capture; 6635 where this is left out", 0},
     {"from", 'H', "HOST", 0, "take datagrams of this host alone; must be given where ADDRESS isn't loopback", 0},
@@ -54,10 +54,12 @@ static const struct argp_option options[] = {
     {"for", KEY_FOR, "S", 0, "end after S seconds; room on the disk is taken beforehand", 0},
     {"idle", KEY_IDLE, "S", 0, "end when no cell came for S seconds", 0},
     {"most", KEY_MOST, "OCTETS", 0, "the most octets of all logs; where more comes the status is 3", 0},
-    {"gap", KEY_GAP, "CELLS", 0, "begin a new log where more cells than this are lost in a row; 14 where this is left out", 0},
+    {"gap", KEY_GAP, "CELLS", 0,
+     "begin a new log where more cells than this are lost in a row; 14 where this is left out", 0},
     {"pieces", KEY_PIECES, "NUMBER", 0, "the most logs; 100 where this is left out", 0},
     {"every", KEY_EVERY, "S", 0, "a line each S seconds; on a terminal each second where this is left out", 0},
-    {"silence", KEY_SILENCE, "S", 0, "tell of silence from S seconds on; 10 where this is left out. Given: a longer one is a no", 0},
+    {"silence", KEY_SILENCE, "S", 0,
+     "tell of silence from S seconds on; 10 where this is left out. Given: a longer one is a no", 0},
     {"least", KEY_LEAST, "S", 0, "less sound than S seconds is a no", 0},
     {"allow", KEY_ALLOW, "NUMBER", 0, "this number of cells in a million may be missing", 0},
     {"quiet", 'q', NULL, 0, "no line while it runs and no summary", 0},
@@ -73,7 +75,8 @@ static uint64_t option_seconds(const struct argp_state *state, const char *name,
     return (uint64_t)(number * SECOND + 0.5);
 }
 
-static uint64_t option_within(const struct argp_state *state, const char *name, const char *word, uint64_t least, uint64_t most) {
+static uint64_t option_within(const struct argp_state *state, const char *name, const char *word, uint64_t least,
+                              uint64_t most) {
     uint64_t number = option_up_to(state, name, word, 10, UINT64_MAX);
     if (number < least || number > most)
         argp_error(state, "--%s: %llu to %llu", name, (unsigned long long)least, (unsigned long long)most);
@@ -91,7 +94,8 @@ static void see_call(struct record *record, const struct argp_state *state) {
     if (record->is_port && record->listens) argp_error(state, "--port goes with --capture");
     if (settings->channels == UINT32_MAX) argp_error(state, "--channels must be given");
     if (known && facts[RIME_FORMAT_OVERHEAD_BITS] == 0 && record->gap > 0 && record->gap != UINT32_MAX)
-        argp_error(state, "--gap: %02X hex has no overhead, and every lost datagram begins a new log", settings->format);
+        argp_error(state, "--gap: %02X hex has no overhead, and every lost datagram begins a new log",
+                   settings->format);
     record->recording.gap = record->gap == UINT32_MAX ? GAP : record->gap;
     if (record->recording.gap > RIME_MOST_MISSING)
         argp_error(state, "--gap: more than %d isn't told yet by what this is built with", RIME_MOST_MISSING);
@@ -164,40 +168,6 @@ static uint64_t now(void) {
     return (uint64_t)time.tv_sec * SECOND + (uint64_t)time.tv_nsec;
 }
 
-/* A buffer for what comes while the disk keeps us waiting. */
-static void take_room(const struct record *record) {
-    int room = ROOM, got = 0;
-    socklen_t size = sizeof got;
-    if (setsockopt(record->socket, SOL_SOCKET, SO_RCVBUFFORCE, &room, sizeof room) != 0)
-        setsockopt(record->socket, SOL_SOCKET, SO_RCVBUF, &room, sizeof room);
-    getsockopt(record->socket, SOL_SOCKET, SO_RCVBUF, &got, &size);
-    if (got / 2 < ROOM) /* the system says twice what it gives */
-        warnx("the socket's buffer is %d octets and not %d: sysctl net.core.rmem_max", got / 2, ROOM);
-}
-
-static int open_socket(struct record *record) {
-    if (record->at.host[0] == '\0') strcpy(record->at.host, "127.0.0.1");
-    struct addrinfo *found = line_find(&record->at);
-    if (found == NULL) return STATUS_FILE;
-    struct sockaddr_storage here = {0};
-    memcpy(&here, found->ai_addr, found->ai_addrlen);
-    struct address address = address_of(&here);
-    int status = STATUS_WELL, one = 1;
-    if (record->from == NULL && !address_is_home(&address)) {
-        warnx("--listen: %s isn't loopback, and everybody could write into the reading: --from HOST", record->at.host);
-        status = WRONG_CALL;
-    } else {
-        record->socket = socket(found->ai_family, SOCK_DGRAM | SOCK_CLOEXEC, 0);
-        if (found->ai_family == AF_INET6) setsockopt(record->socket, IPPROTO_IPV6, IPV6_V6ONLY, &one, sizeof one);
-        if (record->socket < 0 || bind(record->socket, found->ai_addr, found->ai_addrlen) != 0) {
-            warn("%s, port %u", record->at.host, record->at.port);
-            status = STATUS_FILE;
-        } else take_room(record);
-    }
-    freeaddrinfo(found);
-    return status;
-}
-
 /* False where nothing more can be written. */
 static bool take(struct record *record, struct datagram datagram, const struct address *from) {
     struct recording *recording = &record->recording;
@@ -210,12 +180,15 @@ static bool take(struct record *record, struct datagram datagram, const struct a
     return true;
 }
 
-/* What the time brings: those that waited long enough, lines, the disk each second. */
-static bool pass(struct record *record, uint64_t time) {
-    struct recording *recording = &record->recording;
+/* What the time brings: those that waited long enough, and lines; and each second of our own clock all goes to the
+ * disk. */
+static bool pass(struct record *record, uint64_t time, uint64_t clock) {
     if (!order_wait(&record->order, time)) return false;
-    recording_at(recording, time);
+    recording_at(&record->recording, time);
     told_at(&record->told, time);
+    if (clock - record->synced < SECOND) return true;
+    if (!kept_sync(&record->recording.kept)) return false;
+    record->synced = now();
     return true;
 }
 
@@ -227,66 +200,27 @@ static bool is_over(const struct record *record, uint64_t time) {
 }
 
 static void begin(struct record *record, uint64_t time) {
-    record->recording.begun = record->recording.last = record->recording.now = record->synced = record->told.since = time;
+    record->recording.begun = record->recording.last = record->recording.now = record->told.since = time;
     record->told.next = time + record->told.every;
-}
-
-struct batch {
-    struct mmsghdr messages[BATCH];
-    struct iovec places[BATCH];
-    struct sockaddr_storage from[BATCH];
-    uint8_t octets[BATCH][WIRE_ROOM + 1]; /* one that is longer has more than can be taken */
-};
-
-/* How many came, at most a batch; -1 where the socket fails. */
-static int receive(const struct record *record, struct batch *batch) {
-    for (int at = 0; at < BATCH; at++) {
-        batch->places[at] = (struct iovec){batch->octets[at], sizeof batch->octets[at]};
-        batch->messages[at].msg_hdr = (struct msghdr){.msg_name = &batch->from[at],
-                                                      .msg_namelen = sizeof batch->from[at],
-                                                      .msg_iov = &batch->places[at],
-                                                      .msg_iovlen = 1};
-    }
-    int came = recvmmsg(record->socket, batch->messages, BATCH, MSG_DONTWAIT, NULL);
-    if (came >= 0) return came;
-    return errno == EAGAIN || errno == EINTR ? 0 : -1;
-}
-
-/* The counter that SO_RXQ_OVFL hands out with the next datagram: asked for here, it has those behind the last one too. */
-static void count_dropped(struct record *record) {
-    uint32_t about[SK_MEMINFO_VARS] = {0};
-    socklen_t room = sizeof about;
-    if (getsockopt(record->socket, SOL_SOCKET, SO_MEMINFO, about, &room) == 0) record->told.dropped = about[SK_MEMINFO_DROPS];
-}
-
-/* Sleeps, so that many datagrams are read at a time. Where none come it waits for one, or for what the time brings. */
-static void doze(const struct record *record, bool any) {
-    struct timespec little = {0, DOZE * MILLI};
-    struct pollfd wait = {record->socket, POLLIN, 0};
-    if (any || record->order.full > 0) nanosleep(&little, NULL);
-    else poll(&wait, 1, LOOK);
+    record->synced = now();
 }
 
 static int from_socket(struct record *record) {
-    static struct batch batch;
+    struct listener *listener = &record->listener;
+    if (!record->told.quiet) warnx("listening at %s, port %u", record->at.host, record->at.port);
     begin(record, now());
     for (uint64_t time = record->recording.begun; !is_over(record, time); time = now()) {
-        int came = receive(record, &batch);
+        int came = listener_read(listener);
+        if (came < 0) return say_failed(record->at.host);
         time = now();
         for (int at = 0; at < came; at++) {
-            struct datagram datagram = {batch.octets[at], batch.messages[at].msg_len, time};
-            struct address from = address_of(&batch.from[at]);
+            struct datagram datagram = {listener->octets[at], listener->messages[at].msg_len, time};
+            struct address from = address_of(&listener->from[at]);
             if (!take(record, datagram, &from)) return STATUS_FILE;
         }
-        if (came < 0) return say_failed(record->at.host);
-        if (!pass(record, time)) return STATUS_FILE;
-        if (time - record->synced >= SECOND) {
-            if (!kept_sync(&record->recording.kept)) return STATUS_FILE;
-            record->synced = now();
-        }
-        if (came < BATCH) doze(record, came > 0);
+        if (!pass(record, time, time)) return STATUS_FILE;
+        if (came < LISTEN_BATCH) listener_doze(listener, came > 0 || record->order.full > 0);
     }
-    count_dropped(record);
     return order_end(&record->order) ? STATUS_WELL : STATUS_FILE;
 }
 
@@ -299,7 +233,7 @@ static int from_capture(struct record *record, struct capture *capture) {
         if (!begun) begin(record, captured.came);
         begun = true;
         if (is_over(record, captured.came)) break;
-        if (!pass(record, captured.came) || !take(record, datagram, &captured.from)) return STATUS_FILE;
+        if (!pass(record, captured.came, now()) || !take(record, datagram, &captured.from)) return STATUS_FILE;
     }
     if (!order_end(&record->order)) return STATUS_FILE;
     if (capture->passed > 0 && !record->told.quiet)
@@ -308,7 +242,8 @@ static int from_capture(struct record *record, struct capture *capture) {
     return step == CAPTURE_CUT ? STATUS_REFUSED : step == CAPTURE_FAILED ? STATUS_FILE : STATUS_WELL;
 }
 
-/* The end is orderly whatever brings it. A write that fails is told by write; a line that can't be printed ends nothing. */
+/* The end is orderly whatever brings it. A write that fails is told by write; a line that can't be printed ends
+ * nothing. */
 static void set_signals(void) {
     struct sigaction action = {.sa_handler = stop}, before;
     sigaction(SIGINT, &action, NULL);
@@ -331,57 +266,61 @@ static uint64_t room_for(const struct record *record) {
     return room < recording->most ? room : recording->most;
 }
 
-static int record_all(struct record *record, struct capture *capture) {
+static int record_all(struct record *record) {
     struct recording *recording = &record->recording;
     int status = recording_open(recording);
     if (status != STATUS_WELL) return status;
-    status = record->listens ? from_socket(record) : from_capture(record, capture);
+    status = record->listens ? from_socket(record) : from_capture(record, &record->capture);
+    if (record->listens) record->told.dropped = listener_dropped(&record->listener);
     if (!recording_close(recording)) status = STATUS_FILE;
     told_clear();
     if (recording->full)
-        warnx("%s: more came than --most lets in: %llu records are kept", recording->name, (unsigned long long)recording->cells);
+        warnx("%s: more came than --most lets in: %llu records are kept", recording->name,
+              (unsigned long long)recording->cells);
     if (!record->told.quiet) told_summary(&record->told);
     status = told_answer(&record->told, status);
     told_line(&record->told, status);
     return printed(status);
 }
 
+/* Where the datagrams come from, and who may send them. */
+static int open_line(struct record *record) {
+    if (record->at.host[0] == '\0') strcpy(record->at.host, "127.0.0.1");
+    int status = record->from == NULL ? STATUS_WELL : senders_find(&record->senders, record->from);
+    if (status != STATUS_WELL) return status;
+    return record->listens ? listener_open(&record->listener, &record->at, record->from == NULL)
+                           : capture_open(&record->capture, record->capture_name, record->port, &stopped);
+}
+
+static struct record record = {
+    .port = WIRE_PORT,
+    .gap = UINT32_MAX,
+    .senders.any = true,
+    .recording = {.circuit = {100, 0, 128},
+                  .settings = {0x56, UINT32_MAX, 0, 0, 0},
+                  .rate = RATE,
+                  .pieces = PIECES,
+                  .most = UINT64_MAX,
+                  .silence = UINT64_C(1000000000) * SILENCE},
+    .order = {.turn = recording_turn, .user = &record.recording},
+    .told = {.recording = &record.recording, .order = &record.order},
+};
+
 int desk_record(int argc, char **argv) {
-    static struct record record = {
-        .port = WIRE_PORT,
-        .gap = UINT32_MAX,
-        .socket = -1,
-        .senders.any = true,
-        .recording = {.circuit = {100, 0, 128},
-                      .settings = {0x56, UINT32_MAX, 0, 0, 0},
-                      .rate = RATE,
-                      .pieces = PIECES,
-                      .most = UINT64_MAX,
-                      .silence = UINT64_C(1000000000) * SILENCE},
-    };
-    static struct capture capture;
     static const struct argp argp = {
         .options = options,
         .parser = parse,
         .args_doc = "OUT.log",
-        .doc = "Records what comes from the line: the cells of one circuit, from the datagrams of a pseudowire, into a log. Ends "
+        .doc = "Records what comes from the line: the cells of one circuit, from the datagrams of a pseudowire, into a "
+               "log. Ends "
                "with 1 where the reading isn't whole, or nothing came.",
     };
     argp_parse(&argp, argc, argv, 0, NULL, &record);
-    record.order.turn = recording_turn;
-    record.order.user = &record.recording;
-    record.told.recording = &record.recording;
-    record.told.order = &record.order;
     record.told.terminal = !record.is_every && isatty(STDERR_FILENO);
     if (record.told.terminal) record.told.every = SECOND;
     if (record.told.quiet) record.told.every = 0;
     record.recording.room = room_for(&record);
     set_signals();
-    int status = record.from == NULL ? STATUS_WELL : senders_find(&record.senders, record.from);
-    if (status == STATUS_WELL)
-        status = record.listens ? open_socket(&record) : capture_open(&capture, record.capture_name, record.port);
-    if (status == STATUS_WELL) status = record_all(&record, &capture);
-    if (capture.buffer != NULL) capture_close(&capture);
-    if (record.socket >= 0) close(record.socket);
-    return status;
+    int status = open_line(&record);
+    return status == STATUS_WELL ? record_all(&record) : status;
 }

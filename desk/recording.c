@@ -25,9 +25,9 @@ double recording_silence(const struct recording *recording) {
 static void say(const struct recording *recording, const char *words, double length) {
     char time[DURATION], lasting[DURATION];
     if (recording->quiet) return;
+    uint64_t passed = recording->now > recording->begun ? recording->now - recording->begun : 0;
     told_clear();
-    fprintf(stderr, "%s: %s%s\n", duration(seconds(recording->now - recording->begun), time), words,
-            duration(length, lasting));
+    fprintf(stderr, "%s: %s%s\n", duration(seconds(passed), time), words, duration(length, lasting));
 }
 
 /* No later piece may be there either: it would end a recording in the middle. */
@@ -93,7 +93,8 @@ static bool begin_piece(struct recording *recording, const char *why) {
         warnx("%s begins: %s after record %llu of %s, %llu cell%s lost", recording->kept.path, why,
               (unsigned long long)record, before, (unsigned long long)away, plural(away));
     free(before);
-    rime_receiver_open(recording->settings.format, recording->settings.channels, recording->settings.order, recording->state);
+    rime_receiver_open(recording->settings.format, recording->settings.channels, recording->settings.order,
+                       recording->state);
     return good;
 }
 
@@ -104,12 +105,11 @@ static bool begin_length(struct recording *recording) {
 }
 
 static void hear(struct recording *recording, uint64_t missing, bool heard) {
-    uint64_t threshold = recording->silence;
     recording->silent += missing * recording->times;
     if (!heard) recording->silent += recording->times;
     if (recording->silent > recording->silent_most) recording->silent_most = recording->silent;
     double length = samples(recording, recording->silent);
-    if (!recording->is_silent && length >= seconds(threshold)) {
+    if (!recording->is_silent && length >= seconds(recording->silence)) {
         recording->is_silent = true;
         say(recording, "nothing but silence for ", length);
     }

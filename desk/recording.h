@@ -1,7 +1,7 @@
 /*
- * What comes so far from the line: every cell goes into the log, also one that the receiver refuses, and the receiver runs beside
- * for the counts. Where more is lost than the cells' numbers can tell, a new log begins, so that in each log all stands in its
- * place.
+ * What comes so far from the line: every cell goes into the log, also one that the receiver refuses, and the receiver
+ * runs beside for the counts. Where more is lost than the cells' numbers can tell, a new log begins, so that in each
+ * log all stands in its place.
  */
 #ifndef RECORDING_H
 #define RECORDING_H
@@ -28,14 +28,16 @@ struct recording {
     uint8_t state[RIME_RECEIVER_STATE];
     bool full; /* --most is reached */
 
-    uint64_t away, turned; /* since the last sound cell: cells that were lost with their datagrams, and those refused but by 9 */
+    uint64_t away,
+        turned; /* since the last sound cell: cells that were lost with their datagrams, and those refused but by 9 */
 
     uint64_t begun, last, now; /* nanoseconds: the start, the last cell, and the time that it is */
-    bool is_off, is_silent; /* it was told that no cell comes, or nothing but silence */
-    uint64_t silent;        /* sample times of nothing but silence up to now, and the most at a time */
+    bool is_off, is_silent;    /* it was told that no cell comes, or nothing but silence */
+    uint64_t silent;           /* sample times of nothing but silence up to now, and the most at a time */
     uint64_t silent_most;
 
-    uint64_t cells, sound, missing, gaps, refused, damaged, heard; /* heard: sound cells with a sample that isn't zero */
+    uint64_t cells, sound, missing, gaps, refused, damaged,
+        heard; /* heard: sound cells with a sample that isn't zero */
     uint64_t refused_by[256];
     uint64_t time; /* sample times of sound and missing cells */
     uint64_t lost; /* datagrams */
@@ -44,10 +46,11 @@ struct recording {
     unsigned past_pieces; /* gaps and new senders without a new log, since --pieces is reached */
 };
 
-int recording_open(struct recording *recording); /* a status; says what is wrong */
-bool recording_turn(const struct turn *turn, void *user); /* an order_turn. False where it can't go on */
+int recording_open(struct recording *recording);              /* a status; says what is wrong */
+bool recording_turn(const struct turn *turn, void *user);     /* an order_turn. False where it can't go on */
 void recording_at(struct recording *recording, uint64_t now); /* the time is this; says where no cell comes any more */
-bool recording_close(struct recording *recording); /* also where writing failed before: then there is nothing to close */
+bool recording_close(
+    struct recording *recording); /* also where writing failed before: then there is nothing to close */
 double recording_silence(const struct recording *recording); /* the longest, in seconds of samples */
 
 #endif

@@ -78,9 +78,9 @@ void told_summary(const struct told *told) {
             (count)recording->missing, (count)recording->gaps, plural(recording->gaps), (count)recording->refused);
     say_refused_by(recording);
     say_datagrams(told);
-    fprintf(stderr, "%s: %llu samples a channel, %s at %u Hz; %llu damaged; the longest silence is %s\n", recording->name,
-            (count)recording->time, duration((double)recording->time / recording->rate, length), recording->rate,
-            (count)recording->damaged, duration(recording_silence(recording), silence));
+    fprintf(stderr, "%s: %llu samples a channel, %s at %u Hz; %llu damaged; the longest silence is %s\n",
+            recording->name, (count)recording->time, duration((double)recording->time / recording->rate, length),
+            recording->rate, (count)recording->damaged, duration(recording_silence(recording), silence));
 }
 
 static bool is_over(const struct recording *recording, uint64_t allowed) {
@@ -95,7 +95,8 @@ static bool is_no(const struct told *told, char *words, size_t room) {
     uint64_t turned = recording->refused - recording->refused_by[RIME_REFUSED_REPEAT];
     double sound = (double)(recording->sound * recording->times) / recording->rate;
     if (recording->cells == 0) snprintf(words, room, "no cell came");
-    else if (recording->sound == 0) snprintf(words, room, "the receiver took none of %llu cells", (count)recording->cells);
+    else if (recording->sound == 0)
+        snprintf(words, room, "the receiver took none of %llu cells", (count)recording->cells);
     else if (recording->heard == 0) snprintf(words, room, "nothing but silence came");
     else if (sound < seconds(demands->least))
         snprintf(words, room, "%.3f s of sound are less than --least %g", sound, seconds(demands->least));
@@ -110,7 +111,8 @@ static bool is_no(const struct told *told, char *words, size_t room) {
     else if (demands->is_allowed) return false;
     else if (recording->missing > 0) snprintf(words, room, "%llu cells are missing", (count)recording->missing);
     else if (recording->lost > 0) snprintf(words, room, "%llu datagrams were lost", (count)recording->lost);
-    else if (told->dropped > 0) snprintf(words, room, "%llu datagrams were dropped in this machine's socket", (count)told->dropped);
+    else if (told->dropped > 0)
+        snprintf(words, room, "%llu datagrams were dropped in this machine's socket", (count)told->dropped);
     else if (turned > 0) snprintf(words, room, "%llu cells were refused", (count)turned);
     else if (recording->damaged > 0) snprintf(words, room, "%llu samples are damaged", (count)recording->damaged);
     else return false;
@@ -126,9 +128,10 @@ int told_answer(const struct told *told, int status) {
 
 void told_line(const struct told *told, int status) {
     const struct recording *recording = told->recording;
-    printf("cells=%llu sound=%llu missing=%llu refused=%llu damaged=%llu silent_s=%.3f lost=%llu late=%llu repeated=%llu "
-           "dropped=%llu not_taken=%llu pieces=%u status=%d\n",
-           (count)recording->cells, (count)recording->sound, (count)recording->missing, (count)recording->refused,
-           (count)recording->damaged, recording_silence(recording), (count)recording->lost, (count)told->order->late,
-           (count)told->order->repeated, (count)told->dropped, (count)not_taken(told), recording->logs, status);
+    printf(
+        "cells=%llu sound=%llu missing=%llu refused=%llu damaged=%llu silent_s=%.3f lost=%llu late=%llu repeated=%llu "
+        "dropped=%llu not_taken=%llu pieces=%u status=%d\n",
+        (count)recording->cells, (count)recording->sound, (count)recording->missing, (count)recording->refused,
+        (count)recording->damaged, recording_silence(recording), (count)recording->lost, (count)told->order->late,
+        (count)told->order->repeated, (count)told->dropped, (count)not_taken(told), recording->logs, status);
 }

@@ -1,4 +1,5 @@
-/* Datagrams of the line, made and judged. Nothing that came is copied, and no length is believed before it is compared. */
+/* Datagrams of the line, made and judged. Nothing that came is copied, and no length is believed before it is compared.
+ */
 #include "wire.h"
 
 #include <string.h>
@@ -28,14 +29,16 @@ const char *wire_words(enum wire why) {
     return words[why];
 }
 
-/* RFC 4385: the length of the control word and what follows it, where that is below 64 octets, so that padding is told. */
+/* RFC 4385: the length of the control word and what follows it, where that is below 64 octets, so that padding is told.
+ */
 void wire_front(uint8_t to[WIRE_FRONT], const struct circuit *circuit, uint16_t sequence, unsigned cells) {
     unsigned length = WIRE_FRONT / 2 + cells * WIRE_CELL;
     put(to, circuit->label << 12 | BOTTOM | TIME_TO_LIVE);
     put(to + 4, (length < SHORT ? length << 16 : 0) | sequence);
 }
 
-void wire_cell(uint8_t to[WIRE_CELL], const struct circuit *circuit, bool indication, const uint8_t cell[RIME_CELL_OCTETS]) {
+void wire_cell(uint8_t to[WIRE_CELL], const struct circuit *circuit, bool indication,
+               const uint8_t cell[RIME_CELL_OCTETS]) {
     put(to, (uint32_t)circuit->vpi << 20 | (uint32_t)circuit->vci << 4 | (uint32_t)indication << 1);
     memcpy(to + WIRE_HEADER, cell, RIME_CELL_OCTETS);
 }

@@ -1,7 +1,8 @@
 /*
- * A datagram of the line: cells of one circuit as a pseudowire carries them. N-to-one cell mode (RFC 4717) with the control word
- * of RFC 4385, over MPLS in UDP (RFC 7510): a label stack entry and a control word of four octets each, then 52 octets a cell,
- * its header without the check octet and its 48. Numbers have their most significant octet first. docs/DESK.md has the table.
+ * A datagram of the line: cells of one circuit as a pseudowire carries them. N-to-one cell mode (RFC 4717) with the
+ * control word of RFC 4385, over MPLS in UDP (RFC 7510): a label stack entry and a control word of four octets each,
+ * then 52 octets a cell, its header without the check octet and its 48. Numbers have their most significant octet
+ * first. docs/DESK.md has the table.
  */
 #ifndef WIRE_H
 #define WIRE_H
@@ -43,7 +44,8 @@ enum wire {
 const char *wire_words(enum wire why);
 
 void wire_front(uint8_t to[WIRE_FRONT], const struct circuit *circuit, uint16_t sequence, unsigned cells);
-void wire_cell(uint8_t to[WIRE_CELL], const struct circuit *circuit, bool indication, const uint8_t cell[RIME_CELL_OCTETS]);
+void wire_cell(uint8_t to[WIRE_CELL], const struct circuit *circuit, bool indication,
+               const uint8_t cell[RIME_CELL_OCTETS]);
 
 /* Judges all of a datagram but its cells. Where it is taken, it has whole cells from WIRE_FRONT on. */
 enum wire wire_datagram(const uint8_t *octets, size_t count, const struct circuit *circuit, uint16_t *sequence);
