@@ -7,6 +7,7 @@
 #include <stdio.h>
 #include <stdlib.h>
 #include <string.h>
+#include <sys/resource.h>
 #include <unistd.h>
 
 #include "place.h"
@@ -93,9 +94,18 @@ int kept_open(struct kept *kept, const char *name, unsigned piece, struct settin
     return kept_sync(kept) && sync_folder(kept) ? STATUS_WELL : STATUS_FILE;
 }
 
+/* A limit on the size of files isn't looked at where a file keeps its own. */
+static bool is_let(uint64_t octets) {
+    uint64_t longest = RIME_HEADER_OCTETS + (uint64_t)KEPT_RECORDS * RIME_RECORD_OCTETS;
+    struct rlimit limit;
+    if (getrlimit(RLIMIT_FSIZE, &limit) != 0 || limit.rlim_cur == RLIM_INFINITY) return true;
+    errno = EFBIG;
+    return (octets < longest ? octets : longest) <= limit.rlim_cur;
+}
+
 /* Not every disk can do it. */
 bool kept_reserve(struct kept *kept, uint64_t octets) {
-    kept->reserved = fallocate(kept->fd, FALLOC_FL_KEEP_SIZE, 0, (off_t)octets) == 0;
+    kept->reserved = is_let(octets) && fallocate(kept->fd, FALLOC_FL_KEEP_SIZE, 0, (off_t)octets) == 0;
     if (kept->reserved) return true;
     if (errno == EOPNOTSUPP || errno == ENOSYS) {
         warnx("%s: room can't be taken beforehand on this disk", kept->path);
