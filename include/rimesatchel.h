@@ -9,7 +9,7 @@
  * A call never does half of its work. rime_judge_log alone does as many records as it can and says where it stopped; each
  * record is done whole or not at all. A refusal leaves every lent run and the state as they were, and fills `report`, `out`
  * of rime_status_step and rime_status_run, `facts`, `header`, `*next`, `counts`, `totals`, `units`, `*entries`,
- * `answer` or the two entries or halves of a frame with zeros; an opening that is refused fills `state` with zeros, which is
+ * `answer`, `slip` or the two entries or halves of a frame with zeros; an opening that is refused fills `state` with zeros, which is
  * itself refused 1.
  * Where several refusals apply, the first in the order of the list at each function is given.
  *
@@ -39,6 +39,8 @@ enum {
     RIME_SENDER_STATE = 7,
     RIME_RECEIVER_STATE = 9,
     RIME_REPORT = 4,
+    RIME_SLIP = 7,                /* a watch over second numbers */
+    RIME_SLIPPED = 2,             /* what it tells */
     RIME_BLOCK = 25,
     RIME_OUT = 25,
     RIME_STATUS_OCTETS = 24,
@@ -111,7 +113,8 @@ enum {
     RIME_REFUSED_UNIT_SIZE = 27,  /* data units: a size below one frame */
     RIME_REFUSED_UNIT_ROOM = 28,  /* data units: too little room */
     RIME_REFUSED_BLOCKS = 29,     /* the B bits of a frame's halves differ */
-    RIME_REFUSED_CIRCUITS = 30    /* S times the circuits is below the channels */
+    RIME_REFUSED_CIRCUITS = 30,   /* S times the circuits is below the channels */
+    RIME_REFUSED_REPORT = 31      /* a report that can't follow the cells that the watch has seen */
 };
 
 /* What a refusal number means, in words that a user can be shown. Never NULL, whatever the number. */
@@ -148,6 +151,7 @@ static inline const char *rime_refusal_text(unsigned number) {
     case 28: return "there is too little room for the data units";
     case 29: return "a block begins in one half of the frame and not in the other";
     case 30: return "the circuits are too few for the channels";
+    case 31: return "the report can't follow the cell before it";
     default: return "there is no such refusal";
     }
 }
@@ -178,6 +182,26 @@ enum { RIME_FORMAT_SAMPLE_BITS = 0, RIME_FORMAT_ANCILLARY_BITS = 1, RIME_FORMAT_
 
 /* Places in what rime_receive reports. */
 enum { RIME_REPORT_MISSING = 0, RIME_REPORT_NUMBER = 1, RIME_REPORT_SECOND = 2, RIME_REPORT_INDICATION = 3 };
+
+/* Places in a watch over second numbers. A yes or no here is 1 or 0, and any other octet is refused. */
+enum {
+    RIME_SLIP_STARTED = 0,        /* yes: a cell was taken */
+    RIME_SLIP_NUMBER = 1,         /* number of the cell taken last */
+    RIME_SLIP_SURE = 2,           /* yes: two cells one after the other agreed */
+    RIME_SLIP_SECOND = 3,         /* second number of the last cell in step */
+    RIME_SLIP_MAY = 4,            /* block starts since that cell, 15 where there are more */
+    RIME_SLIP_WAITS = 5,          /* yes: the cell taken last is out of step, or none was sure yet */
+    RIME_SLIP_OTHER = 6           /* second number of the cell taken last, where it waits */
+};
+
+/* Places in what rime_slip tells, and what it tells. */
+enum { RIME_SLIPPED_WHAT = 0, RIME_SLIPPED_CELLS = 1 };
+enum {
+    RIME_SLIP_NOTHING = 0,
+    RIME_SLIP_BEFORE = 1,         /* so many cells more are missing before the cell taken before this one */
+    RIME_SLIP_ALONE = 2,          /* the cell taken before this one was out of step alone */
+    RIME_SLIP_PERHAPS = 3         /* this cell is out of step: perhaps so many cells more are missing before it */
+};
 
 /* Places in a channel status block under assembly and in what rime_status_step hands out. */
 enum { RIME_BLOCK_BITS = 0, RIME_BLOCK_OCTETS = 1, RIME_OUT_ANSWER = 0, RIME_OUT_OCTETS = 1 };
@@ -263,6 +287,28 @@ uint8_t rime_receive(uint8_t state[RIME_RECEIVER_STATE], const uint8_t *cell, si
  * octets will do: nothing is refused, and nothing else of the state is looked at.
  */
 uint32_t rime_receiver_placed(const uint8_t state[RIME_RECEIVER_STATE]);
+
+/*
+ * Brings a watch over second numbers forward by one cell that the receiver took, by its `report` as rime_receive left it. `watch` is
+ * seven zeros at first. A cell number tells at most fourteen lost cells; second numbers tell more where the sender keeps them. Sixteen
+ * cells have two block starts (numbers 0 and 8), and only there may the second number go up: where it went up by more than the numbers
+ * allow, whole sixteens of cells are missing beside those that the report tells. Leaves in `slip` what it tells and how many cells, a
+ * multiple of 16 up to 128:
+ *   RIME_SLIP_NOTHING   0
+ *   RIME_SLIP_BEFORE    at least so many cells more are missing before the cell that was taken before this one, and before those that
+ *                       its own report told missing
+ *   RIME_SLIP_ALONE     0: that cell was out of step alone. Second numbers are unprotected, and this one was false
+ *   RIME_SLIP_PERHAPS   this cell is out of step, and the next one decides: perhaps so many cells more are missing before it; 0, none
+ *                       whatever comes. A caller that puts silence in holds the cell back where they are above 0
+ * The cells told are never more than the cells lost, whatever the sender sent as indications. They are exact where it keeps second
+ * numbers, gives the indication in every cell whose number is a multiple of 8, and at most 119 cells were sent between two taken ones,
+ * with two cells in step before and two behind: docs/LOSSES.md. The indication of the report isn't looked at.
+ * Refused, with `watch` untouched and `slip` zeros: 4, a watch that can't be (a yes or no above 1, a number above 15, not started and
+ * not all zeros, not sure and not waiting or with a second number or block starts, sure and not waiting with block starts or another
+ * second number); 31, a report that can't follow (missing above 14, a number above 15, missing cells at the first cell, later missing
+ * plus 1 not the difference of the numbers modulo 16). A format without overhead has no numbers: its second report is refused 31.
+ */
+uint8_t rime_slip(uint8_t watch[RIME_SLIP], const uint8_t report[RIME_REPORT], uint8_t slip[RIME_SLIPPED]);
 
 /*
  * Brings one channel's status block forward by one entry that the receiver wrote. `block` is the count of bits begun

@@ -31,15 +31,16 @@ from __future__ import annotations
 
 import ctypes
 import enum
+import mmap
 import os
 import pathlib
-from ctypes import POINTER, c_bool, c_char_p, c_size_t, c_uint, c_uint8, c_uint32, c_uint64
+from ctypes import POINTER, c_bool, c_char_p, c_int, c_size_t, c_ssize_t, c_uint, c_uint8, c_uint32, c_uint64, c_void_p
 from typing import Any, Iterator, NamedTuple, Sequence
 
 __all__ = [
     "VERSION", "Anything", "Block", "Deed", "Entry", "Figures", "Fit", "Format", "Frame", "Handed", "Log", "Mark", "Pair",
-    "Receiver", "Record", "Refused", "Salvaged", "Sender", "Setup", "Sheet", "Status", "Units", "Verdict", "Walked",
-    "Writer", "anything", "check_character", "check_plan", "controller", "equipment", "export_frame", "export_units",
+    "Receiver", "Record", "Refused", "Salvaged", "Sender", "Setup", "Sheet", "Slip", "Status", "Told", "Units", "Verdict", "Walked",
+    "Watch", "Writer", "anything", "check_character", "check_plan", "controller", "equipment", "export_frame", "export_units",
     "import_frame", "listing", "plan", "port_packing", "port_settings", "read_unit", "salvage", "sheet", "words",
 ]
 
@@ -53,6 +54,7 @@ _ARGUMENTS: dict[str, list[Any]] = {
     "rime_receiver_open": [*_SETTINGS, _RECEIVER],
     "rime_receive": [_RECEIVER, *_RUN8, c_bool, *_RUN64, *_RUN8, *_RUN8, _REPORT],
     "rime_receiver_placed": [_RECEIVER],
+    "rime_slip": [POINTER(c_uint8 * 7), _REPORT, POINTER(c_uint8 * 2)],
     "rime_status_step": [_STATUS, c_uint8, c_uint8, _STATUS],
     "rime_status_run": [_STATUS, *_RUN8, *_RUN8, c_uint64, c_uint64, _STATUS, POINTER(c_uint64)],
     "rime_check_character": [POINTER(c_uint8 * 24)],
@@ -156,10 +158,61 @@ def _fitting(kind: Any, numbers: Sequence[int]) -> Sequence[int]:
     return numbers
 
 
-def _octets(octets: bytes | Sequence[int]) -> _Lent:
-    lent = _Lent(c_uint8, 0)
-    lent.array = (c_uint8 * len(octets)).from_buffer_copy(bytes(octets))
-    return lent
+class _Buffer(ctypes.Structure):
+    """Python's own record of memory that an object lends (Py_buffer)."""
+
+    _fields_ = [
+        ("start", c_void_p), ("object", ctypes.py_object), ("octets", c_ssize_t), ("width", c_ssize_t), ("fixed", c_int),
+        ("dimensions", c_int), ("format", c_char_p), ("shape", c_void_p), ("strides", c_void_p), ("offsets", c_void_p), ("own", c_void_p),
+    ]
+
+
+class _Over(_Lent):
+    """The memory of anything with the buffer protocol (bytes, array, mmap, numpy), lent to a call without a copy."""
+
+    def __init__(self, kind: Any, buffer: Any, written: bool = False) -> None:
+        self._held: _Buffer | None = None
+        view = memoryview(buffer)
+        width = ctypes.sizeof(kind)
+        if not view.c_contiguous or view.itemsize != width:
+            raise TypeError(f"a run here is numbers of {width} octets, one behind the other")
+        if written and view.readonly:
+            raise TypeError("a run that is written into can't be read-only")
+        held = _Buffer()
+        ctypes.pythonapi.PyObject_GetBuffer(ctypes.py_object(view), ctypes.byref(held), 0)
+        self._held = held
+        self.array = (kind * (view.nbytes // width)).from_address(held.start or 0)
+
+    def __del__(self, release: Any = ctypes.pythonapi.PyBuffer_Release, by: Any = ctypes.byref) -> None:
+        if self._held is not None:
+            release(by(self._held))
+
+
+def _octets(octets: Any) -> _Lent:
+    """Octets that a call only reads: lent as they are where they have the buffer protocol, else copied."""
+    try:
+        memoryview(octets)
+    except TypeError:
+        return _Over(c_uint8, bytes(octets))
+    return _Over(c_uint8, octets)
+
+
+def _copied(octets: bytes | Sequence[int]) -> _Lent:
+    """A copy of octets that a call writes into."""
+    return _Over(c_uint8, bytearray(octets), written=True)
+
+
+def _blank(kind: Any, entries: int) -> tuple[mmap.mmap, _Lent]:
+    """A long run of zeros, of which only what is written takes memory."""
+    memory = mmap.mmap(-1, max(1, entries * ctypes.sizeof(kind)))
+    lent = _Over(c_uint8, memory, written=True)
+    lent.array = (kind * entries).from_address(ctypes.addressof(lent.array))
+    return memory, lent
+
+
+def _first(lent: _Lent, entries: int) -> bytes:
+    """The first entries of a run, as octets."""
+    return ctypes.string_at(lent.array, entries * ctypes.sizeof(lent.array._type_))
 
 
 def _state(length: int, octets: bytes) -> Any:
@@ -314,10 +367,11 @@ class Receiver:
         >>> Receiver(Setup(0x02, 1)).judge_log(bytes(98), 0, 1)
         (b'\\x00\\x00\\x00\\x00\\x00', Walked(next=49, records=1, stop=10))
         """
-        reports, counts = _Lent(c_uint8, 5 * (len(log) // 49 if most is None else most)), (c_uint64 * 3)()
-        _call("rime_judge_log", self._state, _octets(log), _fitting(c_size_t, [place])[0], reports, counts)
+        lent = _octets(log)
+        reports, counts = _Lent(c_uint8, 5 * (len(lent.array) // 49 if most is None else most)), (c_uint64 * 3)()
+        _call("rime_judge_log", self._state, lent, _fitting(c_size_t, [place])[0], reports, counts)
         walked = Walked(*counts)
-        return bytes(reports.array[:5 * walked.records]), walked
+        return _first(reports, 5 * walked.records), walked
 
 
 class Walked(NamedTuple):
@@ -327,6 +381,59 @@ class Walked(NamedTuple):
     next: int
     records: int
     stop: int
+
+
+class Told(enum.IntEnum):
+    """What a cell that was taken tells of those before it."""
+
+    NOTHING = 0
+    BEFORE = 1
+    ALONE = 2
+    PERHAPS = 3
+
+
+class Slip(NamedTuple):
+    """What is told, and how many cells more: BEFORE the cell that was taken before this one at least so many are missing; that cell
+    was out of step ALONE; PERHAPS so many are missing before this cell, and the next one decides."""
+
+    told: Told
+    cells: int
+
+
+class Watch:
+    """A watch over second numbers, one step for each cell that the receiver took.
+
+    >>> watch = Watch()
+    >>> [watch.step(0, number, second).cells for number, second in ((2, 5), (3, 5), (4, 13), (5, 13))]
+    [0, 0, 64, 64]
+    >>> watch.step(0, 6, 13)
+    Slip(told=<Told.NOTHING: 0>, cells=0)
+    >>> watch.step(0, 6, 13)
+    Traceback (most recent call last):
+    rimesatchel.Refused: refused 31, the report can't follow the cell before it
+    """
+
+    def __init__(self) -> None:
+        self._watch = (c_uint8 * 7)()
+
+    def step(self, missing: int, number: int, second: int) -> Slip:
+        """Takes what the receiver reported of the next cell that it took. Refused 31 where that can't follow, 4 where the watch can't
+        be."""
+        slip = (c_uint8 * 2)()
+        report = (c_uint8 * 4)(*_fitting(c_uint8, [missing, number, second]), 0)
+        _call("rime_slip", self._watch, report, slip)
+        return Slip(Told(slip[0]), slip[1])
+
+    def to_bytes(self) -> bytes:
+        """The state as the library keeps it, 7 octets, to be stored and gone on with."""
+        return bytes(self._watch)
+
+    @classmethod
+    def from_bytes(cls, state: bytes) -> Watch:
+        """A watch that goes on from a state. Any 7 octets will do: what can't be is refused when it steps."""
+        watch = cls.__new__(cls)
+        watch._watch = _state(7, state)
+        return watch
 
 
 class Fit(enum.IntEnum):
@@ -379,7 +486,7 @@ def check_character(block: bytes) -> int:
     """The check character of octets 0 to 22 of 24."""
     if len(block) != 24:
         raise ValueError("a block of channel status is 24 octets")
-    return _ask("rime_check_character", _octets(block).array)
+    return _ask("rime_check_character", _state(24, block))
 
 
 class Writer:
@@ -422,7 +529,8 @@ class Record(NamedTuple):
 
 
 class Log:
-    """A log that is read: how it was sent, and its records one after the other. Refused 11, 1, 2 or 3; a record 11 or 12."""
+    """A log that is read: how it was sent, and its records one after the other. Its octets are lent and not copied. Refused 11,
+    1, 2 or 3; a record 11 or 12."""
 
     def __init__(self, octets: bytes) -> None:
         self._octets = _octets(octets)
@@ -447,13 +555,23 @@ def listing(log: bytes) -> str:
     >>> listing(b"")
     'log refused 11\\n'
     """
-    room, lent = 256 + len(log), _octets(log)
+    lent = _octets(log)
+    room = 256 + len(lent.array)
     while True:
-        run, listed = _Lent(c_uint8, room), (c_uint64 * 2)()
+        (memory, run), listed = _blank(c_uint8, room), (c_uint64 * 2)()
         _call("rime_log_list", lent, run, listed)
         if listed[1] == 1:
-            return bytes(run.array[:listed[0]]).decode()
+            return _text(memory, listed[0])
         room *= 2
+
+
+def _text(memory: mmap.mmap, octets: int) -> str:
+    """The first octets as text. Each part's memory is given back as soon as it is read: a list is as long as half a log."""
+    text, part = "", 256 * mmap.PAGESIZE
+    for start in range(0, octets, part):
+        text += str(memoryview(memory)[start:min(start + part, octets)], "ascii")
+        memory.madvise(mmap.MADV_DONTNEED, start, min(part, len(memory) - start))
+    return text
 
 
 class Anything(NamedTuple):
@@ -482,7 +600,7 @@ def anything(log: bytes) -> Anything:
 class Salvaged(NamedTuple):
     """What was saved of a log: its sound records, each whole record that was left out with its refusal, and the octets cut."""
 
-    log: bytes
+    log: bytearray
     left_out: list[tuple[int, int]]
     cut: int
 
@@ -499,10 +617,13 @@ def salvage(log: bytes) -> Salvaged:
     >>> saved.log == sound, saved.left_out, saved.cut
     (True, [(1, 9)], 1)
     """
-    out, pairs, counts = _Lent(c_uint8, len(log)), _Lent(c_uint64, 2 * (len(log) // 49)), (c_uint64 * 3)()
-    _call("rime_salvage", _octets(log), out, pairs, counts)
+    lent = _octets(log)
+    out, counts = bytearray(len(lent.array)), (c_uint64 * 3)()
+    _, pairs = _blank(c_uint64, 2 * (len(out) // 49))
+    _call("rime_salvage", lent, _Over(c_uint8, out, written=True), pairs, counts)
     octets, left, cut = counts
-    return Salvaged(bytes(out.array[:octets]), list(zip(pairs.array[:2 * left:2], pairs.array[1:2 * left:2])), cut)
+    del out[octets:]
+    return Salvaged(out, [(pairs.array[2 * k], pairs.array[2 * k + 1]) for k in range(left)], cut)
 
 
 class Figures(NamedTuple):
@@ -670,7 +791,7 @@ def equipment(ports: bytes, message: bytes, room: int = 64) -> Deed:
     Traceback (most recent call last):
     rimesatchel.Refused: refused 24, the message has no octets
     """
-    lent, answer, report = _octets(ports), _Lent(c_uint8, room), (c_uint64 * 4)()
+    lent, answer, report = _copied(ports), _Lent(c_uint8, room), (c_uint64 * 4)()
     _call("rime_equipment", lent, _octets(message), answer, report, library=_port())
     return Deed(bytes(lent.array), bytes(answer.array[:report[0]]), *report[1:])
 
@@ -678,7 +799,7 @@ def equipment(ports: bytes, message: bytes, room: int = 64) -> Deed:
 def controller(ports: bytes, message: bytes) -> bytes:
     """A management message at the controlling entity: the ports behind it. Refused 24. docs/MANAGEMENT.md says what a status of 81
     to 87 hex in them means."""
-    lent = _octets(ports)
+    lent = _copied(ports)
     _call("rime_controller", lent, _octets(message), library=_port())
     return bytes(lent.array)
 
@@ -695,7 +816,7 @@ def port_settings(port: bytes) -> Setup:
     if len(port) != 28:
         raise ValueError("a port's record has 28 octets")
     settings = (c_uint32 * 3)()
-    _call("rime_port_settings", _octets(port).array, settings, library=_port())
+    _call("rime_port_settings", _state(28, port), settings, library=_port())
     return Setup(*settings)
 
 

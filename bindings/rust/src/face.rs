@@ -6,8 +6,17 @@
 pub type SenderState = [u8; 7];
 pub type ReceiverState = [u8; 9];
 pub type Report = [u8; 4];
+pub type Watch = [u8; 7];
 pub type StatusBlock = [u8; 25];
 pub type StatusOut = [u8; 25];
+
+/// What `slip` tells in the first octet of its answer.
+pub mod slip_told {
+    pub const NOTHING: u8 = 0;
+    pub const BEFORE: u8 = 1;
+    pub const ALONE: u8 = 2;
+    pub const PERHAPS: u8 = 3;
+}
 
 /// What `status_step` answers in the first octet of `out`.
 pub mod status_answer {
@@ -18,7 +27,7 @@ pub mod status_answer {
 }
 
 mod raw {
-    use super::{ReceiverState, Report, SenderState, StatusBlock, StatusOut};
+    use super::{ReceiverState, Report, SenderState, StatusBlock, StatusOut, Watch};
 
     extern "C" {
         pub fn rime_format(format: u32, facts: *mut [u32; 4]) -> u8;
@@ -56,6 +65,7 @@ mod raw {
             marks_len: usize,
             report: *mut Report,
         ) -> u8;
+        pub fn rime_slip(watch: *mut Watch, report: *const Report, slip: *mut [u8; 2]) -> u8;
         pub fn rime_status_step(block: *mut StatusBlock, ancillary: u8, mark: u8, out: *mut StatusOut) -> u8;
         pub fn rime_status_run(
             block: *mut StatusBlock,
@@ -222,6 +232,10 @@ pub fn receive(state: &mut ReceiverState, cell: &[u8], indication: bool, runs: R
             report,
         )
     }
+}
+
+pub fn slip(watch: &mut Watch, report: &Report, slip: &mut [u8; 2]) -> u8 {
+    unsafe { raw::rime_slip(watch, report, slip) }
 }
 
 pub fn status_step(block: &mut StatusBlock, ancillary: u8, mark: u8, out: &mut StatusOut) -> u8 {

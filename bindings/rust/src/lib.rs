@@ -38,6 +38,7 @@ mod boxes;
 mod cable;
 mod network;
 mod plans;
+mod slips;
 mod status;
 mod tools;
 
@@ -46,6 +47,7 @@ pub use boxes::{Entry, Format, Handed, Mark, Receiver, Report, Sender, Setup, St
 pub use cable::{export_frame, import_frame, Frame, Pair};
 pub use network::{export_units, read_unit, Units};
 pub use plans::{check_plan, plan, Verdict};
+pub use slips::{Slip, Watch};
 pub use status::{check_character, Block, Fit, Status};
 pub use tools::{anything, salvage, sheet, Anything, Figures, Salvaged, Sheet};
 

@@ -26,4 +26,7 @@ pub mod SheetsAdd
 pub mod SheetsOne
 pub mod SheetsWrong
 pub mod StatusesOne
+pub mod WatchesLaws
+pub mod WatchesOne
+pub mod WatchesWrong
 pub mod Wrong

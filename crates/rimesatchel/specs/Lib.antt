@@ -10,3 +10,4 @@ pub mod Plans
 pub mod Salvages
 pub mod Sheets
 pub mod Statuses
+pub mod Watches

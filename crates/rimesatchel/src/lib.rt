@@ -11,3 +11,4 @@ pub mod plans; // plans.rt: sharing channels out over circuits
 pub mod salvages; // salvages.rt: the salvage of a log
 pub mod sheets; // sheets.rt: one sheet over many logs
 pub mod statuses; // statuses.rt: a step of channel status, and the check character
+pub mod watches; // watches.rt: the watch over second numbers

@@ -4,6 +4,7 @@ mod by_library;
 mod by_plain;
 mod line;
 mod management;
+mod slips;
 
 pub use by_library::by_library;
 pub use by_plain::by_plain;

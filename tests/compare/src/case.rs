@@ -12,6 +12,8 @@ pub enum Kind {
     Send,
     Receive,
     Line,
+    Slip,
+    Slips,
     StatusStep,
     StatusRun,
     CheckCharacter,
@@ -48,14 +50,16 @@ impl Kind {
     }
 }
 
-/// Kind, name, and the fields in and out: n a number, r a run of numbers or a state, o octets.
-const KINDS: [(Kind, &str, &str, &str); 30] = [
+/// Kind, name, and the fields in and out: n a number, r a run of numbers or a state, o octets, t text.
+const KINDS: [(Kind, &str, &str, &str); 32] = [
     (Kind::Format, "format", "n", "nnnnn"),
     (Kind::SenderOpen, "sender_open", "nnnnnn", "nr"),
     (Kind::ReceiverOpen, "receiver_open", "nnn", "nr"),
     (Kind::Send, "send", "rnrro", "nro"),
     (Kind::Receive, "receive", "ronrrr", "nrrrrnnnn"),
     (Kind::Line, "line", "nnno", "rrrrr"),
+    (Kind::Slip, "slip", "rr", "nrnn"),
+    (Kind::Slips, "slips", "o", "rrrnto"),
     (Kind::StatusStep, "status_step", "nonn", "nnono"),
     (Kind::StatusRun, "status_run", "nooonn", "nnonon"),
     (Kind::CheckCharacter, "check_character", "o", "n"),
@@ -87,6 +91,7 @@ pub enum Value {
     Number(u64),
     Run(Vec<u64>),
     Octets(Vec<u8>),
+    Text(String),
 }
 
 pub type Answer = Vec<Value>;
@@ -106,6 +111,12 @@ impl From<u64> for Value {
 impl From<bool> for Value {
     fn from(yes: bool) -> Value {
         Value::Number(u64::from(yes))
+    }
+}
+
+impl From<&str> for Value {
+    fn from(text: &str) -> Value {
+        Value::Text(text.to_string())
     }
 }
 
@@ -152,6 +163,7 @@ impl Value {
     fn parse(layout: char, text: &str) -> Option<Value> {
         match layout {
             'n' => text.parse().ok().map(Value::Number),
+            't' => Some(Value::Text(text.to_string())),
             'r' if text == "-" => Some(Value::Run(vec![])),
             'r' => text.split(',').map(|number| number.parse().ok()).collect::<Option<_>>().map(Value::Run),
             _ if text == "-" => Some(Value::Octets(vec![])),
@@ -217,6 +229,7 @@ impl fmt::Display for Value {
             Value::Number(number) => write!(out, "{number}"),
             Value::Run(run) if run.is_empty() => write!(out, "-"),
             Value::Run(run) => write!(out, "{}", run.iter().map(u64::to_string).collect::<Vec<_>>().join(",")),
+            Value::Text(text) => write!(out, "{text}"),
             Value::Octets(octets) if octets.is_empty() => write!(out, "-"),
             Value::Octets(octets) => octets.iter().try_for_each(|octet| write!(out, "{octet:02x}")),
         }

@@ -3,6 +3,7 @@
 mod answers;
 mod archive;
 mod case;
+mod digest;
 mod fuzz;
 mod plain;
 mod random;

@@ -3,6 +3,7 @@
 
 use super::line::line;
 use super::management;
+use super::slips::slips;
 use crate::case::{values, Answer, Case, Kind, Value};
 use crate::face::{self, Entries, ReceiverState, Runs};
 
@@ -14,6 +15,8 @@ pub fn by_library(case: &Case) -> Option<Answer> {
         Kind::Send if cfg!(feature = "boxes") => send(case),
         Kind::Receive if cfg!(feature = "boxes") => receive(case),
         Kind::Line => line(case, by_library),
+        Kind::Slip if cfg!(feature = "boxes") => slip(case),
+        Kind::Slips => slips(case, by_library),
         Kind::StatusStep if cfg!(feature = "status") => status_step(case),
         Kind::StatusRun if cfg!(feature = "status") => status_run(case),
         Kind::CheckCharacter if cfg!(feature = "status") => check_character(case),
@@ -144,6 +147,13 @@ fn receive(case: &Case) -> Option<Answer> {
     let mut answer = values![u64::from(refusal), &after[..], &samples.back()[..], &ancillary[..], &marks[..]];
     answer.extend(report.map(|number| Value::Number(number.into())));
     Some(answer)
+}
+
+fn slip(case: &Case) -> Option<Answer> {
+    let mut watch = narrow_array(case.run(0))?;
+    let mut told = [LEFT_OVER; 2];
+    let refusal = face::slip(&mut watch, &narrow_array(case.run(1))?, &mut told);
+    Some(values![u64::from(refusal), &wide(&watch)[..], u64::from(told[0]), u64::from(told[1])])
 }
 
 fn status_step(case: &Case) -> Option<Answer> {

@@ -3,6 +3,7 @@
 
 use super::line::line;
 use super::management;
+use super::slips::slips;
 use crate::case::{values, Answer, Case, Kind, Value};
 use crate::plain::{self, Anything, Block, Fault, Receiver, Record, Refusal, Sender, Shape};
 
@@ -14,6 +15,8 @@ pub fn by_plain(case: &Case) -> Answer {
         Kind::Send => send(case),
         Kind::Receive => receive(case),
         Kind::Line => line(case, |call| Some(by_plain(call))).expect("every call is answered"),
+        Kind::Slip => slip(case),
+        Kind::Slips => slips(case, |call| Some(by_plain(call))).expect("every call is answered"),
         Kind::StatusStep => status_step(case),
         Kind::StatusRun => status_run(case),
         Kind::CheckCharacter => values![u64::from(plain::check_character(&case.octets(0)[..23]))],
@@ -130,6 +133,15 @@ fn receive(case: &Case) -> Answer {
     let mut answer = values![refusal, &after[..], &runs[0][..], &runs[1][..], &runs[2][..]];
     answer.extend(report.map(Value::from));
     answer
+}
+
+fn slip(case: &Case) -> Answer {
+    let watch = case.run(0).try_into().expect("a watch has 7 fields");
+    let report = case.run(1).try_into().expect("a report has 4 fields");
+    match plain::slip(&watch, &report) {
+        Ok((after, [what, cells])) => values![0, &after[..], what, cells],
+        Err(refusal) => values![u64::from(refusal), &watch[..], 0, 0],
+    }
 }
 
 fn status_step(case: &Case) -> Answer {
