@@ -13,7 +13,7 @@
 #include "told.h"
 
 enum { SECOND = 1000000000 };
-enum { GAP = RIME_MOST_MISSING, PIECES = 100, PIECES_MOST = 10000, RATE = 48000, SILENCE = 10 };
+enum { GAP = RIME_MOST_MISSING, GAP_MOST = 119, PIECES = 100, PIECES_MOST = 10000, RATE = 48000, SILENCE = 10 };
 
 struct record {
     const char *capture_name, *from;
@@ -55,7 +55,10 @@ static const struct argp_option options[] = {
     {"idle", KEY_IDLE, "S", 0, "end when no cell came for S seconds", 0},
     {"most", KEY_MOST, "OCTETS", 0, "the most octets of all logs; where more comes the status is 3", 0},
     {"gap", KEY_GAP, "CELLS", 0,
-     "begin a new log where more cells than this are lost in a row; 14 where this is left out", 0},
+     "begin a new log where more cells than this are lost in a row; 14 where this is left out, at most 119, for "
+     "senders with "
+     "second numbers",
+     0},
     {"pieces", KEY_PIECES, "NUMBER", 0, "the most logs; 100 where this is left out", 0},
     {"every", KEY_EVERY, "S", 0, "a line each S seconds; on a terminal each second where this is left out", 0},
     {"silence", KEY_SILENCE, "S", 0,
@@ -97,8 +100,6 @@ static void see_call(struct record *record, const struct argp_state *state) {
         argp_error(state, "--gap: %02X hex has no overhead, and every lost datagram begins a new log",
                    settings->format);
     record->recording.gap = record->gap == UINT32_MAX ? GAP : record->gap;
-    if (record->recording.gap > RIME_MOST_MISSING)
-        argp_error(state, "--gap: more than %d isn't told yet by what this is built with", RIME_MOST_MISSING);
 }
 
 static error_t parse_limit(int key, char *word, struct argp_state *state) {
@@ -111,7 +112,7 @@ static error_t parse_limit(int key, char *word, struct argp_state *state) {
     case KEY_MOST:
         recording->most = option_within(state, "most", word, RIME_HEADER_OCTETS + RIME_RECORD_OCTETS, INT64_MAX);
         break;
-    case KEY_GAP: record->gap = (unsigned)option_within(state, "gap", word, 0, 119); break;
+    case KEY_GAP: record->gap = (unsigned)option_within(state, "gap", word, 0, GAP_MOST); break;
     case KEY_PIECES: recording->pieces = (unsigned)option_within(state, "pieces", word, 1, PIECES_MOST); break;
     case KEY_EVERY:
         told->every = option_seconds(state, "every", word);

@@ -9,6 +9,8 @@
 
 #include "told.h"
 
+enum { LINES = 100 }; /* of one kind, at most */
+
 static double seconds(uint64_t nanoseconds) {
     return (double)nanoseconds / 1e9;
 }
@@ -71,12 +73,34 @@ static bool next_log(struct recording *recording) {
     return recording->room == 0 || kept_reserve(kept, recording->room);
 }
 
+/*
+ * What is missing before the last sound cell, once its successor came: by the numbers of cells and second numbers, or
+ * by the sequence numbers where they say more. A gap that is longer than numbers tell is found by second numbers, or
+ * what follows stands in a wrong place.
+ */
+static void settle(struct recording *recording) {
+    struct before *taken = &recording->taken;
+    uint64_t missing = taken->told > taken->away ? taken->told : taken->away, all = taken->away + taken->turned;
+    recording->missing += missing;
+    recording->gaps += missing > 0;
+    recording->time += taken->told * recording->times;
+    if (taken->away > 0 && all > RIME_MOST_MISSING && taken->told != all && recording->unplaced++ < LINES) {
+        told_clear();
+        warnx("%s: %llu cells are lost before record %llu, and second numbers tell %llu: what follows may stand in a "
+              "wrong place",
+              recording->kept.path == NULL ? recording->name : recording->kept.path, (unsigned long long)all,
+              (unsigned long long)taken->record, (unsigned long long)taken->told);
+    }
+    *taken = (struct before){0};
+}
+
 /* A new log, in which the receiver begins anew: the place of what follows isn't known, or it is another sender's. */
 static bool begin_piece(struct recording *recording, const char *why) {
-    uint64_t away = recording->away, record = recording->kept.records;
+    uint64_t away = recording->here.away, record = recording->kept.records;
+    settle(recording);
     recording->missing += away;
     recording->gaps += away > 0;
-    recording->away = recording->turned = 0;
+    recording->here = (struct before){0};
     if (record == 0) return true;
     if (recording->cuts + 1 >= recording->pieces) {
         told_clear();
@@ -93,6 +117,7 @@ static bool begin_piece(struct recording *recording, const char *why) {
         warnx("%s begins: %s after record %llu of %s, %llu cell%s lost", recording->kept.path, why,
               (unsigned long long)record, before, (unsigned long long)away, plural(away));
     free(before);
+    memset(recording->watch, 0, sizeof recording->watch);
     rime_receiver_open(recording->settings.format, recording->settings.channels, recording->settings.order,
                        recording->state);
     return good;
@@ -120,6 +145,20 @@ static void hear(struct recording *recording, uint64_t missing, bool heard) {
     recording->heard++;
 }
 
+/* What second numbers tell: cells that are missing before the last sound cell, beside those told of it. */
+static void slip(struct recording *recording, const uint8_t report[RIME_REPORT]) {
+    uint8_t slipped[RIME_SLIPPED];
+    if (!recording->format.overhead || rime_slip(recording->watch, report, slipped) != RIME_DONE) return;
+    if (slipped[RIME_SLIPPED_WHAT] == RIME_SLIP_BEFORE) recording->taken.told += slipped[RIME_SLIPPED_CELLS];
+}
+
+/* A repeat behind a gap is a cell of its own, which has the number of the last one by chance. */
+static void refuse(struct recording *recording, unsigned refusal) {
+    recording->refused++;
+    recording->refused_by[refusal]++;
+    recording->here.turned += refusal != RIME_REFUSED_REPEAT || recording->here.away > 0;
+}
+
 /* What the receiver makes of a cell. */
 static void judge(struct recording *recording, const uint8_t cell[RIME_CELL_OCTETS], bool indication) {
     static uint64_t values[DESK_ROOM];
@@ -128,12 +167,12 @@ static void judge(struct recording *recording, const uint8_t cell[RIME_CELL_OCTE
     unsigned refusal = rime_receive(recording->state, cell, RIME_CELL_OCTETS, indication, values, DESK_ROOM, ancillary,
                                     DESK_ROOM, marks, DESK_ROOM, report);
     if (refusal != RIME_DONE) {
-        recording->refused++;
-        recording->refused_by[refusal]++;
-        recording->turned += refusal != RIME_REFUSED_REPEAT;
+        refuse(recording, refusal);
         return;
     }
-    uint64_t told = report[RIME_REPORT_MISSING], missing = told > recording->away ? told : recording->away;
+    slip(recording, report);
+    settle(recording);
+    uint64_t told = report[RIME_REPORT_MISSING];
     bool heard = false;
     size_t first = told * recording->entries;
     for (size_t at = first; at < first + recording->entries; at++) {
@@ -141,16 +180,16 @@ static void judge(struct recording *recording, const uint8_t cell[RIME_CELL_OCTE
         heard |= marks[at] == RIME_MARK_SOUND && values[at] != 0;
     }
     recording->sound++;
-    recording->missing += missing;
-    recording->gaps += missing > 0;
-    recording->time += (told + 1) * recording->times;
-    recording->away = recording->turned = 0;
+    recording->time += recording->times;
+    recording->taken = (struct before){recording->here.away, recording->here.turned, told, recording->kept.records - 1};
+    recording->here = (struct before){0};
     hear(recording, told, heard);
 }
 
 static bool put_cell(struct recording *recording, const uint8_t cell[RIME_CELL_OCTETS], bool indication) {
     struct kept *kept = &recording->kept;
-    bool gap = recording->away > 0 && recording->away + recording->turned > recording->gap;
+    const struct before *here = &recording->here;
+    bool gap = here->away > 0 && here->away + here->turned > recording->gap;
     if (gap && !begin_piece(recording, "a gap")) return false;
     if (kept->records == KEPT_RECORDS && !begin_length(recording)) return false;
     if (kept->octets + kept->used + RIME_RECORD_OCTETS > recording->most) {
@@ -175,7 +214,7 @@ bool recording_turn(const struct turn *turn, void *user) {
     const uint8_t *octets = turn->datagram.octets;
     if (turn->again && !begin_piece(recording, "the sender began again")) return false;
     recording->lost += turn->lost;
-    recording->away += turn->lost * turn->each;
+    recording->here.away += turn->lost * turn->each;
     for (size_t at = WIRE_FRONT; at < turn->datagram.count; at += WIRE_CELL) {
         bool indication;
         enum wire why = wire_header(octets + at, &recording->circuit, &indication);
@@ -198,8 +237,9 @@ void recording_at(struct recording *recording, uint64_t now) {
 }
 
 bool recording_close(struct recording *recording) {
-    recording->missing += recording->away;
-    recording->gaps += recording->away > 0;
-    recording->away = 0;
+    settle(recording);
+    recording->missing += recording->here.away;
+    recording->gaps += recording->here.away > 0;
+    recording->here = (struct before){0};
     return recording->kept.fd < 0 || kept_close(&recording->kept);
 }

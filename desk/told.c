@@ -104,7 +104,8 @@ static bool is_no(const struct told *told, char *words, size_t room) {
         snprintf(words, room, "a silence of %.3f s is over --silence %g", recording_silence(recording),
                  seconds(recording->silence));
     else if (recording->cuts > 0) snprintf(words, room, "the reading is in %u pieces", recording->cuts + 1);
-    else if (recording->past_pieces > 0) snprintf(words, room, "cells may stand in a wrong place");
+    else if (recording->past_pieces > 0 || recording->unplaced > 0)
+        snprintf(words, room, "cells may stand in a wrong place");
     else if (demands->is_allowed && is_over(recording, demands->allowed))
         snprintf(words, room, "%llu cells are missing, more than --allow %llu in a million", (count)recording->missing,
                  (count)demands->allowed);

@@ -179,6 +179,30 @@ def try_gap():
     see_places(came)
 
 
+def try_slips():
+    """A gap above fourteen, as second numbers tell it: where they don't, that is said, and the answer is a no."""
+    ones, fours = played(1), played(4)
+    for lost in (15, 16, 17, 31, 32, 64, 118, 119):
+        for first in (100, 104, 107, 111):
+            came = record(ones[:first] + ones[first + lost:400], '--gap', '119', '--allow', '1000000')
+            came.sees(0, missing=lost + (1 if lost % 16 == 15 else 0), lost=lost, refused=int(lost % 16 == 15), pieces=1)
+            see(came.logs == [RECORDS[:first] + RECORDS[first + lost:400]], 'another log')
+    record(ones[:100] + ones[220:400], '--gap', '119').sees(1, 'pieces', missing=120, pieces=2)
+    record(fours[:20] + fours[49:99], '--gap', '119').sees(1, 'NO: 116 cells are missing', missing=116, lost=29, pieces=1)
+    record(fours[:20] + fours[50:99], '--gap', '119').sees(1, missing=120, lost=30, pieces=2)
+    record(fours[:20] + fours[36:99], '--gap', '64', '--allow', '1000000').sees(0, missing=64, pieces=1)
+    record(fours[:20] + fours[37:99], '--gap', '64').sees(1, missing=68, pieces=2)
+    # Lost before the line began: the sequence numbers have no gap, and second numbers tell it.
+    record(made.sent(RECORDS[:80] + RECORDS[144:400], 4)).sees(1, 'NO: 64 cells are missing', missing=64, lost=0)
+    # Without second numbers, and where the next cell that would tell it doesn't come.
+    log = made.made_log(PROGRAM, FOLDER, 800)
+    plain = made.sent([log[at:at + 49] for at in range(3, len(log), 49)], 4)
+    came = record(plain[:20] + plain[36:99], '--gap', '119', '--allow', '1000000')
+    came.sees(1, '64 cells are lost before record 80, and second numbers tell 0', missing=64, lost=16, pieces=1)
+    see('NO: cells may stand in a wrong place' in came.said, 'no word of the place')
+    record(ones[:100] + ones[164:165], '--gap', '119', '--allow', '1000000').sees(1, 'second numbers tell 0', pieces=1)
+
+
 def try_plain():
     """Without overhead every lost datagram begins a new log."""
     log = made.made_log(PROGRAM, FOLDER, 640, ('--format', '06'))
@@ -311,7 +335,7 @@ def try_answers():
     """The status, and why."""
     line = played(4)[:500]  # 2,000 cells, 0.25 s
     record([]).sees(1, 'NO: no cell came')
-    silence = made.made_log(PROGRAM, FOLDER, 80000, silent=True)
+    silence = made.made_log(PROGRAM, FOLDER, 3920, ('--second', '3'), silent=True)
     still = [silence[at:at + 49] for at in range(3, len(silence), 49)]
     record(made.sent(still[:800], 4)).sees(1, 'NO: nothing but silence came', silent_s=0.1)
     # The cells of another format are all refused; of no channels nothing can be received.
@@ -320,7 +344,7 @@ def try_answers():
     record(line, '--least', '0.25').sees(0)
     record(line, '--least', '0.251').sees(1, 'NO: 0.250 s of sound are less than --least 0.251')
     # A silence between sounds: 800 cells are 0.1 s.
-    between = made.sent(RECORDS[:800] + still[:800] + RECORDS[1600:2400], 4)
+    between = made.sent(RECORDS[:800] + still[800:1600] + RECORDS[1600:2400], 4)
     record(between, '--silence', '0.1').sees(0, 'nothing but silence for 0.100 s', silent_s=0.1)
     came = record(between, '--silence', '0.0998').sees(1, 'NO: a silence of 0.100 s is over --silence 0.0998')
     see('sound again, after silence of 0.100 s' in came.said, 'no word of its end')
