@@ -44,3 +44,8 @@ $(DESK)/rimesatchel-asan: $(DESK_SOURCES) $(DESK_HEADERS) $(RIME_LIB)/librimesat
 
 desk-fuzz: $(DESK)/rimesatchel-asan
 	python3 tests/desk_fuzz.py $< 300 $(SEED)
+
+# The line with sockets, full disks, spoiled input and an hour over two namespaces.
+.PHONY: line
+line: desk
+	@bash tests/line.sh
