@@ -104,11 +104,11 @@ static bool is_let(uint64_t octets) {
 }
 
 /* Not every disk can do it. */
-bool kept_reserve(struct kept *kept, uint64_t octets) {
+bool kept_reserve(struct kept *kept, uint64_t octets, bool must) {
     kept->reserved = is_let(octets) && fallocate(kept->fd, FALLOC_FL_KEEP_SIZE, 0, (off_t)octets) == 0;
     if (kept->reserved) return true;
-    if (errno == EOPNOTSUPP || errno == ENOSYS) {
-        warnx("%s: room can't be taken beforehand on this disk", kept->path);
+    if (!must || errno == EOPNOTSUPP || errno == ENOSYS) {
+        warn("%s: room can't be taken beforehand", kept->path);
         return true;
     }
     return failed(kept, "there is no room for all that can come");

@@ -26,7 +26,8 @@ char *kept_name(const char *name, unsigned piece);
 /* Each says what is wrong. Where writing fails, the log is cut to whole records, closed, and how many are kept is said.
  */
 int kept_open(struct kept *kept, const char *name, unsigned piece, struct settings settings); /* a status */
-bool kept_reserve(struct kept *kept, uint64_t octets);
+bool kept_reserve(struct kept *kept, uint64_t octets,
+                  bool must); /* true where it needn't be, or the disk can't do it */
 bool kept_put(struct kept *kept, const uint8_t cell[RIME_CELL_OCTETS], bool indication);
 bool kept_sync(struct kept *kept);  /* all of it is on the disk */
 bool kept_close(struct kept *kept); /* that too; room that wasn't used is given back */

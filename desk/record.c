@@ -20,7 +20,7 @@ struct record {
     bool listens, is_every, is_port;
     struct end at;
     unsigned port, gap;
-    uint64_t for_, idle; /* nanoseconds; 0 where they aren't given */
+    uint64_t lasts, idle; /* nanoseconds: --for and --idle; 0 where they aren't given */
 
     struct recording recording;
     struct order order;
@@ -107,7 +107,7 @@ static error_t parse_limit(int key, char *word, struct argp_state *state) {
     struct recording *recording = &record->recording;
     struct told *told = &record->told;
     switch (key) {
-    case KEY_FOR: record->for_ = option_seconds(state, "for", word); break;
+    case KEY_FOR: record->lasts = option_seconds(state, "for", word); break;
     case KEY_IDLE: record->idle = option_seconds(state, "idle", word); break;
     case KEY_MOST:
         recording->most = option_within(state, "most", word, RIME_HEADER_OCTETS + RIME_RECORD_OCTETS, INT64_MAX);
@@ -196,7 +196,7 @@ static bool pass(struct record *record, uint64_t time, uint64_t clock) {
 static bool is_over(const struct record *record, uint64_t time) {
     const struct recording *recording = &record->recording;
     if (stopped != 0) return true;
-    if (record->for_ != 0 && time >= recording->begun && time - recording->begun >= record->for_) return true;
+    if (record->lasts != 0 && time >= recording->begun && time - recording->begun >= record->lasts) return true;
     return record->idle != 0 && time >= recording->last && time - recording->last >= record->idle;
 }
 
@@ -259,10 +259,10 @@ static uint64_t room_for(const struct record *record) {
     const struct recording *recording = &record->recording;
     uint32_t facts[RIME_FORMAT];
     unsigned channels = recording->settings.channels;
-    if (record->for_ == 0 || rime_format(recording->settings.format, facts) != RIME_DONE || channels == 0) return 0;
+    if (record->lasts == 0 || rime_format(recording->settings.format, facts) != RIME_DONE || channels == 0) return 0;
     unsigned times = facts[RIME_FORMAT_SLOTS] / channels;
     if (times == 0) return 0;
-    double cells = (double)record->for_ / SECOND * recording->rate / times + 1;
+    double cells = (double)record->lasts / SECOND * recording->rate / times + 1;
     uint64_t room = RIME_HEADER_OCTETS + (uint64_t)cells * RIME_RECORD_OCTETS;
     return room < recording->most ? room : recording->most;
 }

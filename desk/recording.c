@@ -56,7 +56,7 @@ int recording_open(struct recording *recording) {
     if (status == STATUS_WELL) status = kept_open(&recording->kept, recording->name, 1, settings);
     if (status != STATUS_WELL) return status;
     recording->logs = 1;
-    return recording->room == 0 || kept_reserve(&recording->kept, recording->room) ? STATUS_WELL : STATUS_FILE;
+    return recording->room == 0 || kept_reserve(&recording->kept, recording->room, true) ? STATUS_WELL : STATUS_FILE;
 }
 
 /* The next log. What is left of the room goes with it. */
@@ -70,7 +70,7 @@ static bool next_log(struct recording *recording) {
     recording->logs++;
     recording->room = recording->room > used ? recording->room - used : 0;
     recording->most -= recording->most == UINT64_MAX ? 0 : used;
-    return recording->room == 0 || kept_reserve(kept, recording->room);
+    return recording->room == 0 || kept_reserve(kept, recording->room, false);
 }
 
 /*
@@ -84,7 +84,8 @@ static void settle(struct recording *recording) {
     recording->missing += missing;
     recording->gaps += missing > 0;
     recording->time += taken->told * recording->times;
-    if (taken->away > 0 && all > RIME_MOST_MISSING && taken->told != all && recording->unplaced++ < LINES) {
+    bool found = taken->away == 0 || all <= RIME_MOST_MISSING || taken->told == all || recording->past_pieces > 0;
+    if (!found && recording->unplaced++ < LINES) {
         told_clear();
         warnx("%s: %llu cells are lost before record %llu, and second numbers tell %llu: what follows may stand in a "
               "wrong place",
@@ -94,21 +95,26 @@ static void settle(struct recording *recording) {
     *taken = (struct before){0};
 }
 
+/* There may be no more logs: this one goes on. */
+static void say_last(struct recording *recording, const char *why) {
+    if (recording->past_pieces++ > 0) return;
+    told_clear();
+    warnx("%s: %s after record %llu, and %u logs is the most: from here on cells may stand in a wrong place",
+          recording->kept.path, why, (unsigned long long)recording->kept.records, recording->pieces);
+}
+
 /* A new log, in which the receiver begins anew: the place of what follows isn't known, or it is another sender's. */
 static bool begin_piece(struct recording *recording, const char *why) {
     uint64_t away = recording->here.away, record = recording->kept.records;
+    if (record > 0 && recording->cuts + 1 >= recording->pieces) {
+        say_last(recording, why);
+        return true;
+    }
     settle(recording);
     recording->missing += away;
     recording->gaps += away > 0;
     recording->here = (struct before){0};
     if (record == 0) return true;
-    if (recording->cuts + 1 >= recording->pieces) {
-        told_clear();
-        if (recording->past_pieces++ == 0)
-            warnx("%s: %s after record %llu, and %u logs is the most: from here on cells may stand in a wrong place",
-                  recording->kept.path, why, (unsigned long long)record, recording->pieces);
-        return true;
-    }
     recording->cuts++;
     char *before = strdup(recording->kept.path);
     bool good = next_log(recording);

@@ -126,7 +126,7 @@ part_disk() {
         kill -KILL "$running"
         wait "$running" 2> /dev/null || :
         wait $! || :
-        [ "$(stat -c %s "$dir/x.log")" -gt 49000 ] || [ $time = 0.3 ] || fail "after $time s the log has $(stat -c %s "$dir/x.log") octets"
+        [ "$(stat -c %s "$dir/x.log")" -gt 49000 ] || [ $time = 0.3 ] || fail "after $time s the log is short"
         whole "$dir/x.log"
     done
     "$desk" play -q -F "$dir/long.log" --capture "$dir/long.pcap"
@@ -169,29 +169,35 @@ wrong() {
     ! cmp -s "desk/$2" "$built/wrong/$2" || fail "$1: the edit changes nothing"
     # shellcheck disable=SC2046
     gcc -std=c11 -D_GNU_SOURCE -O1 -Iinclude $(pkg-config --cflags sndfile cairo) "$built"/wrong/*.c "$lib/librimesatchel.a" \
-        $(pkg-config --libs sndfile cairo) -lm -o "$built/wrong/rimesatchel" 2> "$dir/said" || { cat "$dir/said" && fail "$1 isn't built"; }
+        $(pkg-config --libs sndfile cairo) -lm -o "$built/wrong/rimesatchel" 2> "$dir/said" ||
+        { cat "$dir/said" && fail "$1 isn't built"; }
     if DESK_TOOL=$built/wrong/rimesatchel bash tests/gate/46-desk-line.sh > "$dir/said" 2>&1; then fail "$1 isn't noticed"; fi
     echo "line: $1: $(grep -m 1 -E '^(line|desk): [a-z_]+: |^desk: ' "$dir/said" | head -c 110)"
 }
 
 part_wrong() {
-    wrong "datagrams as they come" order.c '/^bool order_take/,/^}/s/^    unsigned cells = .*/&\n    if (cells > 0) return order->turn(\&(struct turn){datagram, 0, false, true, cells}, order->user);/'
-    wrong "repeats that wait are passed on" order.c '/^static bool put(/,/^}/s/order->repeated++;/return order->turn(\&(struct turn){datagram, 0, false, true, 4}, order->user);/'
-    wrong "late repeats are passed on" order.c '/^static bool take_behind/,/^}/s/    \*(repeated ? .*/    if (repeated) return order->turn(\&(struct turn){datagram, 0, false, true, 4}, order->user);\n&/'
+    local turn='order->turn(\&(struct turn){datagram, 0, false, true, 4}, order->user);'
+    wrong "datagrams as they come" order.c \
+        '/^bool order_take/,/^}/s/^    unsigned cells = .*/&\n    if (cells > 0) return '"$turn"'/'
+    wrong "repeats that wait are passed on" order.c '/^static bool put(/,/^}/s/order->repeated++;/return '"$turn"'/'
+    wrong "late repeats are passed on" order.c \
+        '/^static bool take_behind/,/^}/s/    \*(repeated ? .*/    if (repeated) return '"$turn"'\n&/'
     wrong "the gap's limit one too high" recording.c 's/here->turned > recording->gap;/here->turned > recording->gap + 1;/'
     wrong "the gap's limit one too low" recording.c 's/here->turned > recording->gap;/here->turned >= recording->gap;/'
-    wrong "a cut record left at a full disk" kept.c 's/ftruncate(kept->fd, (off_t)whole)/ftruncate(kept->fd, (off_t)kept->octets)/'
+    wrong "a cut record left at a full disk" kept.c \
+        's/ftruncate(kept->fd, (off_t)whole)/ftruncate(kept->fd, (off_t)kept->octets)/'
     wrong "one log without overhead" recording.c 's/if (!recording->format.overhead) recording->gap = 0;//'
     wrong "refused cells beside lost ones forgotten" recording.c 's/here->away + here->turned > /here->away > /'
     wrong "second numbers aren't asked" recording.c 's/== RIME_SLIP_BEFORE/== 99/'
-    wrong "a gap that isn't found isn't said" recording.c 's/ \&\& taken->told != all / \&\& false /'
+    wrong "a gap that isn't found isn't said" recording.c 's/    if (!found \&\& /    if (false \&\& found \&\& /'
     wrong "the watch goes on in a new log" recording.c '/^    memset(recording->watch/d'
     wrong "datagrams of several lengths taken for equal" order.c 's/order->uneven = true;/order->uneven = false;/'
     wrong "a window of 63" order.h 's/ORDER_WINDOW = 64,/ORDER_WINDOW = 63,/'
-    wrong "49 ms" order.h 's/ORDER_WAIT = 50000000/ORDER_WAIT = 40000000/'
+    wrong "40 ms" order.h 's/ORDER_WAIT = 50000000/ORDER_WAIT = 40000000/'
     wrong "far from 127 on" order.h 's/ORDER_FAR = 2 \* ORDER_WINDOW/ORDER_FAR = 2 * ORDER_WINDOW - 1/'
     wrong "begun again after seven" order.h 's/ORDER_AGAIN = 8/ORDER_AGAIN = 7/'
-    wrong "allowed by division" told.c 's/return missing \* 1000000 > allowed \* all;/return (uint64_t)(missing * 1000000 \/ all) > allowed;/'
+    wrong "allowed by division" told.c \
+        's/return missing \* 1000000 > allowed \* all;/return (uint64_t)(missing * 1000000 \/ all) > allowed;/'
     wrong "any label" wire.c 's/entry >> 12 != circuit->label || //'
     wrong "management cells into the log" wire.c 's/if ((word >> 3 & 1) == 1) return WIRE_MANAGEMENT;//'
     wrong "strangers are taken" line.c 's/return senders->any;/return true;/'
@@ -210,10 +216,11 @@ part_length() {
     gcc -std=c11 -D_GNU_SOURCE -O1 -Iinclude $(pkg-config --cflags sndfile cairo) "$built"/short/*.c "$lib/librimesatchel.a" \
         $(pkg-config --libs sndfile cairo) -lm -o "$built/short/rimesatchel"
     rm -f "$dir"/x*.log
-    "$built/short/rimesatchel" record "$dir/x.log" --capture "$dir/long.pcap" --channels 2 --for 60 --pieces 2 > "$dir/printed" 2> /dev/null ||
-        fail "logs by length: $?"
+    "$built/short/rimesatchel" record "$dir/x.log" --capture "$dir/long.pcap" --channels 2 --for 60 --pieces 2 \
+        > "$dir/printed" 2> /dev/null || fail "logs by length: $?"
     grep -q "cells=16000 sound=16000 missing=0 refused=0 .*pieces=4 status=0" "$dir/printed" || fail "$(cat "$dir/printed")"
-    { cat "$dir/x.log" && for log in "$dir"/x.[234].log; do tail -c +4 "$log"; done; } | cmp - "$dir/long.log" || fail "logs by length"
+    { cat "$dir/x.log" && for log in "$dir"/x.[234].log; do tail -c +4 "$log"; done; } | cmp - "$dir/long.log" ||
+        fail "logs by length"
     echo "line: logs by length"
 }
 
@@ -242,7 +249,8 @@ def cost(words, feed):
 def rows(name, feed):
     ours, theirs = [], []
     for _ in range(3):
-        used, out, most = cost([desk, 'record', f'{folder}/c.log', '--listen', '6712', '--channels', '2', '--idle', '1', '-q'], feed)
+        words = [desk, 'record', f'{folder}/c.log', '--listen', '6712', '--channels', '2', '--idle', '1', '-q']
+        used, out, most = cost(words, feed)
         cells = int(re.search(r'cells=(\d+)', out)[1])
         ours.append(used / cells)
         used, out, _ = cost([plain, 'take', '6712', f'{folder}/c.octets', '1'], feed)
@@ -255,7 +263,8 @@ def rows(name, feed):
 good = rows('8,000 cells/s', [desk, 'play', '-q', f'{folder}/long.log', '--to', '127.0.0.1:6712'])
 good = rows('as fast as it goes', [plain, 'blast', f'{folder}/long.pcap', '6712', '50']) and good
 before = resource.getrusage(resource.RUSAGE_CHILDREN)
-subprocess.run([desk, 'record', '-q', f'{folder}/y.log', '--capture', f'{folder}/long.pcap', '--channels', '2'], check=True, stdout=subprocess.DEVNULL)
+subprocess.run([desk, 'record', '-q', f'{folder}/y.log', '--capture', f'{folder}/long.pcap', '--channels', '2'], check=True,
+               stdout=subprocess.DEVNULL)
 after = resource.getrusage(resource.RUSAGE_CHILDREN)
 used = after.ru_utime + after.ru_stime - before.ru_utime - before.ru_stime
 print(f'line: a capture: {80000 / used / 1e6:.1f} million cells a second')

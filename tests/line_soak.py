@@ -74,7 +74,7 @@ def see_log(log, last):
         index += 2**24 * (last // 2**24) + (2**24 if index + 2**24 * (last // 2**24) < last else 0)
         place += int(words[2]) + 1
         base = index - place if base is None else base
-        assert index - base == place and index > last, f'{log}: record {words[0]} is cell {index}, in place {place} from {base + 1}'
+        assert index - base == place and index > last, f'{log}: record {words[0]} is cell {index}, in place {place}'
         last, count = index, count + 1
     assert listed.wait() == 0
     return count, last
@@ -84,8 +84,8 @@ def main(folder):
     make_log(folder)
     way = make_line()
     enter = [['ip', 'netns', 'exec', space] for space in SPACES]
-    words = ['record', str(folder / 'out.log'), '--listen', '10.52.0.2:6635', '--from', '10.52.0.1', '--channels', '2', '--idle', '3',
-             '--pieces', '10000', '-q']
+    words = ['record', str(folder / 'out.log'), '--listen', '10.52.0.2:6635', '--from', '10.52.0.1', '--channels', '2',
+             '--idle', '3', '--pieces', '10000', '-q']
     taking = subprocess.Popen([*enter[1], PROGRAM, *words], stdout=subprocess.PIPE, stderr=open(folder / 'said', 'wb'), text=True)
     time.sleep(0.5)
     began = time.monotonic()

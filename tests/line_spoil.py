@@ -50,11 +50,12 @@ with tempfile.TemporaryDirectory() as name:
     records = [log[at:at + 49] for at in range(3, len(log), 49)]
     for number in range(count):
         order, link, ip = chance.choice('<>'), chance.choice(list(made.LINKS)), chance.choice([made.ipv4, made.ipv6])
-        line = made.spoiled_line(made.sent(records, chance.choice([1, 4, 14, 28]), chance.randrange(1, 65536)), chance, .05, .1, .2,
-                                 10**8)
+        line = made.sent(records, chance.choice([1, 4, 14, 28]), chance.randrange(1, 65536))
+        line = made.spoiled_line(line, chance, .05, .1, .2, 10**8)
         whole = made.capture(line, link, ip, order, chance.random() < .5)
         (folder / 'in.pcap').write_bytes(spoiled(whole, order))
-        words = ['--format', chance.choice(['56', '56', '06', '5A', '13'])] + chance.choice([[], ['--from', '127.0.0.1'], ['--idle', '1']])
+        words = ['--format', chance.choice(['56', '56', '06', '5A', '13'])]
+        words += chance.choice([[], ['--from', '127.0.0.1'], ['--idle', '1']])
         done = subprocess.run([program, 'record', str(folder / 'out.log'), '--capture', str(folder / 'in.pcap'), '--channels',
                                chance.choice('12'), '--every', '0.01', *words], capture_output=True, check=False)
         said = done.stderr.decode(errors='replace')

@@ -255,7 +255,8 @@ def try_pieces():
     line = played(4)
     gaps = [one for at, one in enumerate(line) if at % 20 < 14]
     record(gaps).sees(1, pieces=49, missing=len(line) * 4 - len(gaps) * 4 - 24)
-    came = record(gaps, '--pieces', '3').sees(1, 'cells may stand in a wrong place', pieces=3)
+    missing = len(line) * 4 - len(gaps) * 4 - 24
+    came = record(gaps, '--pieces', '3').sees(1, 'cells may stand in a wrong place', pieces=3, missing=missing)
     see(sum(map(len, came.logs)) == 4 * len(gaps), 'cells are lost')
     came = record(gaps, '--pieces', '1', '--allow', '1000000').sees(1, 'NO: cells may stand in a wrong place', pieces=1)
 

@@ -1,6 +1,6 @@
 #!/usr/bin/env bash
-# The two boxes of the desk tool from captures, without a socket: `record` puts datagrams in their order, begins a new log where the
-# place isn't known, counts, and ends with a status; `play` writes them. tests/line.sh has what needs sockets, a full disk and time.
+# The two boxes of the desk tool from captures, without a socket: `record` puts datagrams in their order, begins a new log where
+# the place isn't known, counts, and ends with a status; `play` writes them. tests/line.sh has what needs sockets and time.
 . tests/desk_try.sh
 python3 "$here/tests/line_try.py" "$desk"
 
@@ -18,7 +18,8 @@ for call in "x.log --capture in.pcap" "x.log --channels 2" "--capture in.pcap --
     # shellcheck disable=SC2086
     ends 64 "" "$desk" record $call
 done
-for words in "--label 15" "--label 1048576" "--circuit 4096/1" "--circuit 1/65536" "--circuit 1" "--circuit 1/2/3" "--circuit -1/2" \
+for words in "--label 15" "--label 1048576" "--circuit 4096/1" "--circuit 1/65536" "--circuit 1" "--circuit 1/2/3" \
+    "--circuit -1/2" \
     "--gap 120" "--pieces 0" "--pieces 10001" "--for 0" "--for -1" "--for nan" "--for 1e3" "--idle 0x1" "--allow 1000001" \
     "--most 51" "--rate 0" "--format 5G" "--format 06 --gap 1" "--port 0" "--port 65536"; do
     # shellcheck disable=SC2086
@@ -91,7 +92,7 @@ for _ in $(seq 100); do
     [ ! -e x.log ] || [ "$(stat -c %b x.log)" -lt 40000 ] || break
     sleep 0.05
 done
-if ! grep -q "can't be taken beforehand" said; then
+if ! grep -q "room can't be taken beforehand" said; then
     [ "$(stat -c %b x.log)" -ge 40000 ] || fail "no room was taken: $(stat -c '%s octets, %b blocks' x.log)"
 fi
 # TERM ends it orderly: whole records, and a status of its own.
