@@ -5,6 +5,7 @@
 #
 # SOAK=SECONDS  how long the line over two namespaces runs: an hour where it is left out
 # SEED=NUMBER   of the spoiled datagrams and captures
+# ONLY=NAME     one wrong build alone
 set -eu -o pipefail
 export LC_ALL=C
 here=$PWD
@@ -162,6 +163,7 @@ part_fuzz() {
 
 # wrong NAME FILE EDIT: a build with this edit is refused by the gate's test of the line
 wrong() {
+    if [ "${ONLY:-$1}" != "$1" ]; then return; fi
     rm -rf "$built/wrong"
     mkdir -p "$built/wrong"
     cp desk/*.[ch] "$built/wrong/"

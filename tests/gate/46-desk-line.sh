@@ -42,6 +42,10 @@ for name in x.log x.2.log x.100.log; do
     [ "$(ls x*)" = $name ] && [ "$(cat $name)" = kept ] || fail "$name wasn't kept"
     rm $name
 done
+ln -s y.log x.log
+ends 3 "x.log: is there already, and is kept" record x.log --capture in.pcap
+[ ! -e y.log ] || fail "a link was followed"
+rm x.log
 ends 3 "in.pcap: is there already, and is kept" "$desk" play in.log --capture in.pcap
 ends 3 "nowhere/x.log: No such file or directory" record nowhere/x.log --capture in.pcap
 ends 3 "nosuch.pcap: No such file or directory" record x.log --capture nosuch.pcap
