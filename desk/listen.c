@@ -43,6 +43,7 @@ int listener_open(struct listener *listener, const struct end *at, bool anybody)
     memcpy(&here, found->ai_addr, found->ai_addrlen);
     struct address address = address_of(&here);
     int status = LISTEN_WRONG_CALL;
+    listener->anybody = anybody;
     if (anybody && !address_is_home(&address))
         warnx("--listen: %s isn't loopback, and everybody could write into the reading: --from HOST", at->host);
     else status = bind_to(listener, at, found);
@@ -53,10 +54,11 @@ int listener_open(struct listener *listener, const struct end *at, bool anybody)
 int listener_read(struct listener *listener) {
     for (int at = 0; at < LISTEN_BATCH; at++) {
         listener->places[at] = (struct iovec){listener->octets[at], sizeof listener->octets[at]};
-        listener->messages[at].msg_hdr = (struct msghdr){.msg_name = &listener->from[at],
-                                                         .msg_namelen = sizeof listener->from[at],
-                                                         .msg_iov = &listener->places[at],
-                                                         .msg_iovlen = 1};
+        struct msghdr *header = &listener->messages[at].msg_hdr;
+        *header = (struct msghdr){.msg_iov = &listener->places[at], .msg_iovlen = 1};
+        if (listener->anybody) continue;
+        header->msg_name = &listener->from[at];
+        header->msg_namelen = sizeof listener->from[at];
     }
     int came = recvmmsg(listener->fd, listener->messages, LISTEN_BATCH, MSG_DONTWAIT, NULL);
     if (came >= 0) return came;

@@ -10,6 +10,7 @@ enum { LISTEN_BATCH = 64, LISTEN_WRONG_CALL = 64 };
 
 struct listener {
     int fd;
+    bool anybody;                          /* who sends isn't looked at */
     struct mmsghdr messages[LISTEN_BATCH]; /* with lengths of what came */
     struct iovec places[LISTEN_BATCH];
     struct sockaddr_storage from[LISTEN_BATCH];

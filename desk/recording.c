@@ -81,6 +81,7 @@ static bool next_log(struct recording *recording) {
 static void settle(struct recording *recording) {
     struct before *taken = &recording->taken;
     uint64_t missing = taken->told > taken->away ? taken->told : taken->away, all = taken->away + taken->turned;
+    if (missing == 0 && all == 0) return;
     recording->missing += missing;
     recording->gaps += missing > 0;
     recording->time += taken->told * recording->times;

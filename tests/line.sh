@@ -226,7 +226,8 @@ part_length() {
     echo "line: logs by length"
 }
 
-# Processor time beside the plain program: 10 s at 8,000 cells/s, and as fast as datagrams come. A capture.
+# Processor time beside the plain program: 10 s at 8,000 cells/s, and as fast as datagrams come. What each takes to begin and end is
+# left out: the desk tool loads the libraries of its other subcommands. A capture. On a machine that does nothing else.
 part_cost() {
     gcc -std=c11 -D_GNU_SOURCE -O2 -Wall -Wextra -Werror tests/line_plain.c -o "$built/plain"
     made long.log 80000
@@ -248,15 +249,18 @@ def cost(words, feed):
     return used.ru_utime + used.ru_stime, out, used.ru_maxrss
 
 
+RECORD = [desk, 'record', f'{folder}/c.log', '--listen', '6712', '--channels', '2', '--idle', '1', '-q']
+PLAIN = [plain, 'take', '6712', f'{folder}/c.octets', '1']
+base = [min(cost(words, ['true'])[0] for _ in range(3)) for words in (RECORD, PLAIN)]
+
+
 def rows(name, feed):
     ours, theirs = [], []
     for _ in range(3):
-        words = [desk, 'record', f'{folder}/c.log', '--listen', '6712', '--channels', '2', '--idle', '1', '-q']
-        used, out, most = cost(words, feed)
-        cells = int(re.search(r'cells=(\d+)', out)[1])
-        ours.append(used / cells)
-        used, out, _ = cost([plain, 'take', '6712', f'{folder}/c.octets', '1'], feed)
-        theirs.append(used / (os.path.getsize(f'{folder}/c.octets') / 216 * 4))
+        used, out, most = cost(RECORD, feed)
+        ours.append((used - base[0]) / int(re.search(r'cells=(\d+)', out)[1]))
+        used = cost(PLAIN, feed)[0]
+        theirs.append((used - base[1]) / (os.path.getsize(f'{folder}/c.octets') / 216 * 4))
     ours, theirs = min(ours), min(theirs)
     print(f'line: {name}: {ours * 1e9:.0f} ns a cell, plain {theirs * 1e9:.0f}: {ours / theirs:.2f}; {most} KiB')
     return ours / theirs <= 1.5
