@@ -107,6 +107,21 @@ part_socket() {
     [ ! -e "$dir/y.log" ] || fail "a log of a port that is taken"
     wait $!
     took 0 "cells=16000"
+    # A player that is held up doesn't hurry after it; a recorder may begin in the middle.
+    taking --listen 6712 --idle 2
+    "$desk" play "$dir/long.log" --to 127.0.0.1:6712 2> "$dir/played" &
+    sleep 0.5
+    kill -STOP $!
+    sleep 0.6
+    kill -CONT $!
+    wait $! || fail "a player that was held up ended with $?"
+    grep -q "held up" "$dir/played" || fail "no word of being held up: $(cat "$dir/played")"
+    took 0 "cells=16000 "
+    "$desk" play -q "$dir/long.log" --to 127.0.0.1:6712 2> /dev/null &
+    sleep 0.5
+    taking --listen 6712 --idle 2
+    took 0 "lost=0 "
+    wait $! || :
     head -c 52 "$dir/long.log" > "$dir/one.log"
     status=0
     "$desk" play -q "$dir/one.log" --to 127.0.0.1:6713 2> /dev/null || status=$?
