@@ -34,6 +34,8 @@ int desk_add(int argc, char **argv);
 int desk_salvage(int argc, char **argv);
 int desk_labels(int argc, char **argv);
 int desk_picture(int argc, char **argv);
+int desk_play(int argc, char **argv);
+int desk_record(int argc, char **argv);
 
 /* say.c: a line on standard error, after the program's name and a file's. */
 int say_failed(const char *name);                                      /* what errno says; returns STATUS_FILE */

@@ -52,3 +52,8 @@ LOGS ?= 1010
 desk-third: $(DESK)/rimesatchel-asan
 	@bash tests/need.sh sox
 	ASAN_OPTIONS=detect_leaks=0 python3 tests/desk_third.py $< $(LOGS) $(or $(SEED),1)
+
+# The line with sockets, full disks, spoiled input and an hour over two namespaces.
+.PHONY: line
+line: desk
+	@bash tests/line.sh

@@ -20,8 +20,8 @@ ANY = re.compile(r'\b(?:NAME|FILE|File|FUNCTION|CRATE|CRATES|PROGRAM|MACHINE|VER
 # Words of the standards and of other tools, and a file that the toolchain writes.
 OTHERS = {'pcmAudioEncap', 'pydoc'}
 OTHER_FILES = {'Lts.antt'}
-NOT_OUR_PAGES = {'sha256sum', 'sox', 'soxi', 'sndfile-info', 'audacity', 'parallel'}
-NOT_OURS = ('cargo', 'pip', 'gcc', 'git', 'parallel', 'pkg-config', 'apt-get', 'sox', 'valgrind', 'for', 'export')
+NOT_OUR_PAGES = {'sha256sum', 'sox', 'soxi', 'sndfile-info', 'audacity', 'parallel', 'editcap'}
+NOT_OURS = ('cargo', 'pip', 'gcc', 'git', 'parallel', 'pkg-config', 'apt-get', 'sox', 'valgrind', 'for', 'export', 'tshark', 'editcap')
 
 
 @functools.cache

@@ -237,7 +237,7 @@ assert missing not in sound and damaged not in sound, 'a colour too many in the 
 PY
 
 # The man page has every option of every subcommand, and no other.
-for command in send receive list anything sheet add salvage labels picture verify; do
+for command in send receive list anything sheet add salvage labels picture verify play record; do
     "$desk" "$command" --help | grep -o -- '--[a-z]*' | sed '/--help/d; /--usage/d; /--version/d' | sort -u > options
     sed -n "/^\.SS $command /,/^\.S[SH] /p" "$here/desk/rimesatchel.1" | sed -n 's/.*\\-\\-\([a-z]*\).*/--\1/p' | sort -u |
         diff options - || fail "$command: the man page has other options"
