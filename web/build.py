@@ -67,11 +67,11 @@ def main(module, out, words=PROVED):
     out.parent.mkdir(parents=True, exist_ok=True)
     wasm = out.parent / 'library.wasm'
     library(module, wasm)
-    reader, script = constants(wasm) + joined(WORKER), joined(SCRIPTS)
+    reader, script, style = constants(wasm) + joined(WORKER), joined(SCRIPTS), joined(['page.css'])
     assert '</script' not in reader + script
     page = (HERE / 'page.html').read_text(encoding='utf-8')
-    for mark, text in (('/*STYLE*/', joined(['page.css'])), ('/*READER*/', reader), ('/*SCRIPT*/', script),
-                       ('/*HASH*/', hashed(script)), ('/*FOOT*/', words)):
+    for mark, text in (('/*STYLE*/', style), ('/*READER*/', reader), ('/*SCRIPT*/', script),
+                       ('/*HASH*/', hashed(script)), ('/*STYLE-HASH*/', hashed(style)), ('/*FOOT*/', words)):
         assert page.count(mark) == 1, mark
         page = page.replace(mark, text)
     (out.parent / 'reader.js').write_text(reader, encoding='utf-8')
