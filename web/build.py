@@ -24,7 +24,8 @@ HEADER = (ROOT / 'include' / 'rimesatchel.h').read_text(encoding='utf-8')
 WORKER = ('library.js', 'files.js', 'reader.js', 'door.js')
 SCRIPTS = ('page.js', 'picture.js', 'sound.js')
 MOST = 200_000  # octets of the page
-PROVED = 'Every cell is taken by the library <b>rimesatchel</b>, whose proof a machine has checked. What is around it isn’t proved.'
+PROVED = ('Every cell is taken by the library <b>rimesatchel</b>, whose proof a machine has checked. What is around it '
+          'isn’t proved.')
 # rime_sheet alone has some 160 KiB of stack, and the linker gives 64 where nothing is said.
 LINKED = ['--no-entry', '--stack-first', '-z', 'stack-size=1048576', '--export=__heap_base', '--strip-all']
 
@@ -38,7 +39,8 @@ def library(module, out):
     """The module as WebAssembly. It has no imports: a call that isn't in it fails here."""
     with tempfile.TemporaryDirectory() as folder:
         words, code, linker = (pathlib.Path(folder) / name for name in ('module.ll', 'module.o', 'wasm-ld'))
-        clang = [native.tool('clang'), '--target=wasm32-unknown-unknown', '--no-default-config', '-Wno-override-module', '-x', 'ir']
+        clang = [native.tool('clang'), '--target=wasm32-unknown-unknown', '--no-default-config', '-Wno-override-module',
+                 '-x', 'ir']
         subprocess.run(clang + ['-S', '-emit-llvm', '-Xclang', '-disable-llvm-passes', module, '-o', words], check=True)
         words.write_text(re.sub(r' "target-cpu"="[^"]*"', '', words.read_text(encoding='utf-8')), encoding='utf-8')
         subprocess.run(clang + ['-O3', '-mbulk-memory', '-c', words, '-o', code], check=True)

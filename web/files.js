@@ -152,8 +152,8 @@ function soundOf(log, given) {
     return part;
 }
 
-// The highest of each channel in a file of floating point, which has them in its head, as numbers of 32 bits, with the first time of
-// each. libsndfile's time of two that are alike in 32 bits depends on how the samples came to it in parts.
+// The highest of each channel in a file of floating point: its head has them as numbers of 32 bits, with the first time of each. Of
+// several that are alike in 32 bits libsndfile's time depends on the parts in which the samples came to it.
 class Peaks {
     constructor(log) {
         this.found = Array.from({length: widthOf(log.bits) === 8 ? log.channels : 0}, () => ({value: 0, time: 0}));
@@ -215,5 +215,6 @@ function sheet(logs) {
     const all = FIGURES.map((_, at) => rows.reduce((sum, row) => sum + row[at], 0));
     const lines = logs.map(({name, about}, at) =>
         [at, ...rows[at], perMillion(rows[at]), stateOf(about), `"${name.replaceAll('"', '""')}"`].join());
-    return [`log,${FIGURES.join()},missing per million,state,file`, ...lines, `all,${all.join()},${perMillion(all)},,`, ''].join('\n');
+    const names = `log,${FIGURES.join()},missing per million,state,file`;
+    return [names, ...lines, `all,${all.join()},${perMillion(all)},,`, ''].join('\n');
 }

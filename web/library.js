@@ -51,7 +51,7 @@ class Library {
     // Where the entries of a run are, from one on. Nothing else lends memory: what is lent lies in the run.
     lend(name, from, count) {
         const run = this.runs[name];
-        if (!(from >= 0 && count >= 0 && from + count <= run.count)) throw Error(`${name} has no entries ${from} to ${from + count}`);
+        if (!(from >= 0 && count >= 0 && from + count <= run.count)) throw Error(`no run ${name} of ${count} from ${from} on`);
         return run.at + run.width * from;
     }
 
@@ -92,10 +92,11 @@ class Log {
         return octets.length;
     }
 
-    // Walks from a point on, piece after piece, up to the end or to the first framing fault, and returns that one's refusal, or 0.
-    // Of each piece `take.judged(reports, records)` sees what the receiver makes of the records; `take.handed(given, before)` their
-    // entries, some at a time, where `before` of this piece came before them; this.at is where the piece begins, in `handed` with
-    // the sample time of what is handed. A true answer ends the walk. `limit` is the log's end where it isn't the file's.
+    // Walks from a point on, piece after piece, up to the end or the first framing fault, and returns that fault's refusal, or 0.
+    // Of each piece `take.judged(reports, records)` sees what the receiver makes of the records, and `take.handed(given, before)`
+    // their entries, some at a time: `before` entries of this piece came before them. this.at is where the piece begins, in
+    // `handed` with the sample time of what is handed. A true answer ends the walk. `limit` is the log's end where it isn't the
+    // file's.
     walk(take, start = this.points[0], limit = this.size) {
         const {state} = this.library, at = this.at = {...start};
         state.set(start.state);

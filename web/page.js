@@ -97,17 +97,19 @@ function answerOf({about}) {
 
 function rateWords({about, asked}) {
     const others = about.named.rates.filter(({rate}) => rate !== (asked || about.rate));
-    const by = asked ? 'As you say.' : about.rate ? 'By channel status.' : 'Assumed: a log doesn’t carry it. Change it if it was another.';
-    return [by, ...others.map(({rate, blocks, channel}) =>
-        `Channel status says ${number(rate)} Hz in ${many(blocks, 'block')}, the first of them in channel ${channel + 1}.`)].join(' ');
+    const by = asked ? 'As you say.' : about.rate ? 'By channel status.'
+        : 'Assumed: a log doesn’t carry it. Change it if it was another.';
+    const said = others.map(({rate, blocks, channel}) =>
+        `Channel status says ${number(rate)} Hz in ${many(blocks, 'block')}, the first of them in channel ${channel + 1}.`);
+    return [by, ...said].join(' ');
 }
 
 // Each fact with its kind: something to look at, or nothing.
 function factsOf(log) {
     const {about} = log, {words} = about;
     const facts = [
-        [`${clock(about.times / rateOf(log))} long; ${many(about.channels, 'channel')} of ${about.bits} bits (format ${hex(about.octet)} hex, `
-            + `order ${about.order}).`],
+        [`${clock(about.times / rateOf(log))} long; ${many(about.channels, 'channel')} of ${about.bits} bits `
+            + `(format ${hex(about.octet)} hex, order ${about.order}).`],
         [`${many(about.sound, 'sound cell')}, ${number(about.missing)} missing in ${many(about.gaps, 'place')}, `
             + `${number(about.refused)} refused.`, about.missing + about.refused ? 'bad' : ''],
         ...Object.entries(about.refusedBy).map(([refusal, times]) =>
@@ -117,7 +119,8 @@ function factsOf(log) {
         facts.push([`${number(about.refusedLast)} of them after the last sound cell: no silence stands for them.`, 'bad']);
     if (about.damaged) facts.push([`${many(about.damaged, 'sample')} damaged: the protection bits disagree.`, 'doubt']);
     if (about.fault)
-        facts.push([`Broken ${about.fault} at record ${number(about.records)}: ${words[about.fault]}; ${many(about.cut, 'octet')} cut.`, 'bad']);
+        facts.push([`Broken ${about.fault} at record ${number(about.records)}: ${words[about.fault]}; `
+            + `${many(about.cut, 'octet')} cut.`, 'bad']);
     if (about.named.lengths.length > 0) facts.push([`Channel status says words of ${about.named.lengths.join(' and ')} bits.`]);
     return facts;
 }
@@ -205,7 +208,8 @@ async function show(log, go = false) {
         log.view ??= {from: 0, past: Math.max(about.times, 1)};
         log.cursor ??= 0;
         showTimes(log);
-        quick.ask('open', {key: log.key, file: log.file, points: log.points}).then(() => draw(), error => say(`${log.name}: ${error.message}`));
+        quick.ask('open', {key: log.key, file: log.file, points: log.points})
+            .then(() => draw(), error => say(`${log.name}: ${error.message}`));
     }
     if (go) $('log-head').focus();
 }
@@ -215,8 +219,8 @@ function showList(about) {
         ...about.fault ? [`${about.records} broken ${about.fault}`] : [],
         `end ${about.sound} sound ${about.missing} missing ${about.refused} refused`];
     $('list').textContent = lines.join('\n');
-    const told = about.refusal ? 0 : about.gaps + about.refused;
-    $('list-say').textContent = told > (about.rows?.length ?? 0) ? `The first ${number(about.rows.length)} of ${number(told)}; the whole list has all.`
+    const told = about.refusal ? 0 : about.gaps + about.refused, shown = about.rows?.length ?? 0;
+    $('list-say').textContent = told > shown ? `The first ${number(shown)} of ${number(told)}; the whole list has all.`
         : 'The lines that aren’t “sound 0”: records before which cells are missing, and records that were refused.';
 }
 
@@ -235,8 +239,9 @@ function showTimes(log) {
     $('facts').replaceChildren(...factsOf(log).map(([words, kind = '']) =>
         Object.assign(document.createElement('li'), {textContent: words, className: kind})));
     showStretches(log);
-    const asking = {status: about.status, channels: about.channels};
-    quick.ask('statusLines', {about: asking, rate: {asked: log.asked, rate, isAssumed: !log.asked && !about.rate}}).then(lines => {
+    const by = {asked: log.asked, rate, isAssumed: !log.asked && !about.rate};
+    const few = {status: about.status, channels: about.channels};
+    quick.ask('statusLines', {about: few, rate: by}).then(lines => {
         if (log !== current) return;
         $('status').textContent = lines.join('\n');
         const left = (about.status?.count ?? 0) - lines.length;
@@ -244,12 +249,16 @@ function showTimes(log) {
     });
 }
 
+function stretchWords(count, shown, overhead) {
+    if (count > shown) return `The first ${number(shown)} of ${many(count, 'place')}; the labels have all.`;
+    if (count > 0) return `${many(count, 'place')}. Choose one to go there.`;
+    return overhead ? 'Nothing is missing or damaged.' : 'A format without overhead doesn’t show what is missing or damaged.';
+}
+
 function showStretches(log) {
     const {stretches, stretchCount, overhead} = log.about, rate = rateOf(log), shown = stretches.slice(0, MOST_SHOWN);
     $('stretch-table').hidden = stretchCount === 0;
-    $('stretch-say').textContent = stretchCount > shown.length ? `The first ${number(shown.length)} of ${many(stretchCount, 'place')}; the labels have all.`
-        : stretchCount > 0 ? `${many(stretchCount, 'place')}. Choose one to go there.`
-            : overhead ? 'Nothing is missing or damaged.' : 'A format without overhead doesn’t show what is missing or damaged.';
+    $('stretch-say').textContent = stretchWords(stretchCount, shown.length, overhead);
     $('stretches').replaceChildren();
     for (const stretch of shown) {
         const row = $('stretches').insertRow();

@@ -4,7 +4,6 @@ const BINS = 16384; // columns of the overview
 const MOST_ROWS = 1000; // lines that are shown of the list, and of channel status
 const MOST_STRETCHES = 100000; // that the page keeps
 const RATE_TIMES = 4800; // sample times in which channel status is looked at for the rate
-const ASSUMED = 48000;
 
 // ---- The picture: lowest and highest sample and the marks, in columns of `unit` sample times ----
 const LOWEST = -0x80000000, HIGHEST = 0x7FFFFFFF;
@@ -83,7 +82,8 @@ class Stretches {
 
 // ---- Channel status (EBU Tech 3250, clause 4) ----
 const RATES = {0x80: 48000, 0x40: 44100, 0xC0: 32000}; // bits 6 and 7 of octet 0
-const LENGTHS = {0x08: 16, 0x30: 17, 0x10: 18, 0x20: 19, 0x28: 20, 0x34: 21, 0x14: 22, 0x24: 23, 0x2C: 24, 0x0C: 20}; // of octet 2
+// Bits of a word, by bits 0 to 5 of octet 2.
+const LENGTHS = {0x08: 16, 0x30: 17, 0x10: 18, 0x20: 19, 0x28: 20, 0x34: 21, 0x14: 22, 0x24: 23, 0x2C: 24, 0x0C: 20};
 const ALIKE = 14, FLAGS = 22; // octets up to the sample addresses, which count on; the flags after them
 const ANSWERS = ['neither', "doesn't fit", 'fits', 'none carried'];
 
@@ -120,7 +120,8 @@ class Status {
                 found.push({channel, answer: out[RIME.OUT_ANSWER], block: out.slice(RIME.OUT_OCTETS), entry: next[0] - channels});
             }
         }
-        for (const one of found.sort((a, b) => a.entry - b.entry)) this.block(one, at.time + Math.floor(one.entry / channels) + 1);
+        for (const one of found.sort((a, b) => a.entry - b.entry))
+            this.block(one, at.time + Math.floor(one.entry / channels) + 1);
     }
 
     block({channel, answer, block}, past) {

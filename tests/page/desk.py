@@ -44,8 +44,8 @@ def turning(chance, given, count):
 
 
 def made(chance):
-    """Over several pieces of the page, with gaps and refusals at their borders; a gap at sample 375 of 48,000 Hz, a tie of printf's;
-    silence alone; every format's most channels."""
+    """Over several pieces of the page, with gaps and refusals at their borders; a gap at sample 375 of 48,000 Hz, a tie of
+    printf's; damage in the very last sample; all slots; nothing."""
     given = Setting(0x56, 2, 0)
     row = turning(chance, given, 40000)
     for at in (39990, 33000, 32768, 32767, 16385, 16384, 16383, 100):

@@ -1,5 +1,5 @@
-// The page in Chromium: logs are dropped, texts are read, and every file that it saves is compared octet for octet with what the desk
-// tool made (desk.py).   usage: page.mjs PAGE.html FOLDER TOOL [PICTURES]
+// The page in Chromium: logs are dropped, texts are read, and every file that it saves is compared octet for octet with what the
+// desk tool made (desk.py).   usage: page.mjs PAGE.html FOLDER TOOL [PICTURES]
 import assert from 'node:assert/strict';
 import {spawnSync} from 'node:child_process';
 import fs from 'node:fs';
@@ -93,7 +93,10 @@ async function tryKeys(browser) {
 // What is handed to WebAudio is what the WAV has, silence in gaps; the cursor moves; space ends it.
 async function tryPlay(browser) {
     await browser.eval(`window.heard = []; const was = AudioBuffer.prototype.copyToChannel;
-        AudioBuffer.prototype.copyToChannel = function (from, channel) { heard.push([channel, ...from]); return was.call(this, from, channel); }`);
+        AudioBuffer.prototype.copyToChannel = function (from, channel) {
+            heard.push([channel, ...from]);
+            return was.call(this, from, channel);
+        }`);
     const from = await browser.eval('goTo(current.about.stretches[1]), current.cursor');
     await browser.key(' ', ' ');
     await browser.until(`current.cursor > ${from} + ${ASKED / 4} && $('play').textContent === 'Pause' && heard.length >= 2`);

@@ -1,6 +1,6 @@
 // The page's reader under Node, over logs of which desk.py has the desk tool's answers.   usage: reader.mjs READER.js FOLDER
-// Compared octet for octet: anything, list, sheet; and of the logs that it asked them for, the salvaged log with its lines, channel
-// status, WAV and label track.
+// Compared octet for octet: anything, list, sheet; and of the logs that it was asked them of, the salvaged log with its lines,
+// channel status, WAV and label track.
 import fs from 'node:fs';
 import path from 'node:path';
 import vm from 'node:vm';
@@ -15,7 +15,8 @@ let compared = 0, wrong = 0;
 function same(what, got, want) {
     compared++;
     if (Buffer.compare(Buffer.from(got), Buffer.from(want)) === 0) return;
-    if (wrong++ < 5) console.log(`${what}:\n  the reader    ${got.toString().slice(0, 300)}\n  the desk tool ${want.toString().slice(0, 300)}`);
+    const [mine, its] = [got, want].map(made => made.toString().slice(0, 300));
+    if (wrong++ < 5) console.log(`${what}:\n  the reader    ${mine}\n  the desk tool ${its}`);
 }
 
 function source(octets) {
@@ -27,7 +28,7 @@ function gathered(make) {
     return Buffer.concat([...first ? [first] : [], ...parts]);
 }
 
-// Of samples of 40 bits the head has each channel's peak, and when it was; libsndfile's times depend on how it was handed the samples.
+// Of samples of 40 bits the head has each channel's peak, and when it was. libsndfile's times depend on the parts it was given.
 function withoutPeakTimes(log, wav) {
     for (let channel = 0; channel < log.channels && log.bits === 40; channel++) wav.writeUInt32LE(0, 104 + 16 + 8 * channel + 4);
     return wav;
@@ -42,7 +43,8 @@ function one(name, octets, log, about, asked) {
     same(`${name}: the salvaged log`, Buffer.concat(runs.map(([from, past]) => octets.subarray(from, past))), made('salvaged'));
     same(`${name}: the salvage's lines`, lines.join(''), made('lines'));
     same(`${name}: the label track`, gathered(put => room.labelTrack(log, rate, put)), made('labels'));
-    same(`${name}: the sound`, withoutPeakTimes(log, gathered(put => room.wav(log, rate, put))), withoutPeakTimes(log, made('wav')));
+    const wav = gathered(put => room.wav(log, rate, put));
+    same(`${name}: the sound`, withoutPeakTimes(log, wav), withoutPeakTimes(log, made('wav')));
     const status = room.statusLines(about, {asked, rate, isAssumed: !asked && !about.rate});
     same(`${name}: channel status`, status.map(line => `${line}\n`).join(''), made('status'));
 }
@@ -74,7 +76,7 @@ for (const [at, name] of names.entries()) {
 const linesOf = text => text.toString().split('\n');
 const differ = (what, got, want) => {
     const mine = linesOf(got), its = linesOf(want), at = mine.findIndex((line, index) => line !== its[index]);
-    same(what, mine.length === its.length && at < 0 ? 'same' : `line ${at}: ${mine[at]}`, at < 0 ? 'same' : `line ${at}: ${its[at]}`);
+    same(`${what}, line ${at}`, `${mine.length} ${mine[at]}`, `${its.length} ${its[at]}`);
 };
 differ('anything', answers.join(''), fs.readFileSync(path.join(desk, 'anything')));
 differ('list', lists.map(String).join(''), fs.readFileSync(path.join(desk, 'list')));

@@ -18,7 +18,8 @@ const said = state => [...some(state, 5), lender.memory.getUint32(state.at + 5, 
 
 // What a fresh receiver hands out of records in a row.
 function line([format, channels, order, arrivals]) {
-    const state = empty(1, 9), report = empty(1, 4), runs = [empty(8, 720), empty(1, 720), empty(1, 720)], cells = octets(arrivals);
+    const state = empty(1, 9), report = empty(1, 4), cells = octets(arrivals);
+    const runs = [empty(8, 720), empty(1, 720), empty(1, 720)];
     const cell = empty(1, 48), facts = empty(4, 4), answers = [], out = [[], [], []];
     ask('rime_format', u32(format), facts.at);
     const slots = Number(one(facts, 3)), entries = slots - slots % Number(channels);
@@ -47,7 +48,8 @@ const boxes = {
         return [ask('rime_receiver_open', u32(format), u32(channels), u32(order), state.at), said(state)];
     },
     send([state, indication, samples, ancillary, cell]) {
-        const s = lent(1, numbers(state)), a = lent(8, numbers(samples)), b = lent(1, numbers(ancillary)), c = lent(1, octets(cell));
+        const s = lent(1, numbers(state)), c = lent(1, octets(cell));
+        const a = lent(8, numbers(samples)), b = lent(1, numbers(ancillary));
         return [ask('rime_send', s.at, Number(indication), ...both(a), ...both(b), ...both(c)), list(s), hex(c)];
     },
     receive([state, cell, indication, samples, ancillary, marks]) {
@@ -102,7 +104,8 @@ const logs = {
     },
     sheet([all, lengths, count]) {
         const rows = empty(4, Number(count)), totals = empty(4, 10);
-        const refusal = ask('rime_sheet', ...both(lent(1, octets(all))), ...both(lent(8, numbers(lengths))), ...both(rows), totals.at);
+        const words = [lent(1, octets(all)), lent(8, numbers(lengths)), rows];
+        const refusal = ask('rime_sheet', ...words.flatMap(both), totals.at);
         return [refusal, refusal ? '-' : list(rows), list(totals)];
     },
 };
@@ -157,7 +160,8 @@ function compare(text) {
     }
     cases++;
     if (got === want && !lender.isSpilled()) return;
-    if (wrong++ < 5) console.log(`${text.slice(0, 300)}\n  got ${got.slice(0, 300)}${lender.isSpilled() ? ', past the end' : ''}`);
+    const more = lender.isSpilled() ? ', and it wrote past the end of a run' : '';
+    if (wrong++ < 5) console.log(`${text.slice(0, 300)}\n  got ${got.slice(0, 300)}${more}`);
 }
 
 for (const file of fs.readdirSync(folder).filter(name => name.endsWith('.txt')))
