@@ -152,8 +152,8 @@ function soundOf(log, given) {
     return part;
 }
 
-// The highest of each channel in a file of floating point: its head has them as numbers of 32 bits, with the first time of each. Of
-// several that are alike in 32 bits libsndfile's time depends on the parts in which the samples came to it.
+// The highest of each channel in a file of floating point: its head has them as numbers of 32 bits, with the first time of each.
+// Of several that are alike in 32 bits libsndfile's time depends on the parts in which the samples came to it.
 class Peaks {
     constructor(log) {
         this.found = Array.from({length: widthOf(log.bits) === 8 ? log.channels : 0}, () => ({value: 0, time: 0}));
