@@ -14,17 +14,17 @@ function seconds(time, rate) {
 
 // ---- The list, and the salvaged log ----
 
-// Stands in for rime_list_take: a record's line, of what rime_judge_log wrote of it.
-function lineOf(record, report) {
-    const refusal = report[RIME.JUDGEMENT_REFUSAL], said = report.subarray(RIME.JUDGEMENT_REPORT);
-    return refusal ? `${record} refused ${refusal}`
-        : `${record} sound ${said[RIME.REPORT_MISSING]} number ${said[RIME.REPORT_NUMBER]}`;
+// Calls `take(record, refusal, missing, number)` for each record of a piece, by what rime_judge_log wrote.
+const OF_REFUSAL = RIME.JUDGEMENT_REFUSAL, OF_MISSING = RIME.JUDGEMENT_REPORT + RIME.REPORT_MISSING;
+const OF_NUMBER = RIME.JUDGEMENT_REPORT + RIME.REPORT_NUMBER;
+function eachRecord(log, reports, records, take) {
+    for (let at = 0, record = log.at.record; at < records * RIME.JUDGEMENT; at += RIME.JUDGEMENT, record++)
+        take(record, reports[at + OF_REFUSAL], reports[at + OF_MISSING], reports[at + OF_NUMBER]);
 }
 
-// Calls `take(record, report)` for each record of a piece.
-function eachRecord(log, reports, records, take) {
-    for (let at = 0; at < records; at++)
-        take(log.at.record + at, reports.subarray(at * RIME.JUDGEMENT, (at + 1) * RIME.JUDGEMENT));
+// Stands in for rime_list_take: a record's line.
+function lineOf(record, refusal, missing, number) {
+    return refusal ? `${record} refused ${refusal}` : `${record} sound ${missing} number ${number}`;
 }
 
 function formatLine(log) {
@@ -48,11 +48,10 @@ function list(log, put) {
     const fault = faultOfList(log, log.walk({
         judged(reports, records) {
             let text = '';
-            eachRecord(log, reports, records, (record, report) => {
-                text += `${lineOf(record, report)}\n`;
-                if (report[RIME.JUDGEMENT_REFUSAL]) return counted.refused++;
-                counted.sound++;
-                counted.missing += report[RIME.JUDGEMENT_REPORT + RIME.REPORT_MISSING];
+            eachRecord(log, reports, records, (record, refusal, missing, number) => {
+                text += `${lineOf(record, refusal, missing, number)}\n`;
+                counted[refusal ? 'refused' : 'sound']++;
+                counted.missing += missing;
             });
             put(text);
         },
@@ -67,12 +66,12 @@ function salvage(log) {
     let kept = 0;
     log.walk({
         judged(reports, records) {
-            eachRecord(log, reports, records, (record, report) => {
+            eachRecord(log, reports, records, (record, refusal) => {
                 const from = log.at.place + (record - log.at.record) * RIME.RECORD_OCTETS, past = from + RIME.RECORD_OCTETS;
-                if (report[RIME.JUDGEMENT_REFUSAL]) lines.push(`${lineOf(record, report)}\n`);
-                else if (runs.at(-1)[1] === from) runs.at(-1)[1] = past;
+                if (refusal) return void lines.push(`${lineOf(record, refusal)}\n`);
+                kept++;
+                if (runs.at(-1)[1] === from) runs.at(-1)[1] = past;
                 else runs.push([from, past]);
-                kept += report[RIME.JUDGEMENT_REFUSAL] === RIME.DONE;
             });
         },
     });

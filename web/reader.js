@@ -205,9 +205,8 @@ class Scan {
     judged(reports, records) {
         const {about} = this;
         this.records = records;
-        eachRecord(this.log, reports, records, (record, report) => {
-            const refusal = report[RIME.JUDGEMENT_REFUSAL], missing = report[RIME.JUDGEMENT_REPORT + RIME.REPORT_MISSING];
-            if ((refusal || missing) && about.rows.length < MOST_ROWS) about.rows.push(lineOf(record, report));
+        eachRecord(this.log, reports, records, (record, refusal, missing, number) => {
+            if ((refusal || missing) && about.rows.length < MOST_ROWS) about.rows.push(lineOf(record, refusal, missing, number));
             if (refusal) {
                 about.refused++;
                 about.refusedLast++;
@@ -241,9 +240,9 @@ class Scan {
     recordOf(entry) {
         const {log} = this;
         let past = 0, of = -1;
-        eachRecord(log, log.library.reports, this.records, (record, report) => {
-            if (past > entry || report[RIME.JUDGEMENT_REFUSAL]) return;
-            past += (report[RIME.JUDGEMENT_REPORT + RIME.REPORT_MISSING] + 1) * log.entries;
+        eachRecord(log, log.library.reports, this.records, (record, refusal, missing) => {
+            if (past > entry || refusal) return;
+            past += (missing + 1) * log.entries;
             if (past > entry) of = record;
         });
         return of;
