@@ -1,0 +1,41 @@
+#!/usr/bin/env bash
+# The reading room's tests: the vectors through its library, its reader against the desk tool, wrong readers, and the page in
+# Chromium where that is asked for.
+#
+#   bash tests/page/run.sh EACH SPOILED [browser]      EACH, SPOILED: as tests/page/desk.py takes them
+set -eu -o pipefail
+export LC_ALL=C PYTHONDONTWRITEBYTECODE=1
+bash tests/need.sh nodejs
+page=${PAGE:-target/page} desk=$PWD/${DESK:-target/desk}/rimesatchel
+dir=$(mktemp -d)
+trap 'rm -rf "$dir"' EXIT
+
+node tests/page/vectors.mjs "$page/library.wasm" tests/vectors
+python3 tests/page/desk.py "$desk" "$dir/room" "$1" "$2"
+node tests/page/reader.mjs "$page/reader.js" "$dir/room"
+
+# planted WHAT FROM TO: a reader with FROM turned into TO is noticed
+planted() {
+    node - "$page/reader.js" "$dir/wrong.js" "$2" "$3" << 'JS'
+const fs = require('fs'), [, , from, to, was, is] = process.argv, text = fs.readFileSync(from, 'utf8');
+if (text.split(was).length !== 2) throw Error(`the reader has ${text.split(was).length - 1} times ${was}`);
+fs.writeFileSync(to, text.replace(was, () => is));
+JS
+    if node tests/page/reader.mjs "$dir/wrong.js" "$dir/room" > "$dir/said"; then
+        echo "page: a reader that $1 passes" >&2
+        exit 1
+    fi
+    grep -q ', [1-9][0-9]* differences$' "$dir/said" || { cat "$dir/said" >&2; exit 1; }
+}
+planted "skips a refused record's gap" 'if (!refusal) given += (report[RIME.REPORT_MISSING] + 1) * this.entries;' \
+    'if (!refusal) given += (last ? 1 : report[RIME.REPORT_MISSING] + 1) * this.entries; var last = refusal;'
+planted 'forgets the last stretch' 'log.walk({handed(given) { stretches.take(given); }});
+    stretches.end();' 'log.walk({handed(given) { stretches.take(given); }});'
+planted 'rounds ties up' 'if (!isTie) return' 'return'
+planted 'takes marks for samples' 'let value = log.top(entry) >> down;' 'let value = log.library.marks[entry];'
+echo "page: four wrong readers noticed"
+
+if [ "${3:-}" = browser ]; then
+    bash tests/need.sh chromium
+    node tests/page/page.mjs "$page/rimesatchel.html" "$dir/room" "$desk" "$page"
+fi

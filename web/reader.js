@@ -1,0 +1,291 @@
+// Reads logs: all that the page shows of one, by one walk, and what is asked for while one looks and listens.
+
+const BINS = 16384; // columns of the overview
+const MOST_ROWS = 1000; // lines that are shown of the list, and of channel status
+const MOST_STRETCHES = 100000; // that the page keeps
+const RATE_TIMES = 4800; // sample times in which channel status is looked at for the rate
+
+// ---- The picture: lowest and highest sample and the marks, in columns of `unit` sample times ----
+const LOWEST = -0x80000000, HIGHEST = 0x7FFFFFFF;
+const SEEN = {[RIME.MARK_SOUND]: 1, [RIME.MARK_DOUBTFUL]: 3, [RIME.MARK_MISSING]: 4}; // 1 a sample came, 2 damaged, 4 missing
+
+class Columns {
+    constructor(log, count, from = 0, unit = 1) {
+        Object.assign(this, {count, from, unit, channels: log.channels});
+        this.low = new Int32Array(count * log.channels).fill(HIGHEST);
+        this.high = new Int32Array(count * log.channels).fill(LOWEST);
+        this.seen = new Uint8Array(count * log.channels);
+    }
+
+    take(log, given) {
+        const {marks} = log.library, {channels, low, high, seen} = this;
+        for (let entry = 0, time = log.at.time - this.from; entry < given; entry += channels, time++) {
+            const column = Math.floor(time / this.unit);
+            if (column < 0 || column >= this.count) continue;
+            for (let channel = 0, at = column * channels; channel < channels; channel++, at++) {
+                const mark = marks[entry + channel];
+                seen[at] |= SEEN[mark];
+                if (mark === RIME.MARK_MISSING) continue;
+                const value = log.top(entry + channel);
+                if (value < low[at]) low[at] = value;
+                if (value > high[at]) high[at] = value;
+            }
+        }
+    }
+
+    // Makes room up to a sample time: two columns become one, as often as it takes.
+    fit(past) {
+        for (; past > this.unit * this.count; this.unit *= 2)
+            for (let column = 0, at = 0; column < this.count; column++)
+                for (let channel = 0; channel < this.channels; channel++, at++)
+                    this.join(at, 2 * column + 1 < this.count ? 2 * column * this.channels + channel : -1);
+    }
+
+    join(at, a) {
+        const b = a + this.channels, isThere = a >= 0;
+        this.low[at] = isThere ? Math.min(this.low[a], this.low[b]) : HIGHEST;
+        this.high[at] = isThere ? Math.max(this.high[a], this.high[b]) : LOWEST;
+        this.seen[at] = isThere ? this.seen[a] | this.seen[b] : 0;
+    }
+}
+
+// ---- Stretches of sample times that are missing, or damaged in the same channels ----
+class Stretches {
+    constructor(log, told) {
+        Object.assign(this, {log, told, open: null, damaged: 0});
+    }
+
+    take(given) {
+        const {marks} = this.log.library, {channels} = this.log;
+        for (let entry = 0, time = this.log.at.time; entry < given; entry += channels, time++) {
+            let any = 0;
+            for (let channel = 0; channel < channels; channel++) any |= marks[entry + channel];
+            if (any !== RIME.MARK_SOUND) this.one(marks.subarray(entry, entry + channels), time);
+            else if (this.open) this.end();
+        }
+    }
+
+    one(marks, time) {
+        const channels = [...marks.keys()].filter(channel => marks[channel] === RIME.MARK_DOUBTFUL);
+        const mark = channels.length > 0 ? RIME.MARK_DOUBTFUL : RIME.MARK_MISSING, {open} = this;
+        this.damaged += channels.length;
+        if (open && open.mark === mark && open.channels.join() === channels.join()) return void open.past++;
+        this.end();
+        this.open = {mark, channels, from: time, past: time + 1};
+    }
+
+    end() {
+        if (this.open) this.told(this.open);
+        this.open = null;
+    }
+}
+
+// ---- Channel status (EBU Tech 3250, clause 4) ----
+const RATES = {0x80: 48000, 0x40: 44100, 0xC0: 32000}; // bits 6 and 7 of octet 0
+// Bits of a word, by bits 0 to 5 of octet 2.
+const LENGTHS = {0x08: 16, 0x30: 17, 0x10: 18, 0x20: 19, 0x28: 20, 0x34: 21, 0x14: 22, 0x24: 23, 0x2C: 24, 0x0C: 20};
+const ALIKE = 14, FLAGS = 22; // octets up to the sample addresses, which count on; the flags after them
+const ANSWERS = ['neither', "doesn't fit", 'fits', 'none carried'];
+
+function rateOf(block) {
+    return RATES[block[0] & 0xC0] ?? 0;
+}
+
+function lengthOf(block) {
+    const code = block[2] & 0x3F;
+    return LENGTHS[code % 8 === 2 ? code - 2 : code] ?? 0;
+}
+
+function isFlagged(block) {
+    return (block[FLAGS] & 0x10) !== 0;
+}
+
+// Blocks in a row of one channel that are alike are one, with their count.
+class Status {
+    constructor(log) {
+        Object.assign(this, {log, lines: [], count: 0, first: []});
+        this.open = Array(log.channels).fill(null);
+        log.library.blocks.fill(0);
+    }
+
+    take(given) {
+        const {library, channels, at} = this.log, {next, out} = library, length = BigInt(given), found = [];
+        const ancillary = library.lend('ancillary', 0, given), marks = library.lend('marks', 0, given);
+        for (let channel = 0; channel < channels; channel++) {
+            const block = library.lend('blocks', channel * RIME.BLOCK, RIME.BLOCK);
+            for (let from = channel; from < given; from = next[0]) {
+                library.ask('rime_status_run', block, ancillary, length, marks, length, BigInt(from), BigInt(channels),
+                    library.all('out'), library.all('next'));
+                if (out[RIME.OUT_ANSWER] === RIME.STATUS_NONE) continue;
+                found.push({channel, answer: out[RIME.OUT_ANSWER], block: out.slice(RIME.OUT_OCTETS), entry: next[0] - channels});
+            }
+        }
+        for (const one of found.sort((a, b) => a.entry - b.entry))
+            this.block(one, at.time + Math.floor(one.entry / channels) + 1);
+    }
+
+    block({channel, answer, block}, past) {
+        const last = this.open[channel];
+        if (answer === RIME.STATUS_FITS && !isFlagged(block) && past <= RATE_TIMES) this.first.push({channel, block});
+        if (last && last.answer === answer && last.block[FLAGS] === block[FLAGS]
+            && last.block.subarray(0, ALIKE).every((octet, at) => octet === block[at])) {
+            last.count++;
+            last.past = past;
+            return;
+        }
+        if (last) this.close(last);
+        this.open[channel] = {channel, answer, block, count: 1, from: past - 8 * RIME.STATUS_OCTETS, past};
+    }
+
+    close(line) {
+        this.count++;
+        if (this.lines.length < MOST_ROWS) this.lines.push(line);
+    }
+
+    end() {
+        for (const [channel, open] of this.open.entries()) this.close(open ?? {channel});
+        return this;
+    }
+
+    // What the first sample times name, the first first: rates with their blocks, and the lengths of words.
+    named() {
+        const rates = new Map(), lengths = new Set();
+        for (const {channel, block} of this.first) {
+            if (lengthOf(block)) lengths.add(lengthOf(block));
+            const rate = rateOf(block);
+            if (!rate) continue;
+            if (!rates.has(rate)) rates.set(rate, {rate, channel, blocks: 0});
+            rates.get(rate).blocks++;
+        }
+        return {rates: [...rates.values()], lengths: [...lengths].sort((a, b) => a - b)};
+    }
+}
+
+function letters(octets) {
+    return [...octets].map(octet => octet === 0 ? '' : octet >= 0x20 && octet < 0x7F ? String.fromCharCode(octet)
+        : `\\x${octet.toString(16).toUpperCase().padStart(2, '0')}`).join('');
+}
+
+function professional(block) {
+    const rate = rateOf(block), length = lengthOf(block);
+    return `, professional${rate ? `, ${rate} Hz` : ''}${length ? `, ${length} bits` : ''}`
+        + `${isFlagged(block) ? ' (flagged as unreliable)' : ''}, origin "${letters(block.subarray(6, 10))}"`
+        + `, destination "${letters(block.subarray(10, 14))}"`;
+}
+
+// A line of the desk tool's `labels`. Its seconds are by the rate that was asked for, by the blocks' own, or by the log's.
+function statusLine({channel, answer, block, count, from, past}, {asked, rate, isAssumed}) {
+    if (!count) return `channel ${channel + 1}: no channel status block`;
+    const isConsumer = answer === RIME.STATUS_NONE_CARRIED, own = isConsumer ? 0 : rateOf(block);
+    const counts = answer === RIME.STATUS_FITS && !isFlagged(block);
+    const used = asked || (own && (counts || isAssumed) ? own : rate);
+    return `channel ${channel + 1}: ${seconds(from, used)} to ${seconds(past, used)} s, ${count} block${count === 1 ? '' : 's'}: `
+        + `${ANSWERS[answer]}${isConsumer ? ', consumer use' : professional(block)}`;
+}
+
+function statusLines({status, channels}, rate) {
+    if (status) return status.lines.map(line => statusLine(line, rate));
+    return Array.from({length: channels}, (_, channel) => `${statusLine({channel}, rate)}: the format has no ancillary bits`);
+}
+
+// ---- The first walk ----
+class Scan {
+    constructor(log) {
+        const {size, octet, channels, order, bits, entries, overhead, ancillary} = log;
+        this.log = log;
+        this.about = {size, refusal: 0, octet, channels, order, bits, entries, overhead, ancillary, sound: 0, missing: 0, gaps: 0,
+            refused: 0, refusedBy: {}, refusedLast: 0, yes: -1, rows: [], stretches: [], stretchCount: 0};
+        this.columns = new Columns(log, BINS);
+        this.status = ancillary ? new Status(log) : null;
+        this.stretches = new Stretches(log, stretch => {
+            if (this.about.stretchCount++ < MOST_STRETCHES) this.about.stretches.push({...stretch, said: wordsOf(stretch)});
+        });
+    }
+
+    judged(reports, records) {
+        const {about} = this;
+        this.records = records;
+        eachRecord(this.log, reports, records, (record, refusal, missing, number) => {
+            if ((refusal || missing) && about.rows.length < MOST_ROWS) about.rows.push(lineOf(record, refusal, missing, number));
+            if (refusal) {
+                about.refused++;
+                about.refusedLast++;
+                about.refusedBy[refusal] = (about.refusedBy[refusal] ?? 0) + 1;
+                return;
+            }
+            about.sound++;
+            about.missing += missing;
+            about.gaps += missing > 0;
+            about.refusedLast = 0;
+        });
+    }
+
+    handed(given, before) {
+        if (this.about.yes < 0) this.search(given, before);
+        this.columns.fit(this.log.at.time + given / this.log.channels);
+        this.columns.take(this.log, given);
+        this.stretches.take(given);
+        this.status?.take(given);
+    }
+
+    // Stands in for rime_anything_take: the record of the first sample marked sound that isn't zero.
+    search(given, before) {
+        const {samples, marks} = this.log.library;
+        for (let entry = 0; entry < given; entry++)
+            if (marks[entry] === RIME.MARK_SOUND && (samples[2 * entry] | samples[2 * entry + 1]) !== 0)
+                return void (this.about.yes = this.recordOf(before + entry));
+    }
+
+    // The record that handed out an entry of this piece.
+    recordOf(entry) {
+        const {log} = this;
+        let past = 0, of = -1;
+        eachRecord(log, log.library.reports, this.records, (record, refusal, missing) => {
+            if (past > entry || refusal) return;
+            past += (missing + 1) * log.entries;
+            if (past > entry) of = record;
+        });
+        return of;
+    }
+
+    end(fault) {
+        const {log, about, stretches, columns} = this, status = this.status?.end();
+        stretches.end();
+        const named = status?.named() ?? {rates: [], lengths: []};
+        return Object.assign(about, {fault, records: log.at.record, times: log.at.time, cut: log.size - log.at.place, columns,
+            damaged: stretches.damaged, named, rate: named.rates[0]?.rate ?? 0,
+            status: status && {lines: status.lines, count: status.count}});
+    }
+}
+
+function scan(log) {
+    if (log.refusal) return {size: log.size, refusal: log.refusal};
+    const all = new Scan(log);
+    return all.end(log.walk(all));
+}
+
+function anything({refusal, yes, records}) {
+    return refusal ? `log refused ${refusal}` : yes >= 0 ? `yes ${yes}` : `no ${records}`;
+}
+
+// ---- What is asked for while one looks and listens ----
+function picture(log, from, past, count) {
+    const columns = new Columns(log, count, from, (past - from) / count);
+    log.walk({handed(given) { columns.take(log, given); return log.at.time + given / log.channels >= past; }}, log.before(from));
+    return columns;
+}
+
+// Each channel's sound from a sample time on, as numbers from -1 to 1.
+function sound(log, from, count) {
+    const channels = Array.from({length: log.channels}, () => new Float32Array(count));
+    log.walk({
+        handed(given) {
+            for (let entry = 0, time = log.at.time - from; entry < given; entry += log.channels, time++)
+                if (time >= 0 && time < count)
+                    for (let channel = 0; channel < log.channels; channel++)
+                        channels[channel][time] = log.top(entry + channel) / 0x80000000;
+            return log.at.time + given / log.channels >= from + count;
+        },
+    }, log.before(from));
+    return channels;
+}
