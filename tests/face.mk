@@ -114,6 +114,7 @@ face-bindings: $(LIB)/librimesatchel.a $(SHARED) $(SHARED_MANAGEMENT)
 	cargo test --quiet --offline --locked --doc --manifest-path bindings/rust/Cargo.toml \
 	    --target-dir target/compare > $(EXAMPLES)/doc-tests 2>&1 || { cat $(EXAMPLES)/doc-tests; exit 1; }
 	cd bindings/python && python3 -c 'import doctest, rimesatchel, sys; sys.exit(doctest.testmod(rimesatchel).failed != 0)'
+	python3 tests/slips.py
 	@echo "bindings: the pages of the Rust crate and of the Python module say what is so"
 
 # Everything that links the archive. The gate builds it while `rt ci` goes on.

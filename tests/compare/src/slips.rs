@@ -75,7 +75,10 @@ fn outages() -> bool {
             let between = all.iter().zip(&all[1..]).map(|(a, b)| b.place - a.place - 1).max().unwrap_or(0);
             let right = |short: i64| if between <= MOST_EXACT { short == 0 } else { short >= 0 };
             if !short_by(&all).all(right) {
-                println!("an outage of {lost} cells behind number {} with second number {second}: told wrongly", (number + 2) % 16);
+                println!(
+                    "an outage of {lost} cells behind number {} with second number {second}: told wrongly",
+                    (number + 2) % 16
+                );
                 return false;
             }
             played += 1;
