@@ -62,11 +62,6 @@ static bool write_held(struct kept *kept) {
     return true;
 }
 
-bool kept_sync(struct kept *kept) {
-    if (!write_held(kept)) return false;
-    return fdatasync(kept->fd) == 0 || failed(kept, "can't be brought to the disk");
-}
-
 /* The name itself is on the disk too, where the folder can be read. */
 static bool sync_folder(struct kept *kept) {
     char *folder;
@@ -77,12 +72,19 @@ static bool sync_folder(struct kept *kept) {
     bool good = fd < 0 || fsync(fd) == 0 || errno == EINVAL;
     if (!good) failed(kept, "its name can't be brought to the disk");
     if (fd >= 0) close(fd);
+    kept->named = true;
     return good;
+}
+
+bool kept_sync(struct kept *kept) {
+    if (!write_held(kept)) return false;
+    if (fdatasync(kept->fd) != 0) return failed(kept, "can't be brought to the disk");
+    return kept->named || sync_folder(kept);
 }
 
 int kept_open(struct kept *kept, const char *name, unsigned piece, struct settings settings) {
     kept->octets = kept->records = kept->used = 0;
-    kept->reserved = false;
+    kept->reserved = kept->named = false;
     kept->path = kept_name(name, piece);
     kept->fd = open(kept->path, O_WRONLY | O_CREAT | O_EXCL | O_APPEND | O_CLOEXEC, 0666);
     if (kept->fd < 0) {
@@ -91,7 +93,7 @@ int kept_open(struct kept *kept, const char *name, unsigned piece, struct settin
         return status;
     }
     rime_log_put_header(kept->held, sizeof kept->held, settings.format, settings.channels, settings.order, &kept->used);
-    return kept_sync(kept) && sync_folder(kept) ? STATUS_WELL : STATUS_FILE;
+    return write_held(kept) ? STATUS_WELL : STATUS_FILE;
 }
 
 /* A limit on the size of files isn't looked at where a file keeps its own. */

@@ -16,6 +16,7 @@ struct kept {
     uint64_t octets;  /* written */
     uint64_t records; /* in all, those that are held among them */
     bool reserved;    /* room was taken beforehand */
+    bool named;       /* its name is on the disk */
     uint8_t held[KEPT_HELD * RIME_RECORD_OCTETS];
     uint64_t used; /* octets of it that aren't written yet */
 };
@@ -29,7 +30,7 @@ int kept_open(struct kept *kept, const char *name, unsigned piece, struct settin
 bool kept_reserve(struct kept *kept, uint64_t octets,
                   bool must); /* true where it needn't be, or the disk can't do it */
 bool kept_put(struct kept *kept, const uint8_t cell[RIME_CELL_OCTETS], bool indication);
-bool kept_sync(struct kept *kept);  /* all of it is on the disk */
+bool kept_sync(struct kept *kept);  /* all of it is on the disk, its name too */
 bool kept_close(struct kept *kept); /* that too; room that wasn't used is given back */
 
 #endif

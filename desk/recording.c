@@ -56,7 +56,8 @@ int recording_open(struct recording *recording) {
     if (status == STATUS_WELL) status = kept_open(&recording->kept, recording->name, 1, settings);
     if (status != STATUS_WELL) return status;
     recording->logs = 1;
-    return recording->room == 0 || kept_reserve(&recording->kept, recording->room, true) ? STATUS_WELL : STATUS_FILE;
+    if (recording->room > 0 && !kept_reserve(&recording->kept, recording->room, true)) return STATUS_FILE;
+    return kept_sync(&recording->kept) ? STATUS_WELL : STATUS_FILE;
 }
 
 /* The next log. What is left of the room goes with it. */
