@@ -13,12 +13,15 @@ pub mod Frames
 pub mod Logs
 pub mod Losses
 pub mod Opened
+pub mod Placed
 pub mod Places
 pub mod Played
 pub mod Recounts
 pub mod Refused
 pub mod Repeats
+pub mod Rounds
 pub mod Rows
+pub mod Seconds
 pub mod Sharp
 pub mod Slips
 pub mod Steps

@@ -19,7 +19,9 @@ use Rattle.figures.specs.Sheets.{sheetRefusal}
 use Rattle.cable.specs.Frames.{importRefusal, exportRefusal}
 use Rattle.units.specs.Units as U
 use Rattle.circuits.specs.Circuits.{octetRefusal, checkRefusal, planRefusalOf}
+use Rattle.slips.specs.Watch.{stepRefusal}
 use Rattle.rimesatchel.specs.Boxes.{senderOf, receiverOf, countOf}
+use Rattle.rimesatchel.specs.Watches.{watchOf}
 use Rattle.rimesatchel.proofs.boxes.rime_sender_open.Kinds as sender-open-kinds
 use Rattle.rimesatchel.proofs.boxes.rime_sender_open.Reads as sender-open-reads
 use Rattle.rimesatchel.proofs.boxes.rime_send.Kinds as send-kinds
@@ -62,6 +64,8 @@ use Rattle.rimesatchel.proofs.plans.rime_circuits_check.Kinds as check-kinds
 use Rattle.rimesatchel.proofs.plans.rime_circuits_check.Reads as check-reads
 use Rattle.rimesatchel.proofs.plans.rime_circuits_plan.Kinds as plan-kinds
 use Rattle.rimesatchel.proofs.plans.rime_circuits_plan.Reads as plan-reads
+use Rattle.rimesatchel.proofs.watches.rime_slip.Kinds as slip-kinds
+use Rattle.rimesatchel.proofs.watches.rime_slip.Reads as slip-reads
 use Rattle.management.specs.Demands.{equipmentRefusal, controllerRefusal}
 use Rattle.management.proofs.equipment.rime_equipment.Kinds as equipment-kinds
 use Rattle.management.proofs.equipment.rime_equipment.Reads as equipment-reads
@@ -119,6 +123,17 @@ receive-refuses κs a x v p = Refused.receives p
 pub placed-answers : Ensured placed-kinds.ps placed-kinds.r placed-reads.Post (λ κs a x v. x ≡ countOf (now (a .0)))
 unfolding receiverOf
 placed-answers κs a x v p = p
+
+-- the watch is lent, in seven octets
+pub slip-refuses : Ensured slip-kinds.ps slip-kinds.r slip-reads.Post
+    (λ κs a x v.
+    let watch = now (a .0) in
+    let report = now (a .1 .0) in
+    let watch-left = v .0 in
+    let slip = v .1 .1 .0 in
+    Refuses x (stepRefusal (watchOf watch) (getD report 0 0) (getD report 1 0) (getD report 2 0))
+    ((watch-left ≡ watch) × (slip ≡ replicate 2 0)))
+slip-refuses κs a x v p = Refused.watches p
 
 -- the block is lent, in 25 octets; what goes out is zeros
 pub status-refuses : Ensured status-kinds.ps status-kinds.r status-reads.Post

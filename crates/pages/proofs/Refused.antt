@@ -21,6 +21,8 @@ use Rattle.figures.specs.Sheets.{sheetRefusal}
 use Rattle.cable.specs.Frames.{importRefusal, exportRefusal}
 use Rattle.units.specs.Units as U
 use Rattle.circuits.specs.Circuits.{octetRefusal, checkRefusal, planRefusalOf, Plans}
+use Rattle.slips.specs.Watch.{stepRefusal}
+use Rattle.slips.proofs.Demand1 as slips
 use Rattle.rimesatchel.specs.Boxes.{
   yesNo,
   senderOf,
@@ -43,6 +45,7 @@ use Rattle.rimesatchel.specs.Plans.{CheckedPlan}
 use Rattle.rimesatchel.specs.Salvages.{SalvagedLog}
 use Rattle.rimesatchel.specs.Sheets.{DrawsUp}
 use Rattle.rimesatchel.specs.Statuses.{SteppedOctets}
+use Rattle.rimesatchel.specs.Watches.{watchOf, slippedOf, SlippedOctets}
 use Rattle.management.specs.Controller.{Takes}
 use Rattle.management.specs.Demands.{equipmentRefusal, controllerRefusal}
 use Rattle.management.specs.Equipment.{Leaves, equipmentOf}
@@ -271,3 +274,18 @@ pub controls : {ports message : List ℕ} {refusal : ℕ} {ports₁ : List ℕ} 
 controls {ports} {message} {refusal} {ports₁} p =
     let one = management.demand-1-controller (record { ports = ports; message = message; refusal = refusal; portsAfter = ports₁ }) p in
     record { by-the-table = one .0; then-nothing = one .1 }
+
+pub watches : {watch report : List ℕ} {refusal : ℕ} {left slip : List ℕ} → SlippedOctets watch report refusal left slip
+    → Refuses refusal (stepRefusal (watchOf watch) (getD report 0 0) (getD report 1 0) (getD report 2 0)) ((left ≡ watch) × (slip ≡ replicate 2 0))
+watches {watch} {report} p =
+    let said = slips.demand-1-step (watchOf watch) (getD report 0 0) (getD report 1 0) (getD report 2 0) (slippedOf watch report) refl in
+    record {
+      by-the-table = p .refused ∙ said .0;
+      then-nothing =
+          λ some.
+          let so : slippedOf watch report .refusal ≡ 0 → ⊥ = λ none. some (p .refused ∙ none) in
+          let nothing = said .1 so in (
+            stays _ _ so (p .leaves),
+            p .tells ∙ ap₂ (λ (a b : ℕ). a ∷ b ∷ []) (nothing .nothing-told) (nothing .no-cells),
+          );
+    }

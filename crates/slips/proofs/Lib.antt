@@ -1,4 +1,5 @@
 pub mod Demand1
+pub mod Exactly
 pub mod Laws
 pub mod One
 pub mod Rows

@@ -25,7 +25,8 @@ pub fn digest(octets: &[u8]) -> [u8; 32] {
     padded.resize((padded.len() + 8).next_multiple_of(64) - 8, 0);
     padded.extend((octets.len() as u64 * 8).to_be_bytes());
     for block in padded.chunks(64) {
-        let mut words: Vec<u32> = block.chunks(4).map(|four| u32::from_be_bytes(four.try_into().expect("four"))).collect();
+        let mut words: Vec<u32> =
+            block.chunks(4).map(|four| u32::from_be_bytes(four.try_into().expect("four"))).collect();
         for at in 16..64 {
             let (early, late) = (words[at - 15], words[at - 2]);
             let early = early.rotate_right(7) ^ early.rotate_right(18) ^ early >> 3;

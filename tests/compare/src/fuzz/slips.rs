@@ -17,7 +17,7 @@ pub fn one_step(random: &mut Random, referee: &mut Referee) -> Played {
         watch[at] = if random.one_in(4) { random.below(256) } else { random.below(18) };
     }
     let missing = if watch[0] == 0 { 0 } else { random.pick(&[0, 0, 0, 1, 7, 13, 14]) };
-    let mut report = vec![missing, (watch[1] + missing + 1) % 16, random.below(16), random.below(2)];
+    let mut report = [missing, (watch[1] + missing + 1) % 16, random.below(16), random.below(2)];
     if random.one_in(8) {
         let at = random.place(3);
         report[at] = if random.one_in(4) { random.below(256) } else { random.below(18) };

@@ -26,7 +26,8 @@ fn behind(told: u64, may: u64) -> u64 {
 }
 
 fn can_be([started, number, sure, second, may, waits, other]: Watch) -> bool {
-    let within = [started, sure, waits].iter().all(|&yes| yes <= 1) && [number, second, may, other].iter().all(|&n| n < ROUND);
+    let within =
+        [started, sure, waits].iter().all(|&yes| yes <= 1) && [number, second, may, other].iter().all(|&n| n < ROUND);
     within
         && match (started, sure, waits) {
             (0, _, _) => [number, sure, second, may, waits, other] == [0; 6],
