@@ -62,11 +62,6 @@ static bool write_held(struct lasting *lasting) {
     return true;
 }
 
-bool lasting_sync(struct lasting *lasting) {
-    if (!write_held(lasting)) return false;
-    return fdatasync(lasting->fd) == 0 || failed(lasting, "can't be brought to the disk");
-}
-
 /* The name itself is on the disk too, where the folder can be read. */
 static bool sync_folder(struct lasting *lasting) {
     char *folder;
@@ -77,12 +72,19 @@ static bool sync_folder(struct lasting *lasting) {
     bool good = fd < 0 || fsync(fd) == 0 || errno == EINVAL;
     if (!good) failed(lasting, "its name can't be brought to the disk");
     if (fd >= 0) close(fd);
+    lasting->named = true;
     return good;
+}
+
+bool lasting_sync(struct lasting *lasting) {
+    if (!write_held(lasting)) return false;
+    if (fdatasync(lasting->fd) != 0) return failed(lasting, "can't be brought to the disk");
+    return lasting->named || sync_folder(lasting);
 }
 
 int lasting_open(struct lasting *lasting, const char *name, unsigned piece, struct settings settings) {
     lasting->octets = lasting->records = lasting->used = 0;
-    lasting->reserved = false;
+    lasting->reserved = lasting->named = false;
     lasting->path = lasting_name(name, piece);
     lasting->fd = open(lasting->path, O_WRONLY | O_CREAT | O_EXCL | O_APPEND | O_CLOEXEC, 0666);
     if (lasting->fd < 0) {
@@ -91,7 +93,7 @@ int lasting_open(struct lasting *lasting, const char *name, unsigned piece, stru
         return status;
     }
     rime_log_put_header(lasting->held, sizeof lasting->held, settings.format, settings.channels, settings.order, &lasting->used);
-    return lasting_sync(lasting) && sync_folder(lasting) ? STATUS_WELL : STATUS_FILE;
+    return write_held(lasting) ? STATUS_WELL : STATUS_FILE;
 }
 
 /* A limit on the size of files isn't looked at where a file keeps its own. */

@@ -16,6 +16,7 @@ struct lasting {
     uint64_t octets;  /* written */
     uint64_t records; /* in all, those that are held among them */
     bool reserved;    /* room was taken beforehand */
+    bool named;       /* its name is on the disk */
     uint8_t held[LASTING_HELD * RIME_RECORD_OCTETS];
     uint64_t used; /* octets of it that aren't written yet */
 };
@@ -29,7 +30,7 @@ int lasting_open(struct lasting *lasting, const char *name, unsigned piece, stru
 bool lasting_reserve(struct lasting *lasting, uint64_t octets,
                   bool must); /* true where it needn't be, or the disk can't do it */
 bool lasting_put(struct lasting *lasting, const uint8_t cell[RIME_CELL_OCTETS], bool indication);
-bool lasting_sync(struct lasting *lasting);  /* all of it is on the disk */
+bool lasting_sync(struct lasting *lasting);  /* all of it is on the disk, its name too */
 bool lasting_close(struct lasting *lasting); /* that too; room that wasn't used is given back */
 
 #endif

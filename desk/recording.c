@@ -56,7 +56,8 @@ int recording_open(struct recording *recording) {
     if (status == STATUS_WELL) status = lasting_open(&recording->lasting, recording->name, 1, settings);
     if (status != STATUS_WELL) return status;
     recording->logs = 1;
-    return recording->room == 0 || lasting_reserve(&recording->lasting, recording->room, true) ? STATUS_WELL : STATUS_FILE;
+    if (recording->room > 0 && !lasting_reserve(&recording->lasting, recording->room, true)) return STATUS_FILE;
+    return lasting_sync(&recording->lasting) ? STATUS_WELL : STATUS_FILE;
 }
 
 /* The next log. What is left of the room goes with it. */

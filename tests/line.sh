@@ -242,7 +242,8 @@ part_length() {
 }
 
 # Processor time beside the plain program: 10 s at 8,000 cells/s, and as fast as datagrams come. What each takes to begin and end is
-# left out: the desk tool loads the libraries of its other subcommands. A capture. On a machine that does nothing else.
+# left out: the desk tool loads the libraries of its other subcommands. Into one log: where more comes than a machine can take, the
+# gaps would begin a hundred. A capture. On a machine that does nothing else.
 part_cost() {
     gcc -std=c11 -D_GNU_SOURCE -O2 -Wall -Wextra -Werror tests/line_plain.c -o "$built/plain"
     made long.log 80000
@@ -264,7 +265,7 @@ def cost(words, feed):
     return used.ru_utime + used.ru_stime, out, used.ru_maxrss
 
 
-RECORD = [desk, 'record', f'{folder}/c.log', '--listen', '6712', '--channels', '2', '--idle', '1', '-q']
+RECORD = [desk, 'record', f'{folder}/c.log', '--listen', '6712', '--channels', '2', '--idle', '1', '-q', '--pieces', '1']
 PLAIN = [plain, 'take', '6712', f'{folder}/c.octets', '1']
 base = [min(cost(words, ['true'])[0] for _ in range(3)) for words in (RECORD, PLAIN)]
 
