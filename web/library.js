@@ -150,15 +150,16 @@ class Log {
     // Stands in for rime_receive_log: records one by one, each one's entries behind the last one's, until the next might not fit.
     receive(length, place) {
         const {library} = this, {found, report} = library, one = (RIME.MOST_MISSING + 1) * this.entries, room = BigInt(one);
-        const octets = BigInt(length), piece = library.lend('piece', 0, length), reported = library.all('report');
-        const seen = library.all('found'), state = library.all('state');
+        const octets = BigInt(length), piece = library.lend('piece', 0, length), cell = BigInt(RIME.CELL_OCTETS);
+        const [seen, state, reported] = ['found', 'state', 'report'].map(name => library.all(name));
+        const [samples, ancillary, marks] = ['samples', 'ancillary', 'marks'].map(name => library.lend(name, 0, ROOM));
         let given = 0, cells = 0, stop = 0;
         for (; given + one <= ROOM; cells++) {
             stop = library.calls.rime_log_record(piece, octets, BigInt(place), seen) & 0xFF;
             if (stop || found[2 * RIME.RECORD_WHAT] === RIME.RECORD_IS_END) return {given, cells, next: place, stop};
-            const refusal = library.calls.rime_receive(state, piece + found[2 * RIME.RECORD_START], BigInt(RIME.CELL_OCTETS),
-                found[2 * RIME.RECORD_INDICATION], library.lend('samples', given, one), room,
-                library.lend('ancillary', given, one), room, library.lend('marks', given, one), room, reported) & 0xFF;
+            const refusal = library.calls.rime_receive(state, piece + found[2 * RIME.RECORD_START], cell,
+                found[2 * RIME.RECORD_INDICATION], samples + 8 * given, room, ancillary + given, room, marks + given, room,
+                reported) & 0xFF;
             if (!refusal) given += (report[RIME.REPORT_MISSING] + 1) * this.entries;
             place = found[2 * RIME.RECORD_NEXT];
         }

@@ -7,7 +7,8 @@ const RATE_TIMES = 4800; // sample times in which channel status is looked at fo
 
 // ---- The picture: lowest and highest sample and the marks, in columns of `unit` sample times ----
 const LOWEST = -0x80000000, HIGHEST = 0x7FFFFFFF;
-const SEEN = {[RIME.MARK_SOUND]: 1, [RIME.MARK_DOUBTFUL]: 3, [RIME.MARK_MISSING]: 4}; // 1 a sample came, 2 damaged, 4 missing
+const {MARK_SOUND, MARK_DOUBTFUL, MARK_MISSING} = RIME;
+const CAME = 1, DAMAGED = 2, MISSING = 4; // of what was seen in a column
 
 class Columns {
     constructor(log, count, from = 0, unit = 1) {
@@ -17,20 +18,34 @@ class Columns {
         this.seen = new Uint8Array(count * log.channels);
     }
 
+    // A column after the other, in it a channel after the other.
     take(log, given) {
-        const {marks} = log.library, {channels, low, high, seen} = this;
-        for (let entry = 0, time = log.at.time - this.from; entry < given; entry += channels, time++) {
-            const column = Math.floor(time / this.unit);
-            if (column < 0 || column >= this.count) continue;
-            for (let channel = 0, at = column * channels; channel < channels; channel++, at++) {
-                const mark = marks[entry + channel];
-                seen[at] |= SEEN[mark];
-                if (mark === RIME.MARK_MISSING) continue;
-                const value = log.top(entry + channel);
-                if (value < low[at]) low[at] = value;
-                if (value > high[at]) high[at] = value;
-            }
+        const {channels, unit} = this;
+        for (let entry = 0, time = log.at.time - this.from; entry < given;) {
+            const column = Math.floor(time / unit), left = (given - entry) / channels;
+            const times = Math.max(1, Math.min(left, Math.ceil((column + 1) * unit - time)));
+            for (let channel = 0; channel < channels && column >= 0 && column < this.count; channel++)
+                this.span(log, entry + channel, times, column * channels + channel);
+            time += times;
+            entry += times * channels;
         }
+    }
+
+    // Sample times in a row of one channel in one column.
+    span(log, entry, times, at) {
+        const {marks, samples} = log.library, {channels} = this, up = 32 - log.bits;
+        let low = this.low[at], high = this.high[at], seen = this.seen[at];
+        for (const past = entry + times * channels; entry < past; entry += channels) {
+            const mark = marks[entry];
+            seen |= mark === MARK_SOUND ? CAME : mark === MARK_DOUBTFUL ? CAME | DAMAGED : MISSING;
+            if (mark === MARK_MISSING) continue;
+            const value = up >= 0 ? samples[2 * entry] << up : log.top(entry);
+            if (value < low) low = value;
+            if (value > high) high = value;
+        }
+        this.low[at] = low;
+        this.high[at] = high;
+        this.seen[at] = seen;
     }
 
     // Makes room up to a sample time: two columns become one, as often as it takes.
@@ -57,12 +72,22 @@ class Stretches {
 
     take(given) {
         const {marks} = this.log.library, {channels} = this.log;
+        if (this.areSound(marks, given)) return this.end();
         for (let entry = 0, time = this.log.at.time; entry < given; entry += channels, time++) {
             let any = 0;
             for (let channel = 0; channel < channels; channel++) any |= marks[entry + channel];
             if (any !== RIME.MARK_SOUND) this.one(marks.subarray(entry, entry + channels), time);
             else if (this.open) this.end();
         }
+    }
+
+    // Whether all marks are sound, four at a time. Nearly always they are.
+    areSound(marks, given) {
+        const fours = new Uint32Array(marks.buffer, marks.byteOffset, given >> 2);
+        let any = MARK_SOUND;
+        for (let at = 0; at < fours.length; at++) any |= fours[at];
+        for (let entry = 4 * fours.length; entry < given; entry++) any |= marks[entry];
+        return any === MARK_SOUND;
     }
 
     one(marks, time) {

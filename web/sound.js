@@ -29,6 +29,13 @@ async function second(me, from, chosen) {
     return count;
 }
 
+// Without a sound device a browser's clock may stand still, and then nothing would happen.
+function watch(me) {
+    if (player !== me || me.context.currentTime > 0) return;
+    stop();
+    say('The browser plays nothing here. Is there a sound device, and may this page use it?');
+}
+
 async function play() {
     stop();
     const log = current, rate = rateOf(log), {times} = log.about, chosen = $('hear-channels').value.split(',').map(Number);
@@ -38,6 +45,7 @@ async function play() {
         const me = player = {log, rate, from, begun: 0, context: new AudioContext({sampleRate: rate})};
         $('play').textContent = 'Pause';
         $('play').setAttribute('aria-pressed', 'true');
+        setTimeout(watch, 3000, me);
         for (let next = from; player === me && next < times;) {
             next += await second(me, next, chosen);
             while (player === me && me.begun + (next - from) / rate - me.context.currentTime > 2)

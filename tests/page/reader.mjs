@@ -59,7 +59,19 @@ function near(name, log, about) {
             if (Math.fround(value / 0x80000000) === heard[channel][time] && columns.seen[at] !== 0) continue;
             return same(`${name}: a near picture and the sound at ${from + time}`, String(heard[channel][time]), String(value));
         }
-    compared++;
+    wide(name, room.picture(log, from + 0.3, from + count, 7), heard, from, count);
+}
+
+// Columns that begin between two samples and have several each: the lowest and highest of what was heard in each.
+function wide(name, columns, heard, from, count) {
+    const low = new Array(columns.low.length).fill(Infinity), seen = (columns.seen ?? []).slice();
+    for (let time = 0; time < count; time++)
+        for (const [channel, samples] of heard.entries()) {
+            const column = Math.floor((from + time - columns.from) / columns.unit), at = column * heard.length + channel;
+            if (column >= 0 && column < columns.count && !(seen[at] & 4)) low[at] = Math.min(low[at], samples[time]);
+        }
+    const got = [...columns.low].map((value, at) => seen[at] & 4 || !seen[at] ? Infinity : Math.fround(value / 0x80000000));
+    same(`${name}: a picture of several samples a column`, got.join(), low.join());
 }
 
 // As `list` and `anything` print several logs: a list begins with its log's name, and an answer stands behind it.
