@@ -49,8 +49,7 @@ module _ (κs : Lfts 6) (p q r s t u : Place) where
   -- the same receiver, and a log that holds no record; three runs of four entries, and counts lent as nines
   abbrev Receiving : ℕ → (ℕ → List ℕ → List ℕ → Type 0) → Type 0
   Receiving format Wrong =
-      Never receive-log-kinds.ps receive-log-kinds.r receive-log-reads.Post κs
-      (
+      Never receive-log-kinds.ps receive-log-kinds.r receive-log-reads.Post κs (
         lent p (format ∷ 1 ∷ 0 ∷ 7 ∷ replicate 5 0),
         (
           lent q (0 ∷ []),
