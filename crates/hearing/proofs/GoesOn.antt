@@ -27,7 +27,7 @@ use Rattle.hearing.specs.Judging.{allFrom, stopOf}
 use Rattle.hearing.specs.Receiving.{fitting, receivedIn, receivedTo, callRefusal, ReceivesLog}
 use Rattle.hearing.specs.Steps.{neededOf, heardAt}
 use Rattle.hearing.proofs.Onward.{splits}
-use Rattle.hearing.proofs.Stands.{comes-next}
+use Rattle.hearing.proofs.Past.{comes-next}
 use Rattle.hearing.proofs.Takes.{samples-long}
 
 -- what fits is a prefix
@@ -85,8 +85,8 @@ module _ {st : Receiver} {log : List ℕ} {place : ℕ} {samples ancillary marks
         let stop : stopOf (recordAt log place) ≡ 10 =
         ap (λ (n : ℕ). stopOf (recordAt log n)) (sym far) ∙ sym (ap (λ (a : Batch). a .stop) answer-is) ∙ ten in
         let there : recordAt log place .what ≡ 1 = by-ten (recordAt log place) stop
-            (record-cases log place (λ r. r .refusal ≡ 10 → ⊥) (λ h z. omega (arith, z)) (λ h l z. omega (arith, z)) (λ h l k z. omega (arith, z))
-            (λ l k z. omega (arith, z))) in
+        (record-cases log place (λ r. r .refusal ≡ 10 → ⊥) (λ h z. omega (arith, z)) (λ h l z. omega (arith, z)) (λ h l k z. omega (arith, z))
+        (λ l k z. omega (arith, z))) in
         absurd (fits-one there (omega (arith, nothing))))
         (λ e. let some = eqb-false (length heard) 0 e in let one : 1 ≤ length heard = pos-of-ne-zero some in omega (arith, next, one))
       where

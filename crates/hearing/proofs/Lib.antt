@@ -1,7 +1,9 @@
 pub mod Asked
+pub mod Called
 pub mod GoesOn
 pub mod One
 pub mod Onward
+pub mod Past
 pub mod ReceivingWrong
 pub mod Stands
 pub mod Takes

@@ -164,7 +164,14 @@ fn one(
         return stopped(b, 10);
     }
     put(
-        state, got, log, b.next, b.entries, samples, ancillary, marks,
+        state,
+        got,
+        log,
+        b.next,
+        b.entries,
+        samples,
+        ancillary,
+        marks,
     );
     past_one(b, got, entries)
 }

@@ -146,7 +146,7 @@ pub fn receive(random: &mut Random, referee: &mut Referee) -> Played {
         let most = random.pick(&[60, 300, 720, 3000]);
         let room = random.place(most);
         let short = |random: &mut Random| if random.one_in(20) { random.place(most) } else { room };
-        let samples: Vec<u64> = (0..room).map(|_| random.below(u64::MAX)).collect();
+        let samples: Vec<u64> = (0..room).map(|_| random.below(100)).collect();
         let (ancillary, marks) = (short(random), short(random));
         let (ancillary, marks) = (random.octets(ancillary), random.octets(marks));
         let case =

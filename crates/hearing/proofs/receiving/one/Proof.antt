@@ -9,7 +9,7 @@ use borrow.Author.Needs.{needs}
 use Rattle.log.proofs.Places.{cell-facts}
 use Rattle.receiver.proofs.Onward.{used-between}
 use Rattle.hearing.specs.Steps.{neededOf, heardAt}
-use Rattle.hearing.proofs.Stands.{got-is, steps-on, steps-full}
+use Rattle.hearing.proofs.Past.{got-is, steps-on, steps-full}
 use Rattle.hearing.proofs.receiving.one.Statement.{statement}
 use Rattle.hearing.proofs.receiving.one.Tie as tie
 

@@ -6,7 +6,7 @@ use denote.Ref.{now}
 use borrow.Author.Needs.{needs}
 use Rattle.receiver.specs.Receiver.{stateRefusal}
 use Rattle.receiver.proofs.Onward.{used-between}
-use Rattle.hearing.proofs.Stands.{settings-used, answers-state, answers-ancillary, answers-marks, answers-on}
+use Rattle.hearing.proofs.Called.{settings-used, answers-state, answers-ancillary, answers-marks, answers-on}
 use Rattle.hearing.proofs.receiving.receive.Statement.{statement}
 use Rattle.hearing.proofs.receiving.receive.Tie as tie
 

@@ -83,7 +83,7 @@ mul-lost : tie.Need-mul-lost
 mul-lost c = omega (arith, room c .samples-room, s₂ c .good)
 
 usual-cells-requires : tie.Need-usual-cells-requires
-usual-cells-requires c κs = 
+usual-cells-requires c κs =
     let e = c .before .before .before .before .before in
     let q = q₂ e in
     let s = s₂ e in (

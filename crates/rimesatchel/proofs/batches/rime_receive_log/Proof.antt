@@ -7,10 +7,20 @@ use Rattle.rimesatchel.proofs.batches.rime_receive_log.Statement.{state
 use Rattle.rimesatchel.proofs.batches.rime_receive_log.Tie as tie
 
 returns : tie.Need-returns
-returns c = ?
+returns c =
+    let at-receive = c .before .before .before .before .before .before .before .before .before in
+    let at-receiver-of = at-receive .before .before .before .before in
+    let a = at-receiver-of .before .before .before .before .before .before .args in
+    batch-refused (now (a .state)) (now (a .log)) (a .place) (now (a .samples)) (now (a .ancillary)) (now (a .marks))
+    (at-receiver-of .receiver-of .ensures) (at-receive .receive .ensures) (c .if1 .taken)
 
 returns-2 : tie.Need-returns-2
-returns-2 c = ?
+returns-2 c =
+    let at-receive = c .before .before .before .before .before .before .before .before .before .before .before in
+    let at-receiver-of = at-receive .before .before .before .before in
+    let a = at-receiver-of .before .before .before .before .before .before .args in
+    batch-taken (now (a .state)) (now (a .log)) (a .place) (now (a .samples)) (now (a .ancillary)) (now (a .marks))
+    (at-receiver-of .receiver-of .ensures) (at-receive .receive .ensures) (c .before .before .if1 .left) (c .receiver-octets .ensures)
 
 pub rime-receive-log-spec : {M : Type 1} → statement M
 rime-receive-log-spec =
