@@ -131,7 +131,7 @@ enum step {
 
 /* slips.c: what second numbers tell of the cells of a log. */
 struct slips {
-    bool off; /* nobody asks */
+    bool off; /* nobody asks, or the format has no overhead */
     uint8_t watch[RIME_SLIP];
     unsigned before, perhaps; /* by the cell taken last: cells missing before the one taken before it; perhaps before itself */
     uint64_t cells, places;   /* told of so far */

@@ -228,7 +228,7 @@ int desk_labels(int argc, char **argv) {
     };
     argp_parse(&argp, argc, argv, 0, NULL, &labels);
     int status = reading_begin(&labels.reading, labels.name, labels.quiet || isatty(STDOUT_FILENO));
-    labels.reading.slips.off = labels.no_slips;
+    if (labels.no_slips) labels.reading.slips.off = true;
     if (status == STATUS_WELL) {
         status = label_all(&labels);
         reading_close(&labels.reading);

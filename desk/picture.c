@@ -261,7 +261,7 @@ int desk_picture(int argc, char **argv) {
     if (!place_ends(picture.out_name, "png")) errx(EX_USAGE, "%s: a picture is PNG: .png, or no ending", picture.out_name);
     int status = reading_begin(&picture.reading, picture.in_name, picture.quiet);
     if (status != STATUS_WELL) return status;
-    picture.reading.slips.off = picture.no_slips;
+    if (picture.no_slips) picture.reading.slips.off = true;
     status = picture_log(&picture);
     reading_close(&picture.reading);
     frequency_close(&picture.frequency);

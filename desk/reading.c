@@ -30,9 +30,8 @@ void reading_close(struct reading *reading) {
     reading->buffer = NULL;
 }
 
-/* Sees that so many octets are held from the place on, or all that there are. */
-static bool hold(struct reading *reading, size_t count) {
-    if (reading->held - reading->place >= count || reading->ended) return true;
+/* Reads until so many octets are held from the place on, or all that there are. */
+static bool fill(struct reading *reading, size_t count) {
     reading->held -= reading->place;
     memmove(reading->buffer, reading->buffer + reading->place, reading->held);
     reading->place = 0;
@@ -50,6 +49,11 @@ static bool hold(struct reading *reading, size_t count) {
     }
     progress_at(reading->octets);
     return true;
+}
+
+/* Sees that so many octets are held from the place on, or all that there are. */
+static inline bool hold(struct reading *reading, size_t count) {
+    return reading->held - reading->place >= count || reading->ended || fill(reading, count);
 }
 
 /* What was read so far is still there, and where the end was met, it is that of the file. Says what is wrong. */
@@ -71,6 +75,7 @@ int reading_header(struct reading *reading) {
     reading->place = header[RIME_HEADER_PLACE];
     reading->format = format_of(header[RIME_HEADER_FORMAT]);
     reading->channels = header[RIME_HEADER_CHANNELS];
+    if (!reading->format.overhead) reading->slips.off = true;
     reading->times = reading->format.slots / reading->channels;
     reading->entries = reading->channels * reading->times;
     return RIME_DONE;

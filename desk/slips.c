@@ -10,10 +10,13 @@
 void slips_watch(struct slips *slips, const uint8_t report[RIME_REPORT]) {
     uint8_t slip[RIME_SLIPPED];
     rime_slip(slips->watch, report, slip); /* a receiver's own reports are never refused */
-    slips->before = slip[RIME_SLIPPED_WHAT] == RIME_SLIP_BEFORE ? slip[RIME_SLIPPED_CELLS] : 0;
-    slips->perhaps = slip[RIME_SLIPPED_WHAT] == RIME_SLIP_PERHAPS ? slip[RIME_SLIPPED_CELLS] : 0;
+    slips->before = slips->perhaps = 0;
+    if (slip[RIME_SLIPPED_WHAT] == RIME_SLIP_NOTHING) return;
+    if (slip[RIME_SLIPPED_WHAT] == RIME_SLIP_PERHAPS) slips->perhaps = slip[RIME_SLIPPED_CELLS];
+    if (slip[RIME_SLIPPED_WHAT] != RIME_SLIP_BEFORE) return;
+    slips->before = slip[RIME_SLIPPED_CELLS];
     slips->cells += slips->before;
-    slips->places += slips->before > 0;
+    slips->places++;
 }
 
 static enum step hand(struct reading *reading, const struct entries *entries, size_t given) {
@@ -43,29 +46,9 @@ static void hold(struct reading *reading, size_t given) {
     reading->given = 0;
 }
 
-/* Reads on. The cell that is held is handed out with what comes after it. */
-static enum step read_on(struct reading *reading) {
+/* What is still to be handed out of the cell that was held and of what came behind it; then the log goes on. */
+static enum step hand_rest(struct reading *reading) {
     struct slips *slips = &reading->slips;
-    for (;;) {
-        enum step step = reading_step(reading);
-        if (step == STEP_REFUSED || step == STEP_FAILED) return step;
-        if (step == STEP_SOUND) slips_watch(slips, reading->report);
-        if (slips->stage == SLIPS_HOLDS) {
-            slips->next = step;
-            slips->next_given = reading->given;
-            slips->silence = step == STEP_SOUND ? slips->before : 0;
-            slips->stage = SLIPS_DECIDED;
-            reading->given = 0;
-            return slips_step(reading);
-        }
-        if (step != STEP_SOUND || slips->perhaps == 0) return step;
-        hold(reading, reading->given);
-    }
-}
-
-enum step slips_step(struct reading *reading) {
-    struct slips *slips = &reading->slips;
-    if (slips->off || !reading->format.overhead) return reading_step(reading);
     reading->time += reading->given / reading->channels;
     reading->given = 0;
     if (slips->silence > 0) return hand_silence(reading);
@@ -73,13 +56,39 @@ enum step slips_step(struct reading *reading) {
         slips->stage = SLIPS_NEXT;
         return hand(reading, reading->held_back, slips->given);
     }
-    if (slips->stage == SLIPS_NEXT) {
-        slips->stage = SLIPS_READS;
-        if (slips->next != STEP_SOUND) return slips->next;
-        if (slips->perhaps == 0) return hand(reading, reading->now, slips->next_given);
-        hold(reading, slips->next_given);
+    slips->stage = SLIPS_READS;
+    if (slips->next != STEP_SOUND) return slips->next;
+    if (slips->perhaps == 0) return hand(reading, reading->now, slips->next_given);
+    hold(reading, slips->next_given);
+    return slips_step(reading);
+}
+
+/* Reads on behind the cell that is held: the next cell decides, or the end. */
+static enum step decide(struct reading *reading) {
+    struct slips *slips = &reading->slips;
+    enum step step = reading_step(reading);
+    if (step == STEP_REFUSED || step == STEP_FAILED) return step;
+    slips->silence = 0;
+    if (step == STEP_SOUND) {
+        slips_watch(slips, reading->report);
+        slips->silence = slips->before;
     }
-    return read_on(reading);
+    slips->next = step;
+    slips->next_given = reading->given;
+    slips->stage = SLIPS_DECIDED;
+    reading->given = 0;
+    return hand_rest(reading);
+}
+
+enum step slips_step(struct reading *reading) {
+    struct slips *slips = &reading->slips;
+    if (slips->stage != SLIPS_READS) return slips->stage == SLIPS_HOLDS ? decide(reading) : hand_rest(reading);
+    enum step step = reading_step(reading);
+    if (step != STEP_SOUND || slips->off) return step;
+    slips_watch(slips, reading->report);
+    if (slips->perhaps == 0) return step;
+    hold(reading, reading->given);
+    return decide(reading);
 }
 
 bool slips_flawed(const struct slips *slips) { return slips->cells > 0 || slips->perhaps > 0; }

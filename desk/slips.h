@@ -4,7 +4,7 @@
 
 #include "desk.h"
 
-/* As reading_step, with silence for the cells that second numbers tell of, where the format has overhead. */
+/* As reading_step, with silence for the cells that second numbers tell of. */
 enum step slips_step(struct reading *reading);
 void slips_watch(struct slips *slips, const uint8_t report[RIME_REPORT]); /* for each cell that was taken, once */
 bool slips_flawed(const struct slips *slips);                 /* at the end: cells were told of, or may be missing */

@@ -253,7 +253,7 @@ int desk_verify(int argc, char **argv) {
     int status = sound_open(&verify.in, verify.sound_name);
     if (status == STATUS_WELL) {
         status = reading_begin(&verify.reading, verify.log_name, verify.quiet || isatty(STDOUT_FILENO));
-        verify.reading.slips.off = verify.no_slips;
+        if (verify.no_slips) verify.reading.slips.off = true;
         if (status == STATUS_WELL) {
             status = verify_log(&verify);
             reading_close(&verify.reading);
