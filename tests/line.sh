@@ -241,9 +241,9 @@ part_length() {
     echo "line: logs by length"
 }
 
-# Processor time beside the plain program: 10 s at 8,000 cells/s, and as fast as datagrams come. What each takes to begin and end is
-# left out: the desk tool loads the libraries of its other subcommands. Into one log: where more comes than a machine can take, the
-# gaps would begin a hundred. A capture. On a machine that does nothing else.
+# Processor time beside the plain program: 10 s at 8,000 cells/s, and as fast as datagrams come. What each takes to begin and end
+# is left out: the desk tool loads the libraries of its other subcommands. Into one log: where more comes than a machine can take,
+# the gaps would begin a hundred. A capture. On a machine that does nothing else.
 part_cost() {
     gcc -std=c11 -D_GNU_SOURCE -O2 -Wall -Wextra -Werror tests/line_plain.c -o "$built/plain"
     made long.log 80000
