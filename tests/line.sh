@@ -216,6 +216,8 @@ part_wrong() {
     wrong "allowed by division" told.c \
         's/return missing \* 1000000 > allowed \* all;/return (uint64_t)(missing * 1000000 \/ all) > allowed;/'
     wrong "any label" wire.c 's/entry >> 12 != circuit->label || //'
+    wrong "any control word" wire.c 's/if (control >> 28 != 0) return WIRE_CONTROL;//'
+    wrong "any label stack" wire.c 's/ || (entry \& BOTTOM) == 0) / || false) /'
     wrong "management cells into the log" wire.c 's/if ((word >> 3 & 1) == 1) return WIRE_MANAGEMENT;//'
     wrong "strangers are taken" line.c 's/return senders->any;/return true;/'
     wrong "fragments are taken" capture.c 's/0x3FFF) != 0/0x3FFF) > 0xFFFF/'
