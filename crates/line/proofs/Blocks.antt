@@ -1,9 +1,10 @@
--- 119 is sharp: of a sender that counts blocks, 120 cells lost behind number 7 aren't told.
+-- 119 is sharp: of a sender that counts blocks, 120 cells lost behind number 7 aren't told. And no limit on the lost cells in a row
+-- does: fifteen lost and one unaltered, nine times over, is told as sixteen, where 144 cells slipped.
 -- Assumes nothing.
 use mathlib.Core.Bool.{Bool, true, false, cond}
 use mathlib.Core.List.{List, [], _∷_, _++_, map}
 use mathlib.Core.Path.{_≡_, refl, ap}
-use Prim.Native.Nat.{ℕ, _%_, _≤_}
+use Prim.Native.Nat.{ℕ, zero, suc, _%_, _≤_}
 use native.Mathlib.Nat.{suc-ne-zero}
 use native.Mathlib.Omega.{arith}
 use borrow.Author.Tests.{eq-eqb}
@@ -19,8 +20,8 @@ use Rattle.reading.specs.Totals.{Each}
 use Rattle.slips.specs.Slips.{startsOf, behindOf, slipOf}
 use Rattle.slips.specs.Reports.{toldAfter, toldOf}
 use Rattle.line.specs.Contracts.{SendCall, MeetsSend, ReceiveCall, MeetsReceive}
-use Rattle.line.specs.Line.{Row, Sending, wrote, Fate, dropped, unaltered, Trip, Fair, longest, arrivals}
-use Rattle.line.specs.Seconds.{CountsBlocks, SlipsExact}
+use Rattle.line.specs.Line.{Row, Sending, wrote, Fate, dropped, unaltered, Trip, Fair, longest, arrivals, OverTheLine}
+use Rattle.line.specs.Seconds.{CountsBlocks, TellsAll, SlipsExact}
 use Rattle.line.proofs.Opened.{opened}
 use Rattle.line.proofs.Played.{callsFor, calls-in-a-row, calls-take, calls-room}
 
@@ -100,3 +101,30 @@ not-120 meets =
     (calls-in-a-row fresh (arrivals trips)) (calls-take fresh (arrivals trips)) (calls-room fresh (arrivals trips))
     (counts counter outage refl) (none-few, (all-few, tt)) in
     apart (ap (λ (l : List ℕ). getD l 1 0) (tells .exact))
+
+-- fifteen lost and one unaltered, so many times
+unfoldable rounds : ℕ → List Bool
+rounds zero = []
+rounds (suc n) = replicate 15 false ++ (true ∷ rounds n)
+
+nine : List Bool
+nine = true ∷ (rounds 9 ++ (true ∷ []))
+
+row-few : _≤_ 15 15
+row-few = omega arith
+
+sent-few-too : _≤_ 146 4294967295
+sent-few-too = omega arith
+
+apart-too : _≡_ {A = ℕ} 16 144 → ⊥
+apart-too e = omega arith
+
+pub not-by-rows : OverTheLine 3 15 4294967295 MeetsSend MeetsReceive (λ fresh trips receives. CountsBlocks trips → TellsAll fresh trips receives) → ⊥
+unfolding opened nine rounds counted toldOf toldAfter slipOf behindOf startsOf callsFor hear given R.judgedOf
+not-by-rows meets =
+    let trips = counted counter nine in
+    let tells = meets counter (map (λ t. t .sent) trips) trips (callsFor fresh (arrivals trips)) (λ e. suc-ne-zero 3 e)
+    (in-a-row counter nine) refl sent-few-too (all-fair counter nine) row-few
+    (calls-in-a-row fresh (arrivals trips)) (calls-take fresh (arrivals trips)) (calls-room fresh (arrivals trips))
+    (counts counter nine refl) in
+    apart-too (ap (λ (l : List ℕ). getD l 1 0) (tells .exact))
