@@ -14,6 +14,7 @@ import third_beside as beside
 import third_log
 import third_port
 import third_reading as third
+import third_slips
 from third_reading import Refused
 
 
@@ -276,6 +277,21 @@ def port_settings_case(record: str) -> str:
 
 def port_packing_case(octet: str, channels: str, order: str) -> str:
     return answer(lambda: str(third_port.port_packing(third.Setting(int(octet), int(channels), int(order)))), "0")
+
+
+def slip_case(watch: str, report: str) -> str:
+    missing, number, second, indication = numbers(report)
+
+    def ask() -> str:
+        after, what, cells = third_slips.step(third_slips.Watch(*numbers(watch)), third.Report(missing, number, second, indication != 0))
+        return words(run(after), what, cells)
+
+    return answer(ask, words(watch, 0, 0))
+
+
+def slips_case(log: str) -> str:
+    told = third_slips.story(octets(log))
+    return words(run(told.told), run(told.alone), run(told.waiting), told.placed, ",".join(told.marks) or "-", told.digest)
 
 
 CASES: Dict[str, Callable[..., str]] = {
