@@ -216,6 +216,8 @@ part_wrong() {
     wrong "allowed by division" told.c \
         's/return missing \* 1000000 > allowed \* all;/return (uint64_t)(missing * 1000000 \/ all) > allowed;/'
     wrong "any label" wire.c 's/entry >> 12 != circuit->label || //'
+    wrong "any control word" wire.c 's/if (control >> 28 != 0) return WIRE_CONTROL;//'
+    wrong "any label stack" wire.c 's/ || (entry \& BOTTOM) == 0) / || false) /'
     wrong "management cells into the log" wire.c 's/if ((word >> 3 & 1) == 1) return WIRE_MANAGEMENT;//'
     wrong "strangers are taken" line.c 's/return senders->any;/return true;/'
     wrong "fragments are taken" capture.c 's/0x3FFF) != 0/0x3FFF) > 0xFFFF/'
@@ -241,9 +243,9 @@ part_length() {
     echo "line: logs by length"
 }
 
-# Processor time beside the plain program: 10 s at 8,000 cells/s, and as fast as datagrams come. What each takes to begin and end is
-# left out: the desk tool loads the libraries of its other subcommands. Into one log: where more comes than a machine can take, the
-# gaps would begin a hundred. A capture. On a machine that does nothing else.
+# Processor time beside the plain program: 10 s at 8,000 cells/s, and as fast as datagrams come. What each takes to begin and end
+# is left out: the desk tool loads the libraries of its other subcommands. Into one log: where more comes than a machine can take,
+# the gaps would begin a hundred. A capture. On a machine that does nothing else.
 part_cost() {
     gcc -std=c11 -D_GNU_SOURCE -O2 -Wall -Wextra -Werror tests/line_plain.c -o "$built/plain"
     made long.log 80000

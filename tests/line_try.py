@@ -98,8 +98,6 @@ def see_places(recorded):
     see(log + 1 == len(recorded.logs), 'the lists')
 
 
-# ---- the tries
-
 def try_vectors():
     """The list of ../shared/tried/live/README.md."""
     whole = made.records_of(VECTORS / 'played.log')
@@ -208,7 +206,7 @@ def try_plain():
     log = made.made_log(PROGRAM, FOLDER, 640, ('--format', '06'))
     records = [log[at:at + 49] for at in range(3, len(log), 49)]
     line = made.sent(records, 4)
-    came = record(line, '--format', '06').sees(0, pieces=1)
+    record(line, '--format', '06').sees(0, pieces=1)
     came = record([one for one in line if one.sequence not in (5, 9, 20, 30)], '--format', '06')
     came.sees(1, 'NO: the reading is in 5 pieces', missing=16, lost=4, pieces=5)
     see(came.logs == [records[:16], records[20:32], records[36:76], records[80:116], records[120:]], 'other logs')
@@ -254,11 +252,11 @@ def try_pieces():
     """No more logs than asked for, and then the last one goes on."""
     line = played(4)
     gaps = [one for at, one in enumerate(line) if at % 20 < 14]
-    record(gaps).sees(1, pieces=49, missing=len(line) * 4 - len(gaps) * 4 - 24)
     missing = len(line) * 4 - len(gaps) * 4 - 24
+    record(gaps).sees(1, pieces=49, missing=missing)
     came = record(gaps, '--pieces', '3').sees(1, 'cells may stand in a wrong place', pieces=3, missing=missing)
     see(sum(map(len, came.logs)) == 4 * len(gaps), 'cells are lost')
-    came = record(gaps, '--pieces', '1', '--allow', '1000000').sees(1, 'NO: cells may stand in a wrong place', pieces=1)
+    record(gaps, '--pieces', '1', '--allow', '1000000').sees(1, 'NO: cells may stand in a wrong place', pieces=1)
 
 
 def try_not_taken():
@@ -277,10 +275,9 @@ def try_not_taken():
         'by their form': [lambda o: o[:-1], lambda o: o + b'\0', lambda o: o[:8], lambda o: o[:7], lambda o: b'',
                           lambda o: o[:8] + o[8:60] * 29],
         'by label': [lambda o: with_word(o, 0, 0xFFF, 101 << 12), lambda o: with_word(o, 0, 0xFFFFFEFF, 0)],
-        'by control word': [lambda o: with_word(o, 4, 0xFFFFFFF, put) for put in (1 << 28, 2 << 28, 8 << 28)],
+        'by control word': [lambda o, put=put: with_word(o, 4, 0xFFFFFFF, put) for put in (1 << 28, 2 << 28, 8 << 28)],
         'without a sequence number': [lambda o: o[:6] + b'\0\0' + o[8:]],
     }
-    # The closures above share `put`; each is called at once.
     for words, octets in ways.items():
         for each in octets:
             record(odd(20, each)).sees(1, f'1 {words}', lost=1, missing=4, not_taken=1)
@@ -302,8 +299,7 @@ def try_not_taken():
         1, 'NO: no cell came', not_taken=50)
     record(odd(20, lambda o: o, port=6636)).sees(1, '1 packet passed over', lost=1, not_taken=0)
     record([dataclasses.replace(one, port=7000) for one in line], '--port', '7000').sees(0)
-    many = made.sent(RECORDS[:280], 28)
-    record(many).sees(0, cells=280)
+    record(made.sent(RECORDS[:280], 28)).sees(0, cells=280)
 
 
 def try_links():
@@ -339,7 +335,6 @@ def try_answers():
     silence = made.made_log(PROGRAM, FOLDER, 3920, ('--second', '3'), silent=True)
     still = [silence[at:at + 49] for at in range(3, len(silence), 49)]
     record(made.sent(still[:800], 4)).sees(1, 'NO: nothing but silence came', silent_s=0.1)
-    # The cells of another format are all refused; of no channels nothing can be received.
     noise = [bytes([0]) + bytes(48) for _ in range(40)]
     record(made.sent(noise, 4)).sees(1, 'NO: the receiver took none of 40 cells', cells=40, sound=0, refused=40)
     record(line, '--least', '0.25').sees(0)

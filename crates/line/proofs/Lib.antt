@@ -1,5 +1,6 @@
 pub mod Answers
 pub mod Beyond
+pub mod Blocks
 pub mod Bound
 pub mod Calls
 pub mod Cases
