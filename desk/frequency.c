@@ -6,11 +6,14 @@
 #include <stdlib.h>
 #include <string.h>
 
+#include "blocks.h"
 #include "slips.h"
 #include "status.h"
 
 /* A block of one channel: the first of all that names a frequency decides. */
-static void take_block(struct frequency *frequency, unsigned channel, const uint8_t out[RIME_OUT]) {
+static void take_block(void *user, unsigned channel, const uint8_t out[RIME_OUT], uint64_t past) {
+    struct frequency *frequency = user;
+    (void)past;
     if (!status_counts(out)) return;
     frequency->lengths |= (uint64_t)1 << status_sample_bits(out + RIME_OUT_OCTETS);
     unsigned rate = status_rate(out + RIME_OUT_OCTETS);
@@ -23,14 +26,10 @@ static void take_block(struct frequency *frequency, unsigned channel, const uint
 
 /* The blocks that end in the first sample times of what is held. */
 static void take_blocks(struct frequency *frequency) {
-    uint8_t blocks[RIME_MOST_SLOTS][RIME_BLOCK] = {{0}};
+    struct blocks blocks = {0};
     unsigned channels = frequency->reading->channels;
-    for (size_t at = 0; at < frequency->held && at < (size_t)FREQUENCY_TIMES * channels; at++) {
-        uint8_t out[RIME_OUT];
-        unsigned channel = (unsigned)(at % channels);
-        rime_status_step(blocks[channel], frequency->ancillary[at], frequency->marks[at], out);
-        if (out[RIME_OUT_ANSWER] != RIME_STATUS_NONE) take_block(frequency, channel, out);
-    }
+    size_t most = (size_t)FREQUENCY_TIMES * channels, given = frequency->held < most ? frequency->held : most;
+    blocks_take(&blocks, channels, frequency->ancillary, frequency->marks, given, take_block, frequency);
 }
 
 static void settle(struct frequency *frequency) {

@@ -6,6 +6,7 @@
 #include <string.h>
 #include <unistd.h>
 
+#include "blocks.h"
 #include "frequency.h"
 #include "json.h"
 #include "options.h"
@@ -17,10 +18,9 @@
 enum { ALIKE = 14, FLAGS = 22 };
 
 struct channel {
-    uint8_t block[RIME_BLOCK]; /* under assembly */
-    uint8_t said[RIME_OUT];    /* the last that was handed out: answer, then octets */
-    uint64_t count;            /* blocks like it in a row, 0 before the first */
-    uint64_t from, past;       /* sample times of theirs */
+    uint8_t said[RIME_OUT]; /* the last that was handed out: answer, then octets */
+    uint64_t count;         /* blocks like it in a row, 0 before the first */
+    uint64_t from, past;    /* sample times of theirs */
     uint64_t lines;
 };
 
@@ -32,6 +32,8 @@ struct labels {
     struct reading reading;
     struct frequency frequency;
     struct channel channels[RIME_MOST_SLOTS];
+    struct blocks blocks;
+    uint64_t time; /* sample times before what is handed out */
 };
 
 static const struct argp_option options[] = {
@@ -142,8 +144,10 @@ static bool are_alike(const uint8_t a[RIME_OUT], const uint8_t b[RIME_OUT]) {
     return memcmp(a, b, RIME_OUT_OCTETS + ALIKE) == 0 && a[RIME_OUT_OCTETS + FLAGS] == b[RIME_OUT_OCTETS + FLAGS];
 }
 
-static void take_block(struct labels *labels, unsigned number, const uint8_t *out, uint64_t past) {
+static void take_block(void *user, unsigned number, const uint8_t *out, uint64_t passed) {
+    struct labels *labels = user;
     struct channel *channel = &labels->channels[number];
+    uint64_t past = labels->time + passed;
     if (channel->count == 0 || !are_alike(out, channel->said)) {
         if (channel->count > 0) say_blocks(labels, number);
         memcpy(channel->said, out, RIME_OUT);
@@ -158,13 +162,8 @@ static void take_block(struct labels *labels, unsigned number, const uint8_t *ou
 /* Brings each channel's block forward by what is handed out. */
 static bool take(const struct handed *handed, void *user) {
     struct labels *labels = user;
-    unsigned channels = labels->reading.channels;
-    for (size_t at = 0; at < handed->given; at++) {
-        unsigned number = (unsigned)(at % channels);
-        uint8_t out[RIME_OUT];
-        rime_status_step(labels->channels[number].block, handed->ancillary[at], handed->marks[at], out);
-        if (out[RIME_OUT_ANSWER] != RIME_STATUS_NONE) take_block(labels, number, out, handed->time + at / channels + 1);
-    }
+    labels->time = handed->time;
+    blocks_take(&labels->blocks, labels->reading.channels, handed->ancillary, handed->marks, handed->given, take_block, labels);
     return true;
 }
 

@@ -291,24 +291,26 @@ uint8_t rime_receive(uint8_t state[RIME_RECEIVER_STATE], const uint8_t *cell, si
 uint32_t rime_receiver_placed(const uint8_t state[RIME_RECEIVER_STATE]);
 
 /*
- * Brings a watch over second numbers forward by one cell that the receiver took, by its `report` as rime_receive left it. `watch` is
- * seven zeros at first. A cell number tells at most fourteen lost cells; second numbers tell more where the sender keeps them. Sixteen
- * cells have two block starts (numbers 0 and 8), and only there may the second number go up: where it went up by more than the numbers
- * allow, whole sixteens of cells are missing beside those that the report tells. Leaves in `slip` what it tells and how many cells, a
- * multiple of 16 up to 128:
+ * Brings a watch over second numbers forward by one cell that the receiver took, by its `report` as rime_receive left it.
+ * `watch` is seven zeros at first. A cell number tells at most fourteen lost cells; second numbers tell more where the
+ * sender keeps them. Sixteen cells have two block starts (numbers 0 and 8), and only there may the second number go up:
+ * where it went up by more than the numbers allow, whole sixteens of cells are missing beside those that the report tells.
+ * Leaves in `slip` what it tells and how many cells, a multiple of 16 up to 128:
  *   RIME_SLIP_NOTHING   0
- *   RIME_SLIP_BEFORE    at least so many cells more are missing before the cell that was taken before this one, and before those that
- *                       its own report told missing
+ *   RIME_SLIP_BEFORE    at least so many cells more are missing before the cell that was taken before this one, and before
+ *                       those that its own report told missing
  *   RIME_SLIP_ALONE     0: that cell was out of step alone. Second numbers are unprotected, and this one was false
- *   RIME_SLIP_PERHAPS   this cell is out of step, and the next one decides: perhaps so many cells more are missing before it; 0, none
- *                       whatever comes. A caller that puts silence in holds the cell back where they are above 0
- * The cells told are never more than the cells lost, whatever the sender sent as indications. They are exact where it keeps second
- * numbers, gives the indication in every cell whose number is a multiple of 8, and at most 119 cells were sent between two taken ones,
- * with two cells in step before and two behind: docs/LOSSES.md. The indication of the report isn't looked at.
- * Refused, with `watch` untouched and `slip` zeros: 4, a watch that can't be (a yes or no above 1, a number above 15, not started and
- * not all zeros, not sure and not waiting or with a second number or block starts, sure and not waiting with block starts or another
- * second number); 31, a report that can't follow (missing above 14, a number above 15, missing cells at the first cell, later missing
- * plus 1 not the difference of the numbers modulo 16). A format without overhead has no numbers: its second report is refused 31.
+ *   RIME_SLIP_PERHAPS   this cell is out of step, and the next one decides: perhaps so many cells more are missing before
+ *                       it; 0, none whatever comes. A caller that puts silence in holds the cell back where they are above 0
+ * The cells told are never more than the cells lost, whatever the sender sent as indications. They are exact where it keeps
+ * second numbers, gives the indication in every cell whose number is a multiple of 8, and at most 119 cells were sent
+ * between two taken ones, with two cells in step before and two behind: docs/LOSSES.md. The indication of the report isn't
+ * looked at.
+ * Refused, with `watch` untouched and `slip` zeros: 4, a watch that can't be (a yes or no above 1, a number above 15, not
+ * started and not all zeros, not sure and not waiting or with a second number or block starts, sure and not waiting with
+ * block starts or another second number); 31, a report that can't follow (missing above 14, a number above 15, missing cells
+ * at the first cell, later missing plus 1 not the difference of the numbers modulo 16). A format without overhead has no
+ * numbers: its second report is refused 31.
  */
 uint8_t rime_slip(uint8_t watch[RIME_SLIP], const uint8_t report[RIME_REPORT], uint8_t slip[RIME_SLIPPED]);
 

@@ -14,6 +14,7 @@ pub mod Frames
 pub mod Logs
 pub mod Losses
 pub mod Opened
+pub mod Pieces
 pub mod Placed
 pub mod Places
 pub mod Played

@@ -52,7 +52,8 @@ use Rattle.line.specs.Seconds.{
 }
 use Rattle.line.proofs.Losses.{any-loss}
 use Rattle.line.proofs.Places.{Alike, all-alike, whatever}
-use Rattle.line.proofs.Rows.{Piece, pieceOf, reportWith, pieceWith, Wrote, only-written}
+use Rattle.line.proofs.Pieces.{Piece, pieceOf, reportWith, pieceWith}
+use Rattle.line.proofs.Rows.{Wrote, only-written}
 use Rattle.line.proofs.Seconds.{lostOf, More, Starts, chain-first}
 use Rattle.line.proofs.Steps.{missing}
 

@@ -6,8 +6,8 @@ use mathlib.Core.Path.{_≡_, refl, sym, _∙_, ap, ap₂, subst}
 use Prim.Native.Nat.{ℕ, zero, suc, _+_, _*_, _%_, _≤_}
 use native.Mathlib.Nat.{suc-ne-zero}
 use native.Mathlib.Omega.{arith}
-use borrow.Author.Tests.{eq-eqb, ne-eqb, le-ltb, eqb-true, eqb-false, ltb-true, ltb-false}
-use lib.Dec.{eqb, ltb}
+use borrow.Author.Tests.{eq-eqb, ne-eqb, le-ltb, eqb-true, eqb-false}
+use lib.Dec.{eqb}
 use lib.ListN.{length, replicate}
 use Rattle.runs.proofs.Laws.{split}
 use Rattle.formats.specs.Formats.{formatOf}
@@ -21,8 +21,7 @@ use Rattle.receiver.specs.Receiver as R
 use Rattle.reading.specs.Records.{Whole as Arrival}
 use Rattle.reading.specs.Totals.{totalOf, those, Each}
 use Rattle.line.specs.Contracts.{SendCall, MeetsSend, ReceiveCall, MeetsReceive}
-use Rattle.slips.specs.Reports.{Report}
-use Rattle.line.specs.Demands.{InSettings, Tells}
+use Rattle.line.specs.Demands.{InSettings}
 use Rattle.line.specs.Line.{
   Row,
   Sending,
@@ -40,8 +39,6 @@ use Rattle.line.specs.Line.{
   taken,
   WithRoom,
   Place,
-  places,
-  handedBy,
   handed,
   placesOf,
   leftBy,
@@ -63,11 +60,12 @@ use Rattle.line.specs.Losses.{
   refusalsAt,
   refusalsWith,
 }
-use Rattle.line.specs.Seconds.{tookIn, reportOf}
+use Rattle.line.specs.Seconds.{tookIn}
 use Rattle.line.proofs.Calls.{sends-or-nothing, receives-or-nothing, tells}
 use Rattle.line.proofs.Cells.{next-state, settings-on, state-passes, found-there, used-in}
+use Rattle.line.proofs.Pieces.{Piece, pieceOf, pieceWith, second-said, own-places, one-taken}
 use Rattle.line.proofs.Repeats.{repeat-gets-9}
-use Rattle.line.proofs.Steps.{missing, difference-after, number-after, spoiled-gets, round-gets, took}
+use Rattle.line.proofs.Steps.{difference-after, number-after, spoiled-gets, round-gets, took}
 
 -- the calls of a sender without those that were refused are in a row too
 abbrev pub Wrote : SendCall → Type 0
@@ -111,27 +109,6 @@ Within rc since ts = rc .count + lostSince since + length ts ≤ 4294967295
 -- how many cells are shown with one that is taken
 abbrev pub cellsWith : Told → ℕ
 cellsWith x = suc (missingBefore x)
-
--- of a call that took a cell: its report, C×T and what it handed out; and of the cell
-abbrev pub Piece : Type 0
-Piece = Report × (ℕ × List Place)
-
-abbrev pub pieceOf : ReceiveCall → Piece
-pieceOf c = (reportOf c, (R.usedNow (c .state), handedBy c))
-
-abbrev pub secondTold : Sender → ℕ → ℕ
-secondTold st second = cond (ltb (S.formatNow st .slots) 12) 0 second
-
-abbrev pub reportWith : Told → Report
-reportWith x =
-    record {
-      missing = missingBefore x;
-      number = x .trip .sent .state .number;
-      second = secondTold (x .trip .sent .state) (S.secondNow (x .trip .sent .state) (x .trip .sent .indication));
-    }
-
-abbrev pub pieceWith : Told → Piece
-pieceWith x = (reportWith x, (S.usedNow (x .trip .sent .state), placesWith x))
 
 -- what calls come to: they hand out and count the cells that are taken, each with the missing ones before it, and each cell's
 -- deliveries get their refusals
@@ -236,25 +213,6 @@ within-now st cell k n gap few =
 
 within-next : (now before k n : ℕ) → now ≡ before + suc (k % 16) → before + k + suc n ≤ 4294967295 → now + 0 + n ≤ 4294967295
 within-next now before k n counted few = let less : k % 16 ≤ k = omega arith in omega arith
-
--- the second number as it is reported, and an unaltered cell's places
-second-said : (s : SendCall) (c : ReceiveCall) → Tells s c → c .answer .second ≡ secondTold (s .state) (S.secondNow (s .state) (s .indication))
-second-said s c said =
-    split (ltb (S.formatNow (s .state) .slots) 12)
-    (λ t. rw t (said .no-second-told (ltb-true _ _ t)))
-    (λ f. rw f (said .second-told (ltb-false _ _ f)))
-
-own-places : (t : Trip) → isLost (t .fate) ≡ false → (n : ℕ)
-    → replicate n missing ++ places (t .sent .samples) (t .sent .ancillary) (replicate (S.usedNow (t .sent .state)) 0)
-    ≡ replicate n missing ++ placesOf t
-unfolding placesOf
-own-places t kept n = rw kept refl
-
-one-taken : (t : Trip) (place : ℕ) (since : Since) (ts : List Trip) → isLost (t .fate) ≡ false → comesRound since ≡ false
-    → pieceWith (record { trip = t; place = place; since = since }) ∷ map pieceWith (takenFrom (suc place) (after 0) ts)
-    ≡ map pieceWith (takenFrom place since (t ∷ ts))
-unfolding storyFrom those
-one-taken t place since ts kept turns = rw (kept, turns) refl
 
 -- one trip more, what follows being known
 module _ (t : Trip) (ts : List Trip) (sends : MeetsSend (t .sent)) (sent : t .sent .answer .refusal ≡ 0)

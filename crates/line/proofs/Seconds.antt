@@ -59,7 +59,8 @@ use Rattle.line.specs.Seconds.{
 use Rattle.line.proofs.Cells.{sent-refusal, state-passes, rightly-indicated, next-state, second-small, fits}
 use Rattle.line.proofs.Losses.{any-loss}
 use Rattle.line.proofs.Places.{Alike, all-alike, whatever}
-use Rattle.line.proofs.Rows.{Piece, pieceOf, secondTold, reportWith, pieceWith, Wrote, only-written}
+use Rattle.line.proofs.Pieces.{secondTold, reportWith}
+use Rattle.line.proofs.Rows.{Wrote}
 use Rattle.line.proofs.Steps.{missing}
 
 -- how often the second number goes up in a cell
