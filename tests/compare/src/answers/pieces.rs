@@ -101,7 +101,7 @@ pub fn salvage_by_plain(case: &Case) -> Answer {
 
 /// The answer. It stands as soon as a call says that nothing more need be read: the rest is taken, and changes nothing.
 pub fn anything_by_library(case: &Case) -> Option<Answer> {
-    let (mut state, mut held, mut early) = ([u64::MAX; 14], [LEFT_OVER; 49], None);
+    let (mut state, mut held, mut early, mut last) = ([u64::MAX; 14], [LEFT_OVER; 49], None, 1);
     assert_eq!(face::anything_start(&mut state, &mut held), 0);
     for piece in pieces(case) {
         let mut more = u64::MAX;
@@ -110,8 +110,11 @@ pub fn anything_by_library(case: &Case) -> Option<Answer> {
         if more == 0 && early.is_none() {
             early = Some(anything_end(&state, &held));
         }
+        last = more;
     }
     let answer = anything_end(&state, &held);
+    let found = matches!(plain::anything(case.octets(0)), Ok(Anything::Yes { .. }));
+    assert!(last == 0 || !found, "more to be read behind a yes");
     assert!(early.is_none_or(|early| early == answer), "an answer that changed");
     Some(answer)
 }
