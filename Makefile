@@ -30,6 +30,7 @@ help:
 	@echo '  make fuzz             compare N=1000000 calls with another implementation, from SEED=2; memory checks'
 	@echo '  make sheet-19         one sheet over 626 MB, by the call and by the program: refused 19; a record less is given'
 	@echo '  make desk-fuzz        spoiled logs through the desk tool, with memory checks'
+	@echo '  make desk-third       LOGS=1010 spoiled logs through the desk tool, held against a decoder written from docs/RULES.md'
 	@echo '  make desk-limits      files of 4 GiB by the desk tool: the longest that each kind holds'
 	@echo '  make desk-hour        a reading of one hour through the desk tool: time and memory'
 	@echo '  make bench            speed beside plain C: instructions and nanoseconds; ROWS=56-C2 for some rows'

@@ -44,3 +44,10 @@ $(DESK)/rimesatchel-asan: $(DESK_SOURCES) $(DESK_HEADERS) $(RIME_LIB)/librimesat
 
 desk-fuzz: $(DESK)/rimesatchel-asan
 	python3 tests/desk_fuzz.py $< 300 $(SEED)
+
+# Spoiled logs by the third reading of docs/RULES.md, through the same build: LOGS of them, from SEED.
+.PHONY: desk-third
+LOGS ?= 1010
+desk-third: $(DESK)/rimesatchel-asan
+	@bash tests/need.sh sox
+	ASAN_OPTIONS=detect_leaks=0 python3 tests/desk_third.py $< $(LOGS) $(or $(SEED),1)

@@ -190,6 +190,8 @@ static void forget_time(struct output *output) {
 int sound_done(struct sound_out *out) {
     int failed = SF_ERR_NO_ERROR, closed = SF_ERR_NO_ERROR;
     if (out->file != NULL) {
+        /* Of a file without samples libsndfile knows the length only once its header is there. */
+        if (out->frames == 0) sf_command(out->file, SFC_UPDATE_HEADER_NOW, NULL, 0);
         failed = sf_error(out->file);
         closed = sf_close(out->file);
     }

@@ -62,6 +62,15 @@ for bits in 16 24; do
     sndfile-cmp "in-$bits-2.wav" out.w64
 done
 
+# A log without a cell becomes a file without samples, whose header is whole.
+printf '\x56\x02\x00' > nothing.log
+for kind in wav rf64 w64 flac aiff; do
+    "$desk" receive -q nothing.log "nothing.$kind"
+    "$desk" send -q "nothing.$kind" other.log --force 2> said || { cat said; fail "$kind without samples can't be read"; }
+    cmp nothing.log other.log || fail "$kind: another log than the one without a cell"
+done
+[ "$(od -A n -t u4 -j 4 -N 4 nothing.wav | tr -d ' ')" = "$(($(stat -c %s nothing.wav) - 8))" ] || fail "the length in nothing.wav"
+
 # The file has the bits of the format, and the frequency that is asked for.
 "$desk" send -q in-16-2.wav other.log --format 54 --force
 "$desk" receive -q other.log out.wav --force --rate 44100

@@ -1,5 +1,5 @@
 #!/usr/bin/env bash
-# The desk tool's sound: sampling frequencies, bits and lengths of files, all fourteen formats, and labels by channel.
+# The desk tool's sound: sampling frequencies, bits and lengths of files, all fourteen formats, and labels by channel; spoiled logs.
 set -eu -o pipefail
 export LC_ALL=C
 bash tests/need.sh sox flac netpbm sndfile-programs
@@ -13,3 +13,5 @@ gcc -O1 -std=c11 -Wall -Wextra -Werror -Iinclude tests/desk_log.c "$lib/librimes
 make --no-print-directory -s -f desk/desk.mk desk DESK="$dir" \
     DESK_MORE='-O0 -DSOUND_AIFF_OCTETS=60000 -DSOUND_FLAC_FRAMES=10000'
 python3 tests/desk_sound.py "${DESK:-target/desk}/rimesatchel" "$dir/rimesatchel" "$dir/desk_log"
+# Three spoiled logs of each format, held against the reading of docs/RULES.md alone. `make desk-third` takes more.
+python3 tests/desk_third.py "${DESK:-target/desk}/rimesatchel" 42 1 6

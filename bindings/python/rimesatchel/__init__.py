@@ -29,13 +29,13 @@ What each call keeps to is written in include/rimesatchel.h, and the rules behin
 
 from __future__ import annotations
 
-import contextlib
 import ctypes
 import enum
+import mmap
 import os
 import pathlib
 from array import array
-from ctypes import POINTER, c_bool, c_char_p, c_size_t, c_uint, c_uint8, c_uint32, c_uint64
+from ctypes import POINTER, c_bool, c_char_p, c_int, c_size_t, c_ssize_t, c_uint, c_uint8, c_uint32, c_uint64, c_void_p
 from typing import Any, Iterator, NamedTuple, Sequence
 
 __all__ = [
@@ -159,41 +159,61 @@ def _fitting(kind: Any, numbers: Sequence[int]) -> Sequence[int]:
     return numbers
 
 
-def _octets(octets: bytes | Sequence[int]) -> _Lent:
-    lent = _Lent(c_uint8, 0)
-    lent.array = (c_uint8 * len(octets)).from_buffer_copy(bytes(octets))
-    return lent
-
-
-class _View(ctypes.Structure):
-    """What Python says of a buffer, its Py_buffer: so one that mustn't be written can be lent without a copy too."""
+class _Buffer(ctypes.Structure):
+    """Python's own record of memory that an object lends (Py_buffer)."""
 
     _fields_ = [
-        ("address", ctypes.c_void_p), ("of", ctypes.c_void_p), ("octets", ctypes.c_ssize_t), ("size", ctypes.c_ssize_t),
-        ("kept", ctypes.c_int), ("dimensions", ctypes.c_int), *((name, ctypes.c_void_p) for name in "abcde"),
+        ("start", c_void_p), ("object", ctypes.py_object), ("octets", c_ssize_t), ("width", c_ssize_t), ("fixed", c_int),
+        ("dimensions", c_int), ("format", c_char_p), ("shape", c_void_p), ("strides", c_void_p), ("offsets", c_void_p), ("own", c_void_p),
     ]
 
 
-@contextlib.contextmanager
-def _borrowed(buffer: Any, kind: Any, written: bool) -> Iterator[_Lent]:
-    """A buffer of the caller's, lent as it stands."""
-    size = ctypes.sizeof(kind)
-    with memoryview(buffer) as told:
-        if told.itemsize != size or told.format not in ("B", "c", "b", "Q", "L", "q", "l"):
-            raise TypeError(f"a buffer of whole numbers of {size} octets each is wanted")
-    view = _View()
-    get = ctypes.pythonapi.PyObject_GetBuffer
-    get.argtypes, get.restype = [ctypes.py_object, POINTER(_View), ctypes.c_int], ctypes.c_int
-    get(buffer, view, 1 if written else 0)  # it raises where the buffer isn't in one piece, or mustn't be written
+class _Over(_Lent):
+    """The memory of anything with the buffer protocol (bytes, array, mmap, numpy), lent to a call without a copy."""
+
+    def __init__(self, kind: Any, buffer: Any, written: bool = False) -> None:
+        self._held: _Buffer | None = None
+        view = memoryview(buffer)
+        width = ctypes.sizeof(kind)
+        if not view.c_contiguous or view.itemsize != width or view.format[-1] in "efdg":
+            raise TypeError(f"a run here is numbers of {width} octets, one behind the other")
+        if written and view.readonly:
+            raise TypeError("a run that is written into can't be read-only")
+        held = _Buffer()
+        ctypes.pythonapi.PyObject_GetBuffer(ctypes.py_object(view), ctypes.byref(held), 0)
+        self._held = held
+        self.array = (kind * (view.nbytes // width)).from_address(held.start or 0)
+
+    def __del__(self, release: Any = ctypes.pythonapi.PyBuffer_Release, by: Any = ctypes.byref) -> None:
+        if self._held is not None:
+            release(by(self._held))
+
+
+def _octets(octets: Any) -> _Lent:
+    """Octets that a call only reads: lent as they are where they have the buffer protocol, else copied."""
     try:
-        lent = _Lent(kind, 0)
-        if view.octets:
-            lent.array = (kind * (view.octets // size)).from_address(view.address)
-        yield lent
-    finally:
-        release = ctypes.pythonapi.PyBuffer_Release
-        release.argtypes, release.restype = [POINTER(_View)], None
-        release(view)
+        memoryview(octets)
+    except TypeError:
+        return _Over(c_uint8, bytes(octets))
+    return _Over(c_uint8, octets)
+
+
+def _copied(octets: bytes | Sequence[int]) -> _Lent:
+    """A copy of octets that a call writes into."""
+    return _Over(c_uint8, bytearray(octets), written=True)
+
+
+def _blank(kind: Any, entries: int) -> tuple[mmap.mmap, _Lent]:
+    """A long run of zeros, of which only what is written takes memory."""
+    memory = mmap.mmap(-1, max(1, entries * ctypes.sizeof(kind)))
+    lent = _Over(c_uint8, memory, written=True)
+    lent.array = (kind * entries).from_address(ctypes.addressof(lent.array))
+    return memory, lent
+
+
+def _first(lent: _Lent, entries: int) -> bytes:
+    """The first entries of a run, as octets."""
+    return ctypes.string_at(lent.array, entries * ctypes.sizeof(lent.array._type_))
 
 
 def _state(length: int, octets: bytes) -> Any:
@@ -348,10 +368,11 @@ class Receiver:
         >>> Receiver(Setup(0x02, 1)).judge_log(bytes(98), 0, 1)
         (b'\\x00\\x00\\x00\\x00\\x00', Walked(next=49, records=1, stop=10))
         """
-        reports, counts = _Lent(c_uint8, 5 * (len(log) // 49 if most is None else most)), (c_uint64 * 3)()
-        _call("rime_judge_log", self._state, _octets(log), _fitting(c_size_t, [place])[0], reports, counts)
+        lent = _octets(log)
+        reports, counts = _Lent(c_uint8, 5 * (len(lent.array) // 49 if most is None else most)), (c_uint64 * 3)()
+        _call("rime_judge_log", self._state, lent, _fitting(c_size_t, [place])[0], reports, counts)
         walked = Walked(*counts)
-        return bytes(reports.array[:5 * walked.records]), walked
+        return _first(reports, 5 * walked.records), walked
 
 
     def receive_log(self, log: Any, samples: Any, ancillary: Any, marks: Any, place: int = 0) -> Batch:
@@ -368,10 +389,9 @@ class Receiver:
         >>> samples[11], samples[12]
         (0, 7)
         """
+        runs = [_Over(kind, run, written=True) for kind, run in ((c_uint64, samples), (c_uint8, ancillary), (c_uint8, marks))]
         counts = (c_uint64 * 9)()
-        with _borrowed(log, c_uint8, False) as octets, _borrowed(samples, c_uint64, True) as first:
-            with _borrowed(ancillary, c_uint8, True) as second, _borrowed(marks, c_uint8, True) as third:
-                _call("rime_receive_log", self._state, octets, _fitting(c_size_t, [place])[0], first, second, third, counts)
+        _call("rime_receive_log", self._state, _octets(log), _fitting(c_size_t, [place])[0], *runs, counts)
         return Batch(*counts)
 
 
@@ -449,7 +469,7 @@ def check_character(block: bytes) -> int:
     """The check character of octets 0 to 22 of 24."""
     if len(block) != 24:
         raise ValueError("a block of channel status is 24 octets")
-    return _ask("rime_check_character", _octets(block).array)
+    return _ask("rime_check_character", _state(24, block))
 
 
 class Writer:
@@ -492,7 +512,8 @@ class Record(NamedTuple):
 
 
 class Log:
-    """A log that is read: how it was sent, and its records one after the other. Refused 11, 1, 2 or 3; a record 11 or 12."""
+    """A log that is read: how it was sent, and its records one after the other. Its octets are lent and not copied. Refused 11,
+    1, 2 or 3; a record 11 or 12."""
 
     def __init__(self, octets: bytes) -> None:
         self._octets = _octets(octets)
@@ -530,8 +551,7 @@ def received(log: Any, room: int = 65536) -> Iterator[Received]:
     [([7, 7], 12)]
     """
     header, room = (c_uint32 * 4)(), max(room, 720)
-    with _borrowed(log, c_uint8, False) as octets:
-        _call("rime_log_header", octets, header)
+    _call("rime_log_header", _octets(log), header)
     receiver, place, stop = Receiver(Setup(*header[1:])), header[0], 10
     while stop == 10:
         samples, ancillary, marks = array("Q", bytes(8 * room)), array("B", bytes(room)), array("B", bytes(room))
@@ -551,13 +571,23 @@ def listing(log: bytes) -> str:
     >>> listing(b"")
     'log refused 11\\n'
     """
-    room, lent = 256 + len(log), _octets(log)
+    lent = _octets(log)
+    room = 256 + len(lent.array)
     while True:
-        run, listed = _Lent(c_uint8, room), (c_uint64 * 2)()
+        (memory, run), listed = _blank(c_uint8, room), (c_uint64 * 2)()
         _call("rime_log_list", lent, run, listed)
         if listed[1] == 1:
-            return bytes(run.array[:listed[0]]).decode()
+            return _text(memory, listed[0])
         room *= 2
+
+
+def _text(memory: mmap.mmap, octets: int) -> str:
+    """The first octets as text. Each part's memory is given back as soon as it is read: a list is as long as half a log."""
+    text, part = "", 256 * mmap.PAGESIZE
+    for start in range(0, octets, part):
+        text += str(memoryview(memory)[start:min(start + part, octets)], "ascii")
+        memory.madvise(mmap.MADV_DONTNEED, start, min(part, len(memory) - start))
+    return text
 
 
 class Anything(NamedTuple):
@@ -586,7 +616,7 @@ def anything(log: bytes) -> Anything:
 class Salvaged(NamedTuple):
     """What was saved of a log: its sound records, each whole record that was left out with its refusal, and the octets cut."""
 
-    log: bytes
+    log: bytearray
     left_out: list[tuple[int, int]]
     cut: int
 
@@ -603,10 +633,13 @@ def salvage(log: bytes) -> Salvaged:
     >>> saved.log == sound, saved.left_out, saved.cut
     (True, [(1, 9)], 1)
     """
-    out, pairs, counts = _Lent(c_uint8, len(log)), _Lent(c_uint64, 2 * (len(log) // 49)), (c_uint64 * 3)()
-    _call("rime_salvage", _octets(log), out, pairs, counts)
+    lent = _octets(log)
+    out, counts = bytearray(len(lent.array)), (c_uint64 * 3)()
+    _, pairs = _blank(c_uint64, 2 * (len(out) // 49))
+    _call("rime_salvage", lent, _Over(c_uint8, out, written=True), pairs, counts)
     octets, left, cut = counts
-    return Salvaged(bytes(out.array[:octets]), list(zip(pairs.array[:2 * left:2], pairs.array[1:2 * left:2])), cut)
+    del out[octets:]
+    return Salvaged(out, [(pairs.array[2 * k], pairs.array[2 * k + 1]) for k in range(left)], cut)
 
 
 class Figures(NamedTuple):
@@ -774,7 +807,7 @@ def equipment(ports: bytes, message: bytes, room: int = 64) -> Deed:
     Traceback (most recent call last):
     rimesatchel.Refused: refused 24, the message has no octets
     """
-    lent, answer, report = _octets(ports), _Lent(c_uint8, room), (c_uint64 * 4)()
+    lent, answer, report = _copied(ports), _Lent(c_uint8, room), (c_uint64 * 4)()
     _call("rime_equipment", lent, _octets(message), answer, report, library=_port())
     return Deed(bytes(lent.array), bytes(answer.array[:report[0]]), *report[1:])
 
@@ -782,7 +815,7 @@ def equipment(ports: bytes, message: bytes, room: int = 64) -> Deed:
 def controller(ports: bytes, message: bytes) -> bytes:
     """A management message at the controlling entity: the ports behind it. Refused 24. docs/MANAGEMENT.md says what a status of 81
     to 87 hex in them means."""
-    lent = _octets(ports)
+    lent = _copied(ports)
     _call("rime_controller", lent, _octets(message), library=_port())
     return bytes(lent.array)
 
@@ -799,7 +832,7 @@ def port_settings(port: bytes) -> Setup:
     if len(port) != 28:
         raise ValueError("a port's record has 28 octets")
     settings = (c_uint32 * 3)()
-    _call("rime_port_settings", _octets(port).array, settings, library=_port())
+    _call("rime_port_settings", _state(28, port), settings, library=_port())
     return Setup(*settings)
 
 
