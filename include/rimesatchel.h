@@ -431,19 +431,21 @@ enum {
 };
 
 /*
- * Receives the records of a log from `place` on, one after the other, as rime_log_record and rime_receive would: each cell's
- * entries, with those of the cells missing before it, go into the three runs behind the last one's; what stands past them stays.
- * A record that the receiver refuses by 8, 15, 9 or 20 is passed over and counted, and needs no room. It stops at the first record
- * whose entries, with those of the missing cells, don't fit into what is left of the runs: it is done whole or not at all. With
- * 15 * RIME_MOST_SLOTS entries in each run every call goes on or comes to the end or a record that is broken.
- * Leaves in `state` the receiver's behind the last record, with its yes-or-no octet as 0 or 1; in `counts`, all of this call: the
- * next place; the entries written to each run; why it stopped; cells taken; cells missing before them; records refused by 8, by 9,
- * by 15 and by 20. Why it stopped is what the next single call would answer: 0, the log's end; 11, a first octet above 1; 12, a
- * record that is cut; 10, no room; of several the first in this order. After 10 the same place is given again with new runs. Of a log
- * in pieces, after 12 the octets from the next place on, at most 48, go to the front of the next piece. A place at the end or past
- * it, however large, is the end, and comes back as it was.
- * Refused, with `state` and the runs untouched and `counts` zeros: 1 to 4 of what stands in `state`, as for rime_receive; then 5, the
- * three runs aren't equally long; also where no record is there.
+ * Receives the records of a log from `place` on, one after the other, as rime_log_record and rime_receive would: each
+ * cell's entries, with those of the cells missing before it, go into the three runs behind the last one's; what
+ * stands past them stays. A record that the receiver refuses by 8, 15, 9 or 20 is passed over and counted, and needs
+ * no room. It stops at the first record whose entries, with those of the missing cells, don't fit into what is left
+ * of the runs: it is done whole or not at all. With 15 * RIME_MOST_SLOTS entries in each run every call goes on or
+ * comes to the end or a record that is broken.
+ * Leaves in `state` the receiver's behind the last record, with its yes-or-no octet as 0 or 1; in `counts`, all of
+ * this call: the next place; the entries written to each run; why it stopped; cells taken; cells missing before them;
+ * records refused by 8, by 9, by 15 and by 20. Why it stopped is what the next single call would answer: 0, the log's
+ * end; 11, a first octet above 1; 12, a record that is cut; 10, no room; of several the first in this order. After 10
+ * the same place is given again with new runs. Of a log in pieces, after 12 the octets from the next place on, at
+ * most 48, go to the front of the next piece. A place at the end or past it, however large, is the end, and comes
+ * back as it was.
+ * Refused, with `state` and the runs untouched and `counts` zeros: 1 to 4 of what stands in `state`, as for
+ * rime_receive; then 5, the three runs aren't equally long; also where no record is there.
  */
 uint8_t rime_receive_log(uint8_t state[RIME_RECEIVER_STATE], const uint8_t *log, size_t log_len, size_t place,
                          uint64_t *samples, size_t samples_len, uint8_t *ancillary, size_t ancillary_len,

@@ -430,8 +430,8 @@ class Receiver:
         >>> samples[11], samples[12]
         (0, 7)
         """
-        counts = (c_uint64 * 9)()
         runs = [_Over(kind, run, written=True) for kind, run in ((c_uint64, samples), (c_uint8, ancillary), (c_uint8, marks))]
+        counts = (c_uint64 * 9)()
         _call("rime_receive_log", self._state, _octets(log), _fitting(c_size_t, [place])[0], *runs, counts)
         return Batch(*counts)
 

@@ -235,7 +235,8 @@ fn receive_log(case: &Case) -> Option<Answer> {
     let mut counts = [u64::MAX; 9];
     let refusal = face::receive_log(&mut state, case.octets(1), place, runs, &mut counts);
     let after = receiver_fields(&state);
-    let mut answer = values![u64::from(refusal), &after[..], &samples.back()[..], &ancillary.back()[..], &marks.back()[..]];
+    let mut answer =
+        values![u64::from(refusal), &after[..], &samples.back()[..], &ancillary.back()[..], &marks.back()[..]];
     answer.extend(counts.map(Value::Number));
     Some(answer)
 }
