@@ -121,11 +121,12 @@ function wavHead(log, frames, rate, peaks) {
     const u64 = value => u32(value % 2 ** 32, Math.floor(value / 2 ** 32));
     const file = length + data + data % 2, isLong = file >= 0xFFFFFFFF;
     word(isLong ? 'RF64' : 'RIFF'), u32(isLong ? 0xFFFFFFFF : file - 8), word('WAVE');
-    if (isLong) word('ds64'), u32(24), u64(file - 8), u64(data), u64(frames);
+    if (isLong) word('ds64'), u32(28), u64(file - 8), u64(data), u64(frames), u32(0);
     else word('JUNK'), u32(24), at += 24;
     word('fmt '), u32(40), u16(0xFFFE, log.channels), u32(rate, rate * block), u16(block, 8 * width, 22, 8 * width);
     u32(SPEAKERS[log.channels] ?? 0, width === 8 ? 3 : 1, 0x00100000, 0xAA000080, 0x719B3800);
-    word('fact'), u32(4, isLong ? 0xFFFFFFFF : frames);
+    if (isLong) word('PAD '), u32(0);
+    else word('fact'), u32(4, frames);
     if (peak) {
         word('PEAK'), u32(peak - 8, 1, 0);
         for (const {value, time} of peaks) head.setFloat32(at, value, true), at += 4, u32(time);

@@ -56,6 +56,12 @@ class Columns {
                     this.join(at, 2 * column + 1 < this.count ? 2 * column * this.channels + channel : -1);
     }
 
+    // Lets go of the columns past a sample time.
+    trim(past) {
+        this.count = Math.ceil(past / this.unit);
+        for (const name of ['low', 'high', 'seen']) this[name] = this[name].slice(0, this.count * this.channels);
+    }
+
     join(at, a) {
         const b = a + this.channels, isThere = a >= 0;
         this.low[at] = isThere ? Math.min(this.low[a], this.low[b]) : HIGHEST;
@@ -220,7 +226,8 @@ class Scan {
         this.log = log;
         this.about = {size, refusal: 0, octet, channels, order, bits, entries, overhead, ancillary, sound: 0, missing: 0, gaps: 0,
             refused: 0, refusedBy: {}, refusedLast: 0, yes: -1, rows: [], stretches: [], stretchCount: 0};
-        this.columns = new Columns(log, BINS);
+        const most = Math.ceil(size / RIME.RECORD_OCTETS) * (RIME.MOST_MISSING + 1) * log.times; // sample times that there may be
+        this.columns = new Columns(log, Math.max(1, Math.min(BINS, most)));
         this.status = ancillary ? new Status(log) : null;
         this.stretches = new Stretches(log, stretch => {
             if (this.about.stretchCount++ < MOST_STRETCHES) this.about.stretches.push({...stretch, said: wordsOf(stretch)});
@@ -276,6 +283,7 @@ class Scan {
     end(fault) {
         const {log, about, stretches, columns} = this, status = this.status?.end();
         stretches.end();
+        columns.trim(log.at.time);
         const named = status?.named() ?? {rates: [], lengths: []};
         return Object.assign(about, {fault, records: log.at.record, times: log.at.time, cut: log.size - log.at.place, columns,
             damaged: stretches.damaged, named, rate: named.rates[0]?.rate ?? 0,

@@ -5,7 +5,8 @@ import fs from 'node:fs';
 import path from 'node:path';
 import vm from 'node:vm';
 
-const NAMES = 'Library, Log, scan, anything, sheet, list, salvage, labelTrack, statusLines, wav, seconds, picture, sound';
+const NAMES = 'Library, Log, scan, anything, sheet, list, salvage, labelTrack, statusLines, wav, wavHead, seconds, picture,'
+    + 'sound';
 const RATE = 44100, ASSUMED = 48000; // as desk.py asks every third log
 const [reader, folder] = process.argv.slice(2);
 const room = vm.runInThisContext(`${fs.readFileSync(reader)}\n;({${NAMES}})`), library = new room.Library();
@@ -93,6 +94,11 @@ const differ = (what, got, want) => {
 differ('anything', answers.join(''), fs.readFileSync(path.join(desk, 'anything')));
 differ('list', lists.map(String).join(''), fs.readFileSync(path.join(desk, 'list')));
 differ('sheet', room.sheet(scanned), fs.readFileSync(path.join(desk, 'sheet')));
+// As the desk tool wrote it of 1,432,013,592 samples in one channel of 56 hex.
+const RF64 = '52463634ffffffff57415645647336341c000000b061100001000000486110000100000018cb5a550000000000000000666d742028000000'
+    + 'feff010080bb0000803202000300180016001800040000000100000000001000800000aa00389b71504144200000000064617461ffffffff';
+const mono = new room.Log(library, source(Buffer.from([0x56, 1, 0])));
+same('the head of RF64', Buffer.from(room.wavHead(mono, 1432013592, 48000, [])).toString('hex'), RF64);
 same('a tie of printf', room.seconds(375, 48000), '0.007812');
 console.log(`page: ${names.length} logs through the reader, ${compared} comparisons with the desk tool, ${wrong} differences`);
 process.exit(wrong > 0 || names.length < 100 ? 1 : 0);
