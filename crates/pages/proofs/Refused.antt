@@ -17,7 +17,7 @@ use Rattle.status.specs.Step.{isRefused}
 use Rattle.status.specs.declared.run.Ran.{Ran}
 use Rattle.hearing.specs.declared.judging.Judged.{Judged}
 use Rattle.reading.specs.Heard.{Heard}
-use Rattle.hearing.specs.Receiving.{callRefusal, samplesOf, ancillaryOf, marksOf}
+use Rattle.hearing.specs.Receiving.{callRefusal, samplesOf, ancillaryOf, marksOf, columnGiven}
 use Rattle.sender.specs.Many.{batchRefusal}
 use Rattle.log.specs.Numbers.{numberAt}
 use Rattle.log.specs.Records.{headerRefusal, secondNumber, thirdNumber, headerOf, recordAt}
@@ -231,8 +231,8 @@ receives-log {state} {log} {place} {samples} {ancillary} {marks} p =
       then-nothing =
           λ some.
           let refused : callRefusal st (length samples) (length ancillary) (length marks) ≡ 0 → ⊥ = λ none. some (by ∙ none) in
-          let nothing = λ (column : List Heard → List ℕ).
-          none-received st log place (length samples) (length ancillary) (length marks) column refused in (
+          let nothing : (column : List Heard → List ℕ) → columnGiven column st log place (length samples) (length ancillary) (length marks) ≡ []
+          = λ column. none-received st log place (length samples) (length ancillary) (length marks) column refused in (
             stays _ _ (λ none. some (p .refused ∙ none)) (p .leaves),
             p .receives .samples-after ∙ ap (λ (given : List ℕ). over given samples) (nothing samplesOf),
             p .receives .ancillary-after ∙ ap (λ (given : List ℕ). over given ancillary) (nothing ancillaryOf),
