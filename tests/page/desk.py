@@ -23,7 +23,7 @@ RATE = 44100  # that every third log is asked by
 def of_vectors():
     """Each log of the vectors once."""
     found = {}
-    for kind in ('read_header', 'linelist', 'anything', 'salvage', 'sheet'):
+    for kind in ('slips', 'read_header', 'linelist', 'anything', 'salvage', 'sheet'):
         for line in (TESTS / 'vectors' / f'{kind}.txt').read_text(encoding='ascii').splitlines():
             fields = line.split(' => ')[0].split(' ')
             octets = bytes.fromhex(fields[1].strip('-'))
@@ -96,8 +96,8 @@ def main(tool, out, each='1', spoiled='200'):
         base, rate = str(desk / name), ['--rate', str(RATE)] if at % 3 == 0 else []
         said = run('salvage', name, f'{base}.salvaged').stderr.decode()
         pathlib.Path(f'{base}.lines').write_text(''.join(line for line in said.splitlines(True) if line[:11] != 'rimesatchel'))
-        run('labels', '-q', '--no-slips', *rate, name, to=pathlib.Path(f'{base}.status'))
-        run('receive', '-q', '--no-slips', *rate, name, f'{base}.wav', '--labels', f'{base}.labels')
+        run('labels', '-q', *rate, name, to=pathlib.Path(f'{base}.status'))
+        run('receive', '-q', *rate, name, f'{base}.wav', '--labels', f'{base}.labels')
     print(f'page: {len(names)} logs through the desk tool')
 
 

@@ -75,6 +75,15 @@ function wide(name, columns, heard, from, count) {
     same(`${name}: a picture of several samples a column`, got.join(), low.join());
 }
 
+// The lines of the list that are shown: all that aren't `sound 0`, the first thousand, and what ends it.
+function shown(name, about, text) {
+    if (about.refusal) return;
+    const lines = text.toString().split('\n').slice(0, -1).filter(line => !/^\d+ sound 0 /.test(line)), {first, rows, last} = about;
+    const few = [...lines.slice(0, 1 + rows.length), ...lines.slice(-last.length)];
+    if (rows.length < 1000) same(`${name}: how many lines are shown`, String(1 + rows.length + last.length), String(lines.length));
+    same(`${name}: the lines that are shown`, [...first, ...rows, ...last].join('\n'), few.join('\n'));
+}
+
 // As `list` and `anything` print several logs: a list begins with its log's name, and an answer stands behind it.
 const names = fs.readFileSync(path.join(desk, 'anything'), 'utf8').trim().split('\n').map(line => line.split(': ')[0]);
 const scanned = [], lists = [], answers = [];
@@ -82,7 +91,9 @@ for (const [at, name] of names.entries()) {
     const octets = fs.readFileSync(path.join(logs, name)), log = new room.Log(library, source(octets)), about = room.scan(log);
     scanned.push({name, about});
     answers.push(`${name}: ${room.anything(about)}\n`);
-    lists.push(`${name}:\n`, gathered(put => room.list(log, put)));
+    const text = gathered(put => room.list(log, put));
+    lists.push(`${name}:\n`, text);
+    shown(name, about, text);
     one(name, octets, log, about, at % 3 === 0 ? RATE : 0);
     if (!log.refusal && about.times > 0) near(name, log, about);
 }
