@@ -6,6 +6,9 @@
 // that run a browser today.
 'use strict';
 
+// Taken out of RIME once: it has so many names that each look costs, and these are looked at for each record.
+const {RECORD_OCTETS, RECORD_WHAT, RECORD_IS_END, RECORD_START, RECORD_INDICATION, RECORD_NEXT, REPORT_MISSING} = RIME;
+const {SLIPPED_WHAT, SLIP_PERHAPS} = RIME;
 const PIECE_RECORDS = 16384;
 const ONE = (RIME.MOST_MISSING + 1) * RIME.MOST_SLOTS; // the most entries that one record hands out
 const ROOM = 64 * ONE;
@@ -199,31 +202,31 @@ class Log {
         }
     }
 
-    // Records one by one, each one's entries behind the last one's, until the next might not fit. So would rime_receive_log take
-    // them, and that is slower here (docs/DECISIONS.md).
+    // Records one by one, each one's entries behind the last one's, until the next might not fit. rime_receive_log would take them
+    // at once, but tells nothing of single cells (docs/DECISIONS.md).
     receive(length, place) {
-        const {library, overhead} = this, {calls, found, report, slip} = library;
-        const one = (RIME.MOST_MISSING + 1) * this.entries, room = BigInt(one), most = one + MOST_SLIPPED * this.entries;
-        const octets = BigInt(length), piece = library.lend('piece', 0, length), cell = BigInt(RIME.CELL_OCTETS);
+        const {library, overhead, entries} = this, {found, report, slip} = library, {rime_log_record, rime_receive, rime_slip} = library.calls;
+        const one = (RIME.MOST_MISSING + 1) * entries, room = BigInt(one), most = one + MOST_SLIPPED * entries;
+        const piece = library.lend('piece', 0, length), cell = BigInt(RIME.CELL_OCTETS), record = BigInt(RECORD_OCTETS);
         const [seen, state, reported, watch, told] = ['found', 'state', 'report', 'watch', 'slip'].map(name => library.all(name));
         const [samples, ancillary, marks] = ['samples', 'ancillary', 'marks'].map(name => library.lend(name, 0, ROOM));
-        let given = 0, cells = 0, stop = 0;
+        let given = 0, cells = 0;
         for (; given + most <= ROOM; cells++) {
-            stop = calls.rime_log_record(piece, octets, BigInt(place), seen) & 0xFF;
-            if (stop || found[2 * RIME.RECORD_WHAT] === RIME.RECORD_IS_END) return {given, cells, next: place, stop};
-            const refusal = calls.rime_receive(state, piece + found[2 * RIME.RECORD_START], cell,
-                found[2 * RIME.RECORD_INDICATION], samples + 8 * given, room, ancillary + given, room, marks + given, room,
-                reported) & 0xFF;
-            place = found[2 * RIME.RECORD_NEXT];
-            this.refusedLast = refusal ? this.refusedLast + 1 : 0;
-            if (refusal) continue;
-            const own = (report[RIME.REPORT_MISSING] + 1) * this.entries;
-            if (own > this.entries) this.gaps++;
-            if (overhead) {
-                calls.rime_slip(watch, reported, told);
-                this.perhaps = 0;
-                if (slip[RIME.SLIPPED_WHAT] === RIME.SLIP_PERHAPS) given += this.putSilence(given, own, length, place);
+            const left = length - place;
+            const stop = rime_log_record(piece + place, left < RECORD_OCTETS ? BigInt(left) : record, 0n, seen) & 0xFF;
+            if (stop || found[2 * RECORD_WHAT] === RECORD_IS_END) return {given, cells, next: place, stop};
+            const refusal = rime_receive(state, piece + place + found[2 * RECORD_START], cell, found[2 * RECORD_INDICATION],
+                samples + 8 * given, room, ancillary + given, room, marks + given, room, reported) & 0xFF;
+            place += found[2 * RECORD_NEXT];
+            if (refusal) {
+                this.refusedLast++;
+                continue;
             }
+            const own = (report[REPORT_MISSING] + 1) * entries;
+            if (own > entries) this.gaps++;
+            if (this.refusedLast > 0 || this.perhaps > 0) this.refusedLast = this.perhaps = 0;
+            if (overhead) rime_slip(watch, reported, told);
+            if (overhead && slip[SLIPPED_WHAT] === SLIP_PERHAPS) given += this.putSilence(given, own, length, place);
             given += own;
         }
         return {given, cells, next: place, stop: RIME.REFUSED_ROOM};

@@ -33,21 +33,31 @@ class Columns {
 
     // Sample times in a row of one channel in one column.
     span(log, entry, times, at) {
-        const {marks, samples} = log.library, {channels} = this, {isSound} = log, up = 32 - log.bits;
-        let low = this.low[at], high = this.high[at], seen = this.seen[at] | (isSound ? CAME : 0);
-        for (const past = entry + times * channels; entry < past; entry += channels) {
-            if (!isSound) {
-                const mark = marks[entry];
-                seen |= mark === MARK_SOUND ? CAME : mark === MARK_DOUBTFUL ? CAME | DAMAGED : MISSING;
-                if (mark === MARK_MISSING) continue;
-            }
-            const value = up >= 0 ? samples[2 * entry] << up : log.top(entry);
+        const past = entry + times * this.channels;
+        if (log.isSound && log.bits <= 32) return this.plain(log, entry, past, at);
+        const {marks} = log.library;
+        for (; entry < past; entry += this.channels) {
+            const mark = marks[entry];
+            this.seen[at] |= mark === MARK_SOUND ? CAME : mark === MARK_DOUBTFUL ? CAME | DAMAGED : MISSING;
+            if (mark === MARK_MISSING) continue;
+            const value = log.top(entry);
+            if (value < this.low[at]) this.low[at] = value;
+            if (value > this.high[at]) this.high[at] = value;
+        }
+    }
+
+    // The same where all are sound and of at most 32 bits: the usual case, and the quick one.
+    plain(log, entry, past, at) {
+        const {samples} = log.library, up = 32 - log.bits, step = 2 * this.channels;
+        let low = this.low[at], high = this.high[at];
+        for (let from = 2 * entry; from < 2 * past; from += step) {
+            const value = samples[from] << up;
             if (value < low) low = value;
             if (value > high) high = value;
         }
         this.low[at] = low;
         this.high[at] = high;
-        this.seen[at] = seen;
+        this.seen[at] |= CAME;
     }
 
     // Makes room up to a sample time: two columns become one, as often as it takes.
