@@ -46,14 +46,20 @@ function one(name, octets, log, about, asked) {
     same(`${name}: the label track`, gathered(put => room.labelTrack(log, rate, put)), made('labels'));
     const wav = gathered(put => room.wav(log, rate, put));
     same(`${name}: the sound`, withoutPeakTimes(log, wav), withoutPeakTimes(log, made('wav')));
+    const {sound, missing, gaps, slipped, slips, perhaps, refused, refusedLast} = about;
+    const cells = {sound, missing, gaps, slipped, slips, waits: perhaps > 0, refused, refused_last: refusedLast};
+    same(`${name}: the counts of cells`, JSON.stringify(cells), JSON.stringify(JSON.parse(made('json')).cells));
+    same(`${name}: damaged samples`, String(about.damaged), String(JSON.parse(made('json')).samples_damaged));
     const status = room.statusLines(about, {asked, rate, isAssumed: !asked && !about.rate});
     same(`${name}: channel status`, status.map(line => `${line}\n`).join(''), made('status'));
 }
 
-// A near picture and a second of sound, from any point, are what the whole walk gives.
-function near(name, log, about) {
-    const from = Math.floor(about.times * 0.7), count = Math.min(about.times - from, 300);
+// A near picture and a second of sound, from any point, are what a walk from the start gives.
+function near(name, log, about, part) {
+    const from = Math.floor(about.times * part), count = Math.min(about.times - from, 300);
     const columns = room.picture(log, from, from + count, count), heard = room.sound(log, from, count);
+    const whole = room.sound(new room.Log(library, log.source), from, count);
+    same(`${name}: the sound from ${from} on`, heard.join(), whole.join());
     for (let time = 0; time < count; time++)
         for (let channel = 0; channel < log.channels; channel++) {
             const at = time * log.channels + channel, value = columns.seen[at] & 1 ? columns.low[at] : 0;
@@ -95,7 +101,7 @@ for (const [at, name] of names.entries()) {
     lists.push(`${name}:\n`, text);
     shown(name, about, text);
     one(name, octets, log, about, at % 3 === 0 ? RATE : 0);
-    if (!log.refusal && about.times > 0) near(name, log, about);
+    for (const part of log.refusal || about.times === 0 ? [] : [0.7, 0.99]) near(name, log, about, part);
 }
 const linesOf = text => text.toString().split('\n');
 const differ = (what, got, want) => {
