@@ -12,7 +12,7 @@ function seconds(time, rate) {
 
 // ---- The list, and the salvaged log ----
 
-// What the calls wrote of the list, once it is asked of a piece's octets, or of the end where that is said.
+// The octets of `text` that are the list of a piece, and those that end the list.
 function listed(library, length) {
     library.take('list', length, ...library.run('text'), library.lend('written', 0, 1));
     return numberAt(library.written, 0);

@@ -11,8 +11,9 @@ const {RECORD_OCTETS, RECORD_WHAT, RECORD_IS_END, RECORD_START, RECORD_INDICATIO
 const {SLIPPED_WHAT, SLIP_PERHAPS} = RIME;
 const PIECE_RECORDS = 16384;
 const ONE = (RIME.MOST_MISSING + 1) * RIME.MOST_SLOTS; // the most entries that one record hands out
-const ROOM = 64 * ONE;
-const AHEAD = 16; // records that are judged at a time to learn what becomes of a cell that waits
+const ROOM = 20 * ONE; // entries: few enough that what was written is still near when it is read
+const AHEAD = 1024; // records that are read past the piece to learn what becomes of a cell that waits
+const JUDGED = 16; // records that are judged at a time for it
 const MOST_SLIPPED = 255; // cells that one answer of rime_slip can tell of: an octet has them
 
 // The runs that are lent to the calls, each with its entries and their octets.
@@ -44,7 +45,7 @@ const RUNS = {
     samples: [ROOM, 8],
     ancillary: [ROOM, 1],
     marks: [ROOM, 1],
-    reports: [AHEAD * RIME.JUDGEMENT, 1],
+    reports: [JUDGED * RIME.JUDGEMENT, 1],
     ahead: [AHEAD * RIME.RECORD_OCTETS, 1],
     piece: [PIECE_RECORDS * RIME.RECORD_OCTETS, 1],
     made: [RIME.OUT_ROOM + RIME.OUT_RECORD * (PIECE_RECORDS + 1), 1],
@@ -61,7 +62,8 @@ function putNumber(run, at, value) {
     run[2 * at + 1] = Math.floor(value / 2 ** 32);
 }
 
-function areSound(marks, given) { // four at a time: nearly always they are
+// Whether all marks are sound, four at a time. Nearly always they are.
+function areSound(marks, given) {
     const fours = new Uint32Array(marks.buffer, marks.byteOffset, given >> 2);
     let any = RIME.MARK_SOUND;
     for (let at = 0; at < fours.length; at++) any |= fours[at];
@@ -163,9 +165,10 @@ class Log {
     }
 
     // Walks from a point on, piece after piece, up to the end or the first framing fault, and returns that fault's refusal, or 0.
-    // Of each piece `take.piece(length)` sees the octets, where it is there, and `take.handed(given)` the entries, some at a time,
-    // with the sample time of the first in this.at.time; this.isSound says that all their marks are sound. A true answer of
-    // `handed` ends the walk.
+    // Of each piece `take.piece(length)` sees the octets, where there is such a function, and `take.handed(given)` the entries,
+    // some at a time: this.at.time is the first one's sample time, and this.isSound says that all marks are sound. A true answer
+    // of `handed` ends the walk. Counted are places before which cells are missing, refused records behind the last sound cell,
+    // cells that second numbers alone tell of, their places, and what they perhaps tell of the last cell.
     walk(take, start = this.points[0]) {
         const {state, watch, piece} = this.library, at = this.at = {...start};
         Object.assign(this, {gaps: 0, refusedLast: 0, slipped: 0, slips: 0, perhaps: 0});
@@ -202,11 +205,12 @@ class Log {
         }
     }
 
-    // Records one by one, each one's entries behind the last one's, until the next might not fit. rime_receive_log would take them
-    // at once, but tells nothing of single cells (docs/DECISIONS.md).
+    // Records one by one, each one's entries behind the last one's, until the next might not fit. rime_receive_log takes many at
+    // once, and tells nothing of a single cell: docs/DECISIONS.md.
     receive(length, place) {
-        const {library, overhead, entries} = this, {found, report, slip} = library, {rime_log_record, rime_receive, rime_slip} = library.calls;
-        const one = (RIME.MOST_MISSING + 1) * entries, room = BigInt(one), most = one + MOST_SLIPPED * entries;
+        const {library, overhead, entries} = this, {found, report, slip} = library;
+        const {rime_log_record, rime_receive, rime_slip} = library.calls;
+        const one = (RIME.MOST_MISSING + 1) * entries, room = BigInt(one), most = one + (overhead ? MOST_SLIPPED * entries : 0);
         const piece = library.lend('piece', 0, length), cell = BigInt(RIME.CELL_OCTETS), record = BigInt(RECORD_OCTETS);
         const [seen, state, reported, watch, told] = ['found', 'state', 'report', 'watch', 'slip'].map(name => library.all(name));
         const [samples, ancillary, marks] = ['samples', 'ancillary', 'marks'].map(name => library.lend(name, 0, ROOM));

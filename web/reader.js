@@ -223,8 +223,8 @@ function statusLines({status, channels}, rate) {
 
 // ---- The lines of the list that aren't `sound 0` ----
 
-// The list's calls are asked of the pieces that have such lines, and of the last. Where others were passed over, the state is put
-// forward to what it would be there: places that the header names, by numbers that the figures and the receiver have.
+// The list's calls are asked of the pieces that have such lines, and of the last. What would have been taken before is put into
+// their state by its names: the receiver's state, and what the figures count.
 class Rows {
     constructor(log) {
         const {library} = log, {list} = library;
@@ -265,13 +265,13 @@ class Rows {
 }
 
 // ---- The first walk ----
-const REFUSALS_COUNTED = {8: RIME.SHEET_REFUSED_8, 9: RIME.SHEET_REFUSED_9, 15: RIME.SHEET_REFUSED_15, 20: RIME.SHEET_REFUSED_20};
+const REFUSED = {8: RIME.SHEET_REFUSED_8, 9: RIME.SHEET_REFUSED_9, 15: RIME.SHEET_REFUSED_15, 20: RIME.SHEET_REFUSED_20};
 
 class Scan {
     constructor(log) {
-        const {size, octet, channels, order, bits, entries, overhead, ancillary, library} = log;
+        const {size, octet, channels, order, bits, overhead, ancillary, library} = log;
         this.log = log;
-        this.about = {size, refusal: 0, octet, channels, order, bits, entries, overhead, ancillary, stretches: [], stretchCount: 0};
+        this.about = {size, refusal: 0, octet, channels, order, bits, overhead, ancillary, stretches: [], stretchCount: 0};
         const most = Math.ceil(size / RIME.RECORD_OCTETS) * (RIME.MOST_MISSING + 1 + MOST_SLIPPED) * log.times; // sample times
         this.columns = new Columns(log, Math.max(1, Math.min(BINS, most)));
         this.status = ancillary ? new Status(log) : null;
@@ -297,9 +297,10 @@ class Scan {
 
     counted() {
         const of = place => numberAt(this.log.library.figures, RIME.FIGURES_COUNTS + place), by = {};
-        for (const [refusal, place] of Object.entries(REFUSALS_COUNTED)) if (of(place)) by[refusal] = of(place);
+        for (const [refusal, place] of Object.entries(REFUSED)) if (of(place)) by[refusal] = of(place);
         const refused = Object.values(by).reduce((sum, count) => sum + count, 0);
-        return {sound: of(RIME.SHEET_SOUND), missing: of(RIME.SHEET_MISSING), refused, refusedBy: by, damaged: of(RIME.SHEET_MARKED_1)};
+        const [sound, missing, damaged] = [RIME.SHEET_SOUND, RIME.SHEET_MISSING, RIME.SHEET_MARKED_1].map(of);
+        return {sound, missing, damaged, refused, refusedBy: by};
     }
 
     piece(length) {
@@ -317,17 +318,20 @@ class Scan {
     }
 
     end(fault) {
-        const {log, about, stretches, columns, rows} = this, status = this.status?.end(), {library} = log, {row, answer} = library;
-        stretches.end();
+        const {log, columns, rows: {first, lines, last}} = this, status = this.status?.end();
+        const {library} = log, {row, answer} = library;
+        this.stretches.end();
         columns.trim(log.at.time);
-        if (log.size === log.place) rows.take(0, this.counted(), false); // there was no piece
+        if (log.size === log.place) this.rows.take(0, this.counted(), false); // there was no piece
         library.ask('rime_anything_end', library.all('anything'), library.all('anythingHeld'), library.all('answer'));
         const rowRefusal = library.ask('rime_figures_end', library.all('figures'), library.all('row'));
         const named = status?.named() ?? {rates: [], lengths: []}, {gaps, refusedLast, slipped, slips, perhaps} = log;
-        return Object.assign(about, this.counted(), {fault, records: log.at.record, times: log.at.time,
-            cut: log.size - log.at.place, columns, isFound: numberAt(answer, 0) === 1, number: numberAt(answer, 1),
-            row: [...row], rowRefusal, first: rows.first, rows: rows.lines, last: rows.last, gaps, refusedLast, slipped, slips, perhaps, named, rate: named.rates[0]?.rate ?? 0,
-            status: status && {lines: status.lines, count: status.count}});
+        return Object.assign(this.about, this.counted(), {
+            isFound: numberAt(answer, 0) === 1, number: numberAt(answer, 1), row: [...row], rowRefusal,
+            fault, records: log.at.record, times: log.at.time, cut: log.size - log.at.place,
+            gaps, refusedLast, slipped, slips, perhaps, columns, first, rows: lines, last,
+            named, rate: named.rates[0]?.rate ?? 0, status: status && {lines: status.lines, count: status.count},
+        });
     }
 }
 

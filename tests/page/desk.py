@@ -44,7 +44,7 @@ def turning(chance, given, count):
 
 
 def slipping(chance, given, borders):
-    """Cells that are lost by sixteens, before the last or the first record of one of the page's pieces: what second numbers tell is
+    """Cells are lost by sixteens before the last or the first record of a piece of the page's: what second numbers tell is
     decided in the next piece, once behind forty records that are refused; of the very last record nothing decides."""
     state, row, cycle = Sender(given, 0, True, 0), [], []
     for _ in range(128):  # then numbers and second numbers begin anew

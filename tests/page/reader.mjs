@@ -20,6 +20,8 @@ function same(what, got, want) {
     if (wrong++ < 5) console.log(`${what}:\n  the reader    ${mine}\n  the desk tool ${its}`);
 }
 
+const linesOf = text => text.toString().split('\n');
+
 function source(octets) {
     return {size: octets.length, read: (from, past) => new Uint8Array(octets.subarray(from, past))};
 }
@@ -84,9 +86,9 @@ function wide(name, columns, heard, from, count) {
 // The lines of the list that are shown: all that aren't `sound 0`, the first thousand, and what ends it.
 function shown(name, about, text) {
     if (about.refusal) return;
-    const lines = text.toString().split('\n').slice(0, -1).filter(line => !/^\d+ sound 0 /.test(line)), {first, rows, last} = about;
-    const few = [...lines.slice(0, 1 + rows.length), ...lines.slice(-last.length)];
-    if (rows.length < 1000) same(`${name}: how many lines are shown`, String(1 + rows.length + last.length), String(lines.length));
+    const lines = linesOf(text).slice(0, -1).filter(line => !/^\d+ sound 0 /.test(line)), {first, rows, last} = about;
+    const few = [...lines.slice(0, 1 + rows.length), ...lines.slice(-last.length)], count = 1 + rows.length + last.length;
+    if (rows.length < 1000) same(`${name}: how many lines are shown`, String(count), String(lines.length));
     same(`${name}: the lines that are shown`, [...first, ...rows, ...last].join('\n'), few.join('\n'));
 }
 
@@ -103,7 +105,6 @@ for (const [at, name] of names.entries()) {
     one(name, octets, log, about, at % 3 === 0 ? RATE : 0);
     for (const part of log.refusal || about.times === 0 ? [] : [0.7, 0.99]) near(name, log, about, part);
 }
-const linesOf = text => text.toString().split('\n');
 const differ = (what, got, want) => {
     const mine = linesOf(got), its = linesOf(want), at = mine.findIndex((line, index) => line !== its[index]);
     same(`${what}, line ${at}`, `${mine.length} ${mine[at]}`, `${its.length} ${its[at]}`);

@@ -13,6 +13,10 @@ trap 'rm -rf "$dir"' EXIT
 node tests/page/vectors.mjs "$page/library.wasm" tests/vectors
 python3 tests/page/desk.py "$desk" "$dir/room" "$1" "$2"
 node tests/page/reader.mjs "$page/reader.js" "$dir/room"
+# the same in pieces of three records: so nearly everything stands at a border
+sed 's/^const PIECE_RECORDS = 16384;$/const PIECE_RECORDS = 3;/' "$page/reader.js" > "$dir/small.js"
+if cmp -s "$page/reader.js" "$dir/small.js"; then echo "page: the pieces weren't made small" >&2; exit 1; fi
+node tests/page/reader.mjs "$dir/small.js" "$dir/room"
 
 # planted WHAT FROM TO: a reader with FROM turned into TO is noticed
 planted() {
