@@ -123,16 +123,16 @@ function wavHead(log, frames, rate, peaks) {
 
 // The samples that were handed out, as the file has them.
 function soundOf(log, given) {
-    const width = widthOf(log.bits), part = new Uint8Array(given * width);
+    const width = widthOf(log.bits), part = new Uint8Array(given * width), {samples} = log.library;
     if (width === 8) {
-        const {samples} = log.library, real = new Float64Array(part.buffer);
+        const real = new Float64Array(part.buffer);
         for (let entry = 0; entry < given; entry++)
             real[entry] = ((samples[2 * entry + 1] << 24 >> 24) * 2 ** 32 + samples[2 * entry]) / 2 ** 39;
         return part;
     }
-    const down = 32 - 8 * width;
+    const up = 32 - log.bits, down = 32 - 8 * width;
     for (let entry = 0, at = 0; entry < given; entry++) {
-        let value = log.top(entry) >> down;
+        let value = samples[2 * entry] << up >> down;
         for (let octet = 0; octet < width; octet++, value >>= 8) part[at++] = value;
     }
     return part;

@@ -36,7 +36,7 @@ planted "skips a refused record's gap" 'const own = (report[REPORT_MISSING] + 1)
 planted 'forgets the last stretch' 'log.walk({handed(given) { stretches.take(given); }});
     stretches.end();' 'log.walk({handed(given) { stretches.take(given); }});'
 planted 'rounds ties up' 'if (!isTie) return' 'return'
-planted 'takes marks for samples' 'let value = log.top(entry) >> down;' 'let value = log.library.marks[entry];'
+planted 'takes marks for samples' 'let value = samples[2 * entry] << up >> down;' 'let value = log.library.marks[entry];'
 planted 'puts in nothing for slips' 'if (overhead && slip[SLIPPED_WHAT] === SLIP_PERHAPS)' 'if (false)'
 planted "doesn't look past its piece for what decides" 'said < 0 && from < this.size' 'said < -1 && from < this.size'
 planted 'forgets at a point what second numbers said' 'watch.set(start.watch);' 'watch.fill(0);'

@@ -109,6 +109,22 @@ const logs = {
         ask('rime_log_list', ...both(run), ...both(out), listed.at);
         return [hex(out, 0, Number(one(listed)))];
     },
+    // In pieces of twenty octets, with the octets that may still come put into the state.
+    linelist_limit([log, limit]) {
+        const state = empty(8, 15), held = empty(1, 49), piece = empty(1, 20), text = empty(1, 216 + 76), written = empty(8, 1);
+        const all = octets(log), said = [], take = () => { if (one(written) !== '0') said.push(hex(text, 0, Number(one(written)))); };
+        ask('rime_list_start', state.at, held.at);
+        lender.put(state, 3, u64(limit));
+        for (let from = 0; from < all.length; from += 20) {
+            const some = all.slice(from, from + 20);
+            some.forEach((octet, at) => lender.put(piece, at, BigInt(octet)));
+            ask('rime_list_take', state.at, held.at, piece.at, BigInt(some.length), ...both(text), written.at);
+            take();
+        }
+        ask('rime_list_end', state.at, held.at, ...both(text), written.at);
+        take();
+        return [said.join('') || '-'];
+    },
     anything([log]) {
         const answer = empty(8, 2);
         return [ask('rime_anything', ...both(lent(1, octets(log))), answer.at), ...some(answer, 2)];
@@ -156,9 +172,8 @@ const beside = {
     },
 };
 
-// The list's limit can't be moved in the library; of `slips` the reader is asked (desk.py); the others are calls of
-// rime_management.h.
-const ELSEWHERE = new Set(['linelist_limit', 'slips', 'controller', 'equipment', 'port_packing', 'port_settings']);
+// Of `slips` the reader is asked (desk.py); the others are calls of rime_management.h.
+const ELSEWHERE = new Set(['slips', 'controller', 'equipment', 'port_packing', 'port_settings']);
 const kinds = {...boxes, ...logs, ...beside};
 let cases = 0, wide = 0, wrong = 0;
 
