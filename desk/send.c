@@ -28,8 +28,10 @@ struct send {
     unsigned channels, times, entries;
     uint8_t state[RIME_SENDER_STATE];
     bool status; /* channel status is sent */
-    /* ancillary numbers of a block, channels side by side, and once more as many as a cell has: zeros without status */
-    uint8_t beside[STATUS_BITS * RIME_MOST_SLOTS + RIME_MOST_SLOTS];
+    /* ancillary numbers of block after block, channels side by side, for a buffer of sound that begins anywhere in one: zeros
+       without status */
+    uint8_t beside[(STATUS_BITS + CELLS) * RIME_MOST_SLOTS];
+    uint64_t samples[CELLS * RIME_MOST_SLOTS];
     uint64_t frames, cells, filled;
 
     int *sound;
@@ -86,39 +88,26 @@ static error_t parse(int key, char *word, struct argp_state *state) {
     return 0;
 }
 
-/* The sound of one cell, silence where the file has ended. Returns the refusal. */
-static unsigned pack(struct send *send, const int *sound, size_t given, uint8_t *cell, bool *indication) {
-    uint64_t samples[RIME_MOST_SLOTS] = {0};
+/* The cells of one buffer of sound, into the log; silence fills the last one where the file has ended. A status. */
+static int pack_all(struct send *send, size_t frames) {
+    size_t given = frames * send->channels, cells = (given + send->entries - 1) / send->entries, count = cells * send->entries;
     unsigned bits = send->about.sample_bits;
-    for (size_t at = 0; at < given; at++) {
-        uint32_t top = (uint32_t)sound[at];
-        samples[at] = bits > 32 ? (uint64_t)top << (bits - 32) : top >> (32 - bits);
+    for (size_t at = 0; at < count; at++) {
+        uint32_t top = at < given ? (uint32_t)send->sound[at] : 0;
+        send->samples[at] = bits > 32 ? (uint64_t)top << (bits - 32) : top >> (32 - bits);
     }
     const uint8_t *ancillary = send->beside + send->cells * send->times % STATUS_BITS * send->channels;
-    *indication = send->wanted && send->state[RIME_SENDER_NUMBER] % 8 == 0;
-    return rime_send(send->state, *indication, samples, send->entries, ancillary, send->entries, cell,
-                     RIME_CELL_OCTETS);
-}
-
-/* The cells of one buffer of sound, into the log. A status. */
-static int pack_all(struct send *send, size_t frames) {
-    uint64_t place = 0;
-    size_t given = frames * send->channels;
-    for (size_t at = 0; at < given; at += send->entries) {
-        uint8_t cell[RIME_CELL_OCTETS];
-        bool indication;
-        size_t here = given - at < send->entries ? given - at : send->entries;
-        unsigned refusal = pack(send, send->sound + at, here, cell, &indication);
-        if (refusal == RIME_DONE)
-            refusal = rime_log_put_record(send->log, sizeof send->log, place, cell, sizeof cell, indication, &place);
-        if (refusal != RIME_DONE) {
-            if (send->status && !send->about.ancillary) warnx("this format has no ancillary bits: leave out --status");
-            return say_refused(send->in_name, "sending is", refusal);
-        }
-        send->cells++;
-        send->filled = (send->entries - here) / send->channels;
+    uint64_t counts[RIME_SENT_LOG];
+    unsigned refusal = rime_send_log(send->state, send->wanted, send->samples, count, ancillary, count, send->log,
+                                     sizeof send->log, 0, counts);
+    if (refusal == RIME_DONE) refusal = (unsigned)counts[RIME_SENT_STOP];
+    if (refusal != RIME_DONE) {
+        if (send->status && !send->about.ancillary) warnx("this format has no ancillary bits: leave out --status");
+        return say_refused(send->in_name, "sending is", refusal);
     }
-    return output_write(&send->out, send->log, place) ? STATUS_WELL : STATUS_FILE;
+    send->cells += cells;
+    send->filled = (count - given) / send->channels;
+    return output_write(&send->out, send->log, counts[RIME_SENT_NEXT]) ? STATUS_WELL : STATUS_FILE;
 }
 
 static int open_sender(struct send *send) {
@@ -142,7 +131,7 @@ static int open_sender(struct send *send) {
     if (send->status) {
         uint8_t beside[STATUS_BITS];
         status_beside(beside, rate, bits, send->origin, send->destination);
-        for (size_t at = 0; at < STATUS_BITS * send->channels + send->entries; at++)
+        for (size_t at = 0; at < STATUS_BITS * send->channels + CELLS * send->entries; at++)
             send->beside[at] = beside[at / send->channels % STATUS_BITS];
     }
     if (!status_codes(rate))

@@ -13,7 +13,7 @@ import subprocess
 import sys
 import tempfile
 
-from desk_made import read_wave
+from desk_made import read_wave, wave
 from third_reading import shape_of
 
 FILE_BITS = {8: 16, 12: 16, 16: 16, 20: 24, 24: 24, 28: 32, 32: 32, 40: 64}
@@ -74,7 +74,28 @@ def slip_case(log, told, waiting, marks, samples):
         cells for _, cells in pairs) * (shape_of(log[0]).slots // log[1] * log[1]), '--no-slips'
 
 
+def cut_out():
+    """64 cells cut out of a log: told, the file as long as the one sent, and every sample behind them in its place."""
+    sound = [(at * 2654435761 >> 3) % 2**24 - 2**23 for at in range(2 * 6 * 1000)]
+    wave(PLACE / 'sent.wav', sound, 2, 24, 48000)
+    assert ran('send', PLACE / 'sent.wav', PLACE / 'whole.log', '--blocks', '-q')[0] == 0
+    log = (PLACE / 'whole.log').read_bytes()
+    first, past = 3 + 500 * 49, 3 + 564 * 49
+    (PLACE / 'cut.log').write_bytes(log[:first] + log[past:])
+    status, _, said = ran('receive', PLACE / 'cut.log', PLACE / 'came.wav', '--strict')
+    assert status == 1 and 'cells: 936 sound, 0 missing in 0 places, 64 more in 1 place by second numbers, 0 refused' in said, said
+    assert read_wave(PLACE / 'came.wav')[3] == sound[:6000] + [0] * 768 + sound[6768:]
+    said = ran('verify', PLACE / 'sent.wav', PLACE / 'cut.log')
+    assert said[0] == 1 and 'no: 11232 of 12000 samples agree; 0 different, 768 missing' in said[1], said
+    assert ran('list', PLACE / 'cut.log', '--strict')[0] == 1 and ran('list', PLACE / 'cut.log')[0] == 0
+    assert ran('receive', PLACE / 'whole.log', PLACE / 'came.wav', '--strict', '-F', '-q')[0] == 0
+    assert ran('picture', PLACE / 'cut.log', PLACE / 'cut.png', '-q')[0] == 0
+    blocks = re.findall(r', (\d+) blocks?: ', ran('labels', PLACE / 'cut.log')[1])
+    assert sum(map(int, blocks)) == 2 * (6000 // 192 - 2 - 1), blocks  # those that the silence touches aren't whole
+
+
 def main():
+    cut_out()
     count = told = 0
     for line in (FOLDER / 'slips.txt').read_text(encoding='ascii').splitlines():
         fields = line.split(' ')

@@ -24,8 +24,14 @@ use Rattle.rimesatchel.specs.Boxes.{senderOf, receiverOf, countOf}
 use Rattle.rimesatchel.specs.Watches.{watchOf}
 use Rattle.rimesatchel.proofs.facts.rime_format.Kinds as format-kinds
 use Rattle.rimesatchel.proofs.facts.rime_format.Reads as format-reads
+use Rattle.hearing.specs.Receiving.{callRefusal}
+use Rattle.sender.specs.Many.{batchRefusal}
 use Rattle.rimesatchel.proofs.batches.rime_judge_log.Kinds as judge-log-kinds
 use Rattle.rimesatchel.proofs.batches.rime_judge_log.Reads as judge-log-reads
+use Rattle.rimesatchel.proofs.batches.rime_receive_log.Kinds as receive-log-kinds
+use Rattle.rimesatchel.proofs.batches.rime_receive_log.Reads as receive-log-reads
+use Rattle.rimesatchel.proofs.many.rime_send_log.Kinds as send-log-kinds
+use Rattle.rimesatchel.proofs.many.rime_send_log.Reads as send-log-reads
 use Rattle.rimesatchel.proofs.boxes.rime_sender_open.Kinds as sender-open-kinds
 use Rattle.rimesatchel.proofs.boxes.rime_sender_open.Reads as sender-open-reads
 use Rattle.rimesatchel.proofs.boxes.rime_send.Kinds as send-kinds
@@ -201,6 +207,33 @@ pub judge-log-refuses : Ensured judge-log-kinds.ps judge-log-kinds.r judge-log-r
     let counts = v .1 .1 .1 .1 .0 in
     Refuses x (R.stateRefusal (receiverOf state)) ((state-left ≡ state) × (reports-left ≡ reports) × (counts ≡ replicate 3 0)))
 judge-log-refuses κs a x v p = Refused.judges p
+
+pub receive-log-refuses : Ensured receive-log-kinds.ps receive-log-kinds.r receive-log-reads.Post
+    (λ κs a x v.
+    let state = now (a .0) in
+    let samples = now (a .1 .1 .1 .0) in
+    let ancillary = now (a .1 .1 .1 .1 .0) in
+    let marks = now (a .1 .1 .1 .1 .1 .0) in
+    let state-left = v .0 in
+    let samples-left = v .1 .1 .1 .0 in
+    let ancillary-left = v .1 .1 .1 .1 .0 in
+    let marks-left = v .1 .1 .1 .1 .1 .0 in
+    let counts = v .1 .1 .1 .1 .1 .1 .0 in
+    Refuses x (callRefusal (receiverOf state) (length samples) (length ancillary) (length marks))
+    ((state-left ≡ state) × (samples-left ≡ samples) × (ancillary-left ≡ ancillary) × (marks-left ≡ marks) × (counts ≡ replicate 9 0)))
+receive-log-refuses κs a x v p = Refused.receives-log p
+
+pub send-log-refuses : Ensured send-log-kinds.ps send-log-kinds.r send-log-reads.Post
+    (λ κs a x v.
+    let state = now (a .0) in
+    let samples = now (a .1 .1 .0) in
+    let ancillary = now (a .1 .1 .1 .0) in
+    let log = now (a .1 .1 .1 .1 .0) in
+    let state-left = v .0 in
+    let log-left = v .1 .1 .1 .1 .0 in
+    let counts = v .1 .1 .1 .1 .1 .1 .0 in
+    Refuses x (batchRefusal (senderOf state) samples ancillary) ((state-left ≡ state) × (log-left ≡ log) × (counts ≡ replicate 4 0)))
+send-log-refuses κs a x v p = Refused.sends-log p
 
 pub put-header-refuses : Ensured put-header-kinds.ps put-header-kinds.r put-header-reads.Post
     (λ κs a x v.

@@ -1,4 +1,4 @@
--- Where `rime_status_run` and `rime_judge_log` refuse, and what they answer then: laws over the definitions.
+-- Where `rime_status_run` and the calls over many records refuse, and what they answer then: laws over the definitions.
 -- Assumes nothing.
 use mathlib.Core.Bool.{Bool, true, false, cond, not, _||_}
 use mathlib.Core.List.{List, []}
@@ -18,6 +18,10 @@ use Rattle.status.specs.declared.step.Block.{Block}
 use Rattle.status.specs.declared.step.Stepped.{Stepped}
 use Rattle.status.proofs.Refused.{step-refusal}
 use Rattle.hearing.specs.Judging.{judgedOver, judgedNot, reportsGiven}
+use Rattle.hearing.specs.Receiving.{callRefusal, begunAs, receivedOver, columnGiven}
+use Rattle.reading.specs.Heard.{Heard}
+use Rattle.sender.specs.declared.Sender.{Sender}
+use Rattle.sender.specs.Many.{batchRefusal, batchNot, batchOver, logAfter}
 use Rattle.rimesatchel.specs.Statuses.{blockOf}
 use Rattle.pages.specs.Papers.{refusedFrom, runRefusal}
 
@@ -87,3 +91,28 @@ module _ (st : Receiver) (log : List ℕ) (place room : ℕ) where
 
   pub none-reported : (R.stateRefusal st ≡ 0 → ⊥) → reportsGiven st log place room ≡ []
   none-reported some = rw (ne-eqb (R.stateRefusal st) 0 some)
+
+module _ (st : Receiver) (log : List ℕ) (place samples ancillary marks : ℕ) where
+  pub receive-log-refusal : receivedOver st log place samples ancillary marks .refusal ≡ callRefusal st samples ancillary marks
+  receive-log-refusal = split (eqb (callRefusal st samples ancillary marks) 0) (λ e. rw e (sym (eqb-true _ 0 e))) (λ e. rw e)
+
+  -- refused, nothing is received and nothing is counted
+  pub receive-log-refused : (callRefusal st samples ancillary marks ≡ 0 → ⊥)
+      → receivedOver st log place samples ancillary marks ≡ begunAs (callRefusal st samples ancillary marks) st 0
+  receive-log-refused some = rw (ne-eqb (callRefusal st samples ancillary marks) 0 some)
+
+  pub none-received : (column : List Heard → List ℕ) → (callRefusal st samples ancillary marks ≡ 0 → ⊥)
+      → columnGiven column st log place samples ancillary marks ≡ []
+  none-received column some = rw (ne-eqb (callRefusal st samples ancillary marks) 0 some)
+
+module _ (indications : Bool) (st : Sender) (samples ancillary log : List ℕ) (place : ℕ) where
+  pub send-log-refusal : batchOver indications st samples ancillary log place .refusal ≡ batchRefusal st samples ancillary
+  send-log-refusal = split (eqb (batchRefusal st samples ancillary) 0) (λ e. rw e (sym (eqb-true _ 0 e))) (λ e. rw e)
+
+  -- refused, nothing is sent and nothing is counted
+  pub send-log-refused : (batchRefusal st samples ancillary ≡ 0 → ⊥)
+      → batchOver indications st samples ancillary log place ≡ batchNot (batchRefusal st samples ancillary) st
+  send-log-refused some = rw (ne-eqb (batchRefusal st samples ancillary) 0 some)
+
+  pub none-sent : (batchRefusal st samples ancillary ≡ 0 → ⊥) → logAfter indications st samples ancillary log place ≡ log
+  none-sent some = rw (ne-eqb (batchRefusal st samples ancillary) 0 some)

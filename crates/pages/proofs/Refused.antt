@@ -16,6 +16,9 @@ use Rattle.receiver.specs.Receiver as R
 use Rattle.status.specs.Step.{isRefused}
 use Rattle.status.specs.declared.run.Ran.{Ran}
 use Rattle.hearing.specs.declared.judging.Judged.{Judged}
+use Rattle.reading.specs.Heard.{Heard}
+use Rattle.hearing.specs.Receiving.{callRefusal, samplesOf, ancillaryOf, marksOf, columnGiven}
+use Rattle.sender.specs.Many.{batchRefusal}
 use Rattle.log.specs.Numbers.{numberAt}
 use Rattle.log.specs.Records.{headerRefusal, secondNumber, thirdNumber, headerOf, recordAt}
 use Rattle.log.specs.Written.{Keeps}
@@ -27,7 +30,8 @@ use Rattle.units.specs.Units as U
 use Rattle.circuits.specs.Circuits.{octetRefusal, checkRefusal, planRefusalOf, Plans}
 use Rattle.slips.specs.Watch.{stepRefusal}
 use Rattle.slips.proofs.Demand1 as slips
-use Rattle.rimesatchel.specs.Batches.{judgedNumbers, JudgedOctets}
+use Rattle.rimesatchel.specs.Batches.{judgedNumbers, JudgedOctets, batchNumbers, ReceivedLogOctets}
+use Rattle.rimesatchel.specs.Many as Many
 use Rattle.rimesatchel.specs.Boxes.{
   yesNo,
   senderOf,
@@ -62,7 +66,19 @@ use Rattle.line.specs.Demands.{Refuses, recordTable}
 use Rattle.line.proofs.Demands as line
 use Rattle.line.proofs.Refused as laws
 use Rattle.pages.specs.Papers.{runRefusal}
-use Rattle.pages.proofs.Ran.{run-refusal, run-refused, judge-refusal, judge-refused, none-reported}
+use Rattle.pages.proofs.Ran.{
+  run-refusal,
+  run-refused,
+  judge-refusal,
+  judge-refused,
+  none-reported,
+  receive-log-refusal,
+  receive-log-refused,
+  none-received,
+  send-log-refusal,
+  send-log-refused,
+  none-sent,
+}
 
 -- a refusal that is another one's, and leaves nothing where the other does
 as-said : {refusal said table : ℕ} {Said Nothing : Type 0} → refusal ≡ said → Refuses said table Said
@@ -198,6 +214,47 @@ judges {state} {log} {place} {reports} p =
             stays _ _ (λ none. some (p .refused ∙ none)) (p .leaves),
             p .judges .reports-after ∙ ap (λ (given : List ℕ). over given reports) (none-reported st log place (length reports) refused),
             p .counted ∙ ap judgedNumbers (judge-refused st log place (length reports) refused),
+          );
+    }
+
+pub receives-log : {state log : List ℕ} {place : ℕ} {samples ancillary marks : List ℕ} {refusal : ℕ}
+    {left samples₁ ancillary₁ marks₁ counts : List ℕ}
+    → ReceivedLogOctets state log place samples ancillary marks refusal left samples₁ ancillary₁ marks₁ counts
+    → Refuses refusal (callRefusal (receiverOf state) (length samples) (length ancillary) (length marks))
+    ((left ≡ state) × (samples₁ ≡ samples) × (ancillary₁ ≡ ancillary) × (marks₁ ≡ marks) × (counts ≡ replicate 9 0))
+unfolding over
+receives-log {state} {log} {place} {samples} {ancillary} {marks} p =
+    let st = receiverOf state in
+    let by = p .refused ∙ receive-log-refusal st log place (length samples) (length ancillary) (length marks) in
+    record {
+      by-the-table = by;
+      then-nothing =
+          λ some.
+          let refused : callRefusal st (length samples) (length ancillary) (length marks) ≡ 0 → ⊥ = λ none. some (by ∙ none) in
+          let nothing : (column : List Heard → List ℕ) → columnGiven column st log place (length samples) (length ancillary) (length marks) ≡ []
+          = λ column. none-received st log place (length samples) (length ancillary) (length marks) column refused in (
+            stays _ _ (λ none. some (p .refused ∙ none)) (p .leaves),
+            p .receives .samples-after ∙ ap (λ (given : List ℕ). over given samples) (nothing samplesOf),
+            p .receives .ancillary-after ∙ ap (λ (given : List ℕ). over given ancillary) (nothing ancillaryOf),
+            p .receives .marks-after ∙ ap (λ (given : List ℕ). over given marks) (nothing marksOf),
+            p .counted ∙ ap batchNumbers (receive-log-refused st log place (length samples) (length ancillary) (length marks) refused),
+          );
+    }
+
+pub sends-log : {state : List ℕ} {indications : Bool} {samples ancillary log : List ℕ} {place refusal : ℕ} {left log₁ counts : List ℕ}
+    → Many.SentManyOctets state indications samples ancillary log place refusal left log₁ counts
+    → Refuses refusal (batchRefusal (senderOf state) samples ancillary) ((left ≡ state) × (log₁ ≡ log) × (counts ≡ replicate 4 0))
+sends-log {state} {indications} {samples} {ancillary} {log} {place} p =
+    let st = senderOf state in
+    let by = p .refused ∙ send-log-refusal indications st samples ancillary log place in
+    record {
+      by-the-table = by;
+      then-nothing =
+          λ some.
+          let refused : batchRefusal st samples ancillary ≡ 0 → ⊥ = λ none. some (by ∙ none) in (
+            stays _ _ (λ none. some (p .refused ∙ none)) (p .leaves),
+            p .writes ∙ none-sent indications st samples ancillary log place refused,
+            p .counted ∙ ap Many.batchNumbers (send-log-refused indications st samples ancillary log place refused),
           );
     }
 
