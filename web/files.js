@@ -1,7 +1,6 @@
 // The files that the page gives away, octet for octet as the desk tool writes them of the same log. What writes one hands its
 // parts to `put`: octets, or text.
 
-
 // Seconds with six decimals, as C's printf has them: of a tie it takes the even digit, and toFixed the upper one.
 function seconds(time, rate) {
     const value = time / rate, isTie = Number.isInteger(value * 128) && !Number.isInteger(value * 64);
