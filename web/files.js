@@ -1,9 +1,6 @@
 // The files that the page gives away, octet for octet as the desk tool writes them of the same log. What writes one hands its
 // parts to `put`: octets, or text.
 
-const MOST_LISTED = 4294967295; // octets of a log that is listed: past them it is broken 13
-const MOST_FIGURE = 4294967295; // of a log's sheet: past it the log is refused 19
-
 // Seconds with six decimals, as C's printf has them: of a tie it takes the even digit, and toFixed the upper one.
 function seconds(time, rate) {
     const value = time / rate, isTie = Number.isInteger(value * 128) && !Number.isInteger(value * 64);
@@ -14,69 +11,57 @@ function seconds(time, rate) {
 
 // ---- The list, and the salvaged log ----
 
-// Calls `take(record, refusal, missing, number)` for each record of a piece, by what rime_judge_log wrote.
-const OF_REFUSAL = RIME.JUDGEMENT_REFUSAL, OF_MISSING = RIME.JUDGEMENT_REPORT + RIME.REPORT_MISSING;
-const OF_NUMBER = RIME.JUDGEMENT_REPORT + RIME.REPORT_NUMBER;
-function eachRecord(log, reports, records, take) {
-    for (let at = 0, record = log.at.record; at < records * RIME.JUDGEMENT; at += RIME.JUDGEMENT, record++)
-        take(record, reports[at + OF_REFUSAL], reports[at + OF_MISSING], reports[at + OF_NUMBER]);
+// The octets of `text` that are the list of a piece, and those that end the list.
+function listed(library, length) {
+    library.take('list', length, ...library.run('text'), library.lend('written', 0, 1));
+    return numberAt(library.written, 0);
 }
 
-// Stands in for rime_list_take: a record's line.
-function lineOf(record, refusal, missing, number) {
-    return refusal ? `${record} refused ${refusal}` : `${record} sound ${missing} number ${number}`;
-}
-
-function formatLine(log) {
-    return `format ${log.octet} ${log.channels} ${log.order}`;
-}
-
-function endLine({sound, missing, refused}) {
-    return `end ${sound} sound ${missing} missing ${refused} refused`;
-}
-
-// The refusal of a framing fault, in a list: 13 where the limit alone cuts the record.
-function faultOfList(log, fault) {
-    const isPast = log.size > MOST_LISTED && fault !== RIME.REFUSED_LOG_NUMBER;
-    return isPast ? RIME.REFUSED_LOG_LENGTH : fault;
+function listedLast(library) {
+    const words = ['list', 'listHeld'].map(name => library.all(name));
+    library.ask('rime_list_end', ...words, ...library.run('text'), library.lend('written', 0, 1));
+    return numberAt(library.written, 0);
 }
 
 function list(log, put) {
-    if (log.refusal) return void put(`log refused ${log.refusal}\n`);
-    const counted = {sound: 0, missing: 0, refused: 0};
-    put(`${formatLine(log)}\n`);
-    const fault = faultOfList(log, log.walk({
-        judged(reports, records) {
-            let text = '';
-            eachRecord(log, reports, records, (record, refusal, missing, number) => {
-                text += `${lineOf(record, refusal, missing, number)}\n`;
-                counted[refusal ? 'refused' : 'sound']++;
-                counted.missing += missing;
-            });
-            put(text);
-        },
-    }, log.points[0], Math.min(log.size, MOST_LISTED)));
-    if (fault) put(`${log.at.record} broken ${fault}\n`);
-    put(`${endLine(counted)}\n`);
+    const {library} = log, putText = octets => put(library.text.slice(0, octets));
+    library.start('list');
+    log.each(length => {
+        putText(listed(library, length));
+        return library.list[2 * RIME.PIECES_STAGE] > 1; // behind a fault nothing more is read
+    });
+    putText(listedLast(library));
 }
 
-// Stands in for rime_salvage_take: the new log as places in the old one, and the lines beside it.
+// The new log as places in the old one, by the lines that say which records are left out, and those lines.
 function salvage(log) {
-    const runs = [[0, log.place]], lines = [];
-    let kept = 0;
-    log.walk({
-        judged(reports, records) {
-            eachRecord(log, reports, records, (record, refusal) => {
-                const from = log.at.place + (record - log.at.record) * RIME.RECORD_OCTETS, past = from + RIME.RECORD_OCTETS;
-                if (refusal) return void lines.push(`${lineOf(record, refusal)}\n`);
-                kept++;
-                if (runs.at(-1)[1] === from) runs.at(-1)[1] = past;
-                else runs.push([from, past]);
-            });
-        },
+    const {library} = log, {written} = library, runs = [], lines = [];
+    let from = 0, octets = 0;
+    const keep = past => {
+        if (past > from) runs.push([from, past]);
+        octets -= Math.max(past - from, 0);
+    };
+    library.start('salvage');
+    log.each(length => {
+        library.take('salvage', length, ...library.run('made'), ...library.run('text'), library.all('written'));
+        octets += numberAt(written, RIME.WRITTEN_OUT);
+        for (const line of linesOf(library.said(numberAt(written, RIME.WRITTEN_NOTES)))) {
+            const place = log.place + parseInt(line) * RIME.RECORD_OCTETS;
+            keep(place);
+            from = place + RIME.RECORD_OCTETS;
+            lines.push(`${line}\n`);
+        }
     });
-    lines.push(`end ${kept} kept ${lines.length} left out ${log.size - log.at.place} cut\n`);
+    keep(numberAt(library.salvage, RIME.SALVAGE_TAKEN));
+    if (octets !== 0) throw Error('the slices aren’t the salvaged log'); // as the calls wrote it
+    const words = ['salvage', 'salvageHeld'].map(name => library.all(name));
+    library.ask('rime_salvage_end', ...words, ...library.run('text'), library.lend('written', 0, 1));
+    lines.push(library.said(numberAt(written, 0)));
     return {runs, lines};
+}
+
+function linesOf(text) {
+    return text.split('\n').slice(0, -1);
 }
 
 // ---- The label track ----
@@ -137,16 +122,16 @@ function wavHead(log, frames, rate, peaks) {
 
 // The samples that were handed out, as the file has them.
 function soundOf(log, given) {
-    const width = widthOf(log.bits), part = new Uint8Array(given * width);
+    const width = widthOf(log.bits), part = new Uint8Array(given * width), {samples} = log.library;
     if (width === 8) {
-        const {samples} = log.library, real = new Float64Array(part.buffer);
+        const real = new Float64Array(part.buffer);
         for (let entry = 0; entry < given; entry++)
             real[entry] = ((samples[2 * entry + 1] << 24 >> 24) * 2 ** 32 + samples[2 * entry]) / 2 ** 39;
         return part;
     }
-    const down = 32 - 8 * width;
+    const up = 32 - log.bits, down = 32 - 8 * width;
     for (let entry = 0, at = 0; entry < given; entry++) {
-        let value = log.top(entry) >> down;
+        let value = samples[2 * entry] << up >> down;
         for (let octet = 0; octet < width; octet++, value >>= 8) part[at++] = value;
     }
     return part;
@@ -188,20 +173,12 @@ function wav(log, rate, put) {
 // ---- The figures of many logs ----
 
 const FIGURES = ['sound', 'missing', 'refused 8', 'refused 9', 'refused 15', 'refused 20', 'marked 0', 'marked 1', 'marked 2'];
-
-// Stands in for rime_figures_end: a log's row, by what was counted.
-function figuresOf(about) {
-    if (!about || about.refusal) return FIGURES.map(() => 0);
-    const by = refusal => about.refusedBy[refusal] ?? 0, {sound, missing, damaged, entries} = about;
-    const refused = [RIME.REFUSED_NUMBER, RIME.REFUSED_REPEAT, RIME.REFUSED_INDICATED, RIME.REFUSED_COUNT].map(by);
-    return [sound, missing, ...refused, sound * entries - damaged, damaged, missing * entries];
-}
+const NO_FIGURES = Array(RIME.SHEET_ROW).fill(0);
 
 // The state in a row: empty where all is well.
 function stateOf(about) {
     if (!about) return 'unreadable';
-    if (about.refusal) return `refused ${about.refusal}`;
-    if (figuresOf(about).some(figure => figure > MOST_FIGURE)) return `refused ${RIME.REFUSED_TOTAL}`;
+    if (about.refusal || about.rowRefusal) return `refused ${about.refusal || about.rowRefusal}`;
     return about.fault ? `broken ${about.fault} at ${about.records}` : '';
 }
 
@@ -211,10 +188,9 @@ function perMillion([sound, missing]) {
 
 // Of {name, about}; about is missing where a log couldn't be read.
 function sheet(logs) {
-    const rows = logs.map(({about}) => stateOf(about) === `refused ${RIME.REFUSED_TOTAL}` ? figuresOf(null) : figuresOf(about));
+    const rows = logs.map(({about}) => about?.row ?? NO_FIGURES);
     const all = FIGURES.map((_, at) => rows.reduce((sum, row) => sum + row[at], 0));
-    const lines = logs.map(({name, about}, at) =>
-        [at, ...rows[at], perMillion(rows[at]), stateOf(about), `"${name.replaceAll('"', '""')}"`].join());
+    const lines = logs.map(({name, about}, at) => [at, ...rows[at], stateOf(about), `"${name.replaceAll('"', '""')}"`].join());
     const names = `log,${FIGURES.join()},missing per million,state,file`;
     return [names, ...lines, `all,${all.join()},${perMillion(all)},,`, ''].join('\n');
 }

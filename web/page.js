@@ -91,8 +91,8 @@ const rateOf = log => log.asked || log.about.rate || ASSUMED_RATE;
 
 function answerOf({about}) {
     if (about.refusal) return `This isn’t a log that can be read: refused ${about.refusal}, ${about.words[about.refusal]}.`;
-    return about.yes >= 0 ? `Yes, there is something on it: first in record ${about.yes} (${about.answer}).`
-        : `No, there is nothing on it in ${many(about.records, 'record')} (${about.answer}).`;
+    return about.isFound ? `Yes, there is something on it: first in record ${about.number} (${about.answer}).`
+        : `No, there is nothing on it in ${many(about.number, 'record')} (${about.answer}).`;
 }
 
 function rateWords({about, asked}) {
@@ -111,12 +111,16 @@ function factsOf(log) {
         [`${clock(about.times / rateOf(log))} long; ${many(about.channels, 'channel')} of ${about.bits} bits `
             + `(format ${hex(about.octet)} hex, order ${about.order}).`],
         [`${many(about.sound, 'sound cell')}, ${number(about.missing)} missing in ${many(about.gaps, 'place')}, `
-            + `${number(about.refused)} refused.`, about.missing + about.refused ? 'bad' : ''],
+            + (about.slipped ? `${number(about.slipped)} more in ${many(about.slips, 'place')} by second numbers, ` : '')
+            + `${number(about.refused)} refused.`, about.missing + about.slipped + about.refused ? 'bad' : ''],
         ...Object.entries(about.refusedBy).map(([refusal, times]) =>
             [`Refused ${refusal}, ${many(times, 'time')}: ${words[refusal]}.`, 'bad']),
     ];
     if (about.refusedLast)
         facts.push([`${number(about.refusedLast)} of them after the last sound cell: no silence stands for them.`, 'bad']);
+    if (about.perhaps)
+        facts.push([`The second number of the last cell is out of step: perhaps ${many(about.perhaps, 'cell')} more are missing `
+            + 'before it; nothing is put in.', 'bad']);
     if (about.damaged) facts.push([`${many(about.damaged, 'sample')} damaged: the protection bits disagree.`, 'doubt']);
     if (about.fault)
         facts.push([`Broken ${about.fault} at record ${number(about.records)}: ${words[about.fault]}; `
@@ -215,9 +219,7 @@ async function show(log, go = false) {
 }
 
 function showList(about) {
-    const lines = about.refusal ? [about.answer] : [`format ${about.octet} ${about.channels} ${about.order}`, ...about.rows,
-        ...about.fault ? [`${about.records} broken ${about.fault}`] : [],
-        `end ${about.sound} sound ${about.missing} missing ${about.refused} refused`];
+    const lines = about.refusal ? [about.answer] : [...about.first, ...about.rows, ...about.last];
     $('list').textContent = lines.join('\n');
     const told = about.refusal ? 0 : about.gaps + about.refused, shown = about.rows?.length ?? 0;
     $('list-say').textContent = told > shown ? `The first ${number(shown)} of ${number(told)}; the whole list has all.`
@@ -301,8 +303,7 @@ $('saves').onclick = async ({target}) => {
 };
 
 $('get-sheet').onclick = async () => {
-    const few = ({refusal, refusedBy, entries, sound, missing, damaged, fault, records}) =>
-        ({refusal, refusedBy, entries, sound, missing, damaged, fault, records});
+    const few = ({refusal, row, rowRefusal, fault, records}) => ({refusal, row, rowRefusal, fault, records});
     const rows = logs.filter(log => log.about || log.error).map(({name, about}) => ({name, about: about && few(about)}));
     try {
         save(await work('Making the figures', 'sheet', {rows}), 'figures.csv');

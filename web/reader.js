@@ -33,19 +33,31 @@ class Columns {
 
     // Sample times in a row of one channel in one column.
     span(log, entry, times, at) {
-        const {marks, samples} = log.library, {channels} = this, up = 32 - log.bits;
-        let low = this.low[at], high = this.high[at], seen = this.seen[at];
-        for (const past = entry + times * channels; entry < past; entry += channels) {
+        const past = entry + times * this.channels;
+        if (log.isSound && log.bits <= 32) return this.plain(log, entry, past, at);
+        const {marks} = log.library;
+        for (; entry < past; entry += this.channels) {
             const mark = marks[entry];
-            seen |= mark === MARK_SOUND ? CAME : mark === MARK_DOUBTFUL ? CAME | DAMAGED : MISSING;
+            this.seen[at] |= mark === MARK_SOUND ? CAME : mark === MARK_DOUBTFUL ? CAME | DAMAGED : MISSING;
             if (mark === MARK_MISSING) continue;
-            const value = up >= 0 ? samples[2 * entry] << up : log.top(entry);
+            const value = log.top(entry);
+            if (value < this.low[at]) this.low[at] = value;
+            if (value > this.high[at]) this.high[at] = value;
+        }
+    }
+
+    // The same where all are sound and of at most 32 bits: the usual case, and the quick one.
+    plain(log, entry, past, at) {
+        const {samples} = log.library, up = 32 - log.bits, step = 2 * this.channels;
+        let low = this.low[at], high = this.high[at];
+        for (let from = 2 * entry; from < 2 * past; from += step) {
+            const value = samples[from] << up;
             if (value < low) low = value;
             if (value > high) high = value;
         }
         this.low[at] = low;
         this.high[at] = high;
-        this.seen[at] = seen;
+        this.seen[at] |= CAME;
     }
 
     // Makes room up to a sample time: two columns become one, as often as it takes.
@@ -73,12 +85,12 @@ class Columns {
 // ---- Stretches of sample times that are missing, or damaged in the same channels ----
 class Stretches {
     constructor(log, told) {
-        Object.assign(this, {log, told, open: null, damaged: 0});
+        Object.assign(this, {log, told, open: null});
     }
 
     take(given) {
         const {marks} = this.log.library, {channels} = this.log;
-        if (this.areSound(marks, given)) return this.end();
+        if (this.log.isSound) return this.end();
         for (let entry = 0, time = this.log.at.time; entry < given; entry += channels, time++) {
             let any = 0;
             for (let channel = 0; channel < channels; channel++) any |= marks[entry + channel];
@@ -87,19 +99,9 @@ class Stretches {
         }
     }
 
-    // Whether all marks are sound, four at a time. Nearly always they are.
-    areSound(marks, given) {
-        const fours = new Uint32Array(marks.buffer, marks.byteOffset, given >> 2);
-        let any = MARK_SOUND;
-        for (let at = 0; at < fours.length; at++) any |= fours[at];
-        for (let entry = 4 * fours.length; entry < given; entry++) any |= marks[entry];
-        return any === MARK_SOUND;
-    }
-
     one(marks, time) {
         const channels = [...marks.keys()].filter(channel => marks[channel] === RIME.MARK_DOUBTFUL);
         const mark = channels.length > 0 ? RIME.MARK_DOUBTFUL : RIME.MARK_MISSING, {open} = this;
-        this.damaged += channels.length;
         if (open && open.mark === mark && open.channels.join() === channels.join()) return void open.past++;
         this.end();
         this.open = {mark, channels, from: time, past: time + 1};
@@ -219,75 +221,117 @@ function statusLines({status, channels}, rate) {
     return Array.from({length: channels}, (_, channel) => `${statusLine({channel}, rate)}: the format has no ancillary bits`);
 }
 
+// ---- The lines of the list that aren't `sound 0` ----
+
+// The list's calls are asked of the pieces that have such lines, and of the last. What would have been taken before is put into
+// their state by its names: the receiver's state, and what the figures count.
+class Rows {
+    constructor(log) {
+        const {library} = log, {list} = library;
+        Object.assign(this, {log, lines: [], last: [], isOver: false});
+        library.start('list');
+        this.first = linesOf(library.said(listed(library, log.place)));
+        this.begun = list.slice();
+        this.left = numberAt(list, RIME.PIECES_LEFT);
+    }
+
+    // A piece of so many octets, with what was counted before it. `isOdd`: it has such lines.
+    take(length, counted, isOdd) {
+        const {log} = this, {library} = log, past = log.at.place + length;
+        const isLast = past === log.size || past - log.place > this.left || library.figures[2 * RIME.PIECES_STAGE] > 1;
+        if (this.isOver || !isLast && (!isOdd || this.lines.length >= MOST_ROWS)) return;
+        this.isOver = isLast;
+        this.putForward(counted);
+        this.put(listed(library, length));
+        if (isLast) this.put(listedLast(library));
+    }
+
+    putForward({sound, missing, refused}) {
+        const {log} = this, {library} = log, {list, state} = library, {place, record} = log.at;
+        list.set(this.begun);
+        const numbers = {
+            PIECES_LEFT: this.left - (place - log.place), PIECES_RECORDS: record, PIECES_STARTED: state[RIME.RECEIVER_STARTED],
+            PIECES_LAST: state[RIME.RECEIVER_LAST], PIECES_COUNT: library.calls.rime_receiver_placed(library.all('state')) >>> 0,
+            LIST_RECORDS: record, LIST_SOUND: sound, LIST_MISSING: missing, LIST_REFUSED: refused,
+        };
+        for (const [name, number] of Object.entries(numbers)) putNumber(list, RIME[name], number);
+    }
+
+    put(octets) {
+        for (const line of linesOf(this.log.library.said(octets)))
+            if (/^end | broken /.test(line)) this.last.push(line);
+            else if (!line.includes(' sound 0 ') && this.lines.length < MOST_ROWS) this.lines.push(line);
+    }
+}
+
 // ---- The first walk ----
+const REFUSED = {8: RIME.SHEET_REFUSED_8, 9: RIME.SHEET_REFUSED_9, 15: RIME.SHEET_REFUSED_15, 20: RIME.SHEET_REFUSED_20};
+
 class Scan {
     constructor(log) {
-        const {size, octet, channels, order, bits, entries, overhead, ancillary} = log;
+        const {size, octet, channels, order, bits, overhead, ancillary, library} = log;
         this.log = log;
-        this.about = {size, refusal: 0, octet, channels, order, bits, entries, overhead, ancillary, sound: 0, missing: 0, gaps: 0,
-            refused: 0, refusedBy: {}, refusedLast: 0, yes: -1, rows: [], stretches: [], stretchCount: 0};
-        const most = Math.ceil(size / RIME.RECORD_OCTETS) * (RIME.MOST_MISSING + 1) * log.times; // sample times that there may be
+        this.about = {size, refusal: 0, octet, channels, order, bits, overhead, ancillary, stretches: [], stretchCount: 0};
+        const most = Math.ceil(size / RIME.RECORD_OCTETS) * (RIME.MOST_MISSING + 1 + MOST_SLIPPED) * log.times; // sample times
         this.columns = new Columns(log, Math.max(1, Math.min(BINS, most)));
         this.status = ancillary ? new Status(log) : null;
         this.stretches = new Stretches(log, stretch => {
             if (this.about.stretchCount++ < MOST_STRETCHES) this.about.stretches.push({...stretch, said: wordsOf(stretch)});
         });
+        log.load(0, log.place);
+        library.start('figures');
+        library.start('anything');
+        this.rows = new Rows(log);
+        this.count(log.place);
     }
 
-    judged(reports, records) {
-        const {about} = this;
-        this.records = records;
-        eachRecord(this.log, reports, records, (record, refusal, missing, number) => {
-            if ((refusal || missing) && about.rows.length < MOST_ROWS) about.rows.push(lineOf(record, refusal, missing, number));
-            if (refusal) {
-                about.refused++;
-                about.refusedLast++;
-                about.refusedBy[refusal] = (about.refusedBy[refusal] ?? 0) + 1;
-                return;
-            }
-            about.sound++;
-            about.missing += missing;
-            about.gaps += missing > 0;
-            about.refusedLast = 0;
-        });
+    // Whether there is anything, and the figures.
+    count(length) {
+        const {library} = this.log;
+        if (this.mayChange !== 0) {
+            library.take('anything', length, library.lend('written', 0, 1));
+            this.mayChange = numberAt(library.written, 0);
+        }
+        library.take('figures', length);
     }
 
-    handed(given, before) {
-        if (this.about.yes < 0) this.search(given, before);
+    counted() {
+        const of = place => numberAt(this.log.library.figures, RIME.FIGURES_COUNTS + place), by = {};
+        for (const [refusal, place] of Object.entries(REFUSED)) if (of(place)) by[refusal] = of(place);
+        const refused = Object.values(by).reduce((sum, count) => sum + count, 0);
+        const [sound, missing, damaged] = [RIME.SHEET_SOUND, RIME.SHEET_MISSING, RIME.SHEET_MARKED_1].map(of);
+        return {sound, missing, damaged, refused, refusedBy: by};
+    }
+
+    piece(length) {
+        const before = this.counted();
+        this.count(length);
+        const {missing, refused} = this.counted();
+        this.rows.take(length, before, missing + refused > before.missing + before.refused);
+    }
+
+    handed(given) {
         this.columns.fit(this.log.at.time + given / this.log.channels);
         this.columns.take(this.log, given);
         this.stretches.take(given);
         this.status?.take(given);
     }
 
-    // Stands in for rime_anything_take: the record of the first sample marked sound that isn't zero.
-    search(given, before) {
-        const {samples, marks} = this.log.library;
-        for (let entry = 0; entry < given; entry++)
-            if (marks[entry] === RIME.MARK_SOUND && (samples[2 * entry] | samples[2 * entry + 1]) !== 0)
-                return void (this.about.yes = this.recordOf(before + entry));
-    }
-
-    // The record that handed out an entry of this piece.
-    recordOf(entry) {
-        const {log} = this;
-        let past = 0, of = -1;
-        eachRecord(log, log.library.reports, this.records, (record, refusal, missing) => {
-            if (past > entry || refusal) return;
-            past += (missing + 1) * log.entries;
-            if (past > entry) of = record;
-        });
-        return of;
-    }
-
     end(fault) {
-        const {log, about, stretches, columns} = this, status = this.status?.end();
-        stretches.end();
+        const {log, columns, rows: {first, lines, last}} = this, status = this.status?.end();
+        const {library} = log, {row, answer} = library;
+        this.stretches.end();
         columns.trim(log.at.time);
-        const named = status?.named() ?? {rates: [], lengths: []};
-        return Object.assign(about, {fault, records: log.at.record, times: log.at.time, cut: log.size - log.at.place, columns,
-            damaged: stretches.damaged, named, rate: named.rates[0]?.rate ?? 0,
-            status: status && {lines: status.lines, count: status.count}});
+        if (log.size === log.place) this.rows.take(0, this.counted(), false); // there was no piece
+        library.ask('rime_anything_end', library.all('anything'), library.all('anythingHeld'), library.all('answer'));
+        const rowRefusal = library.ask('rime_figures_end', library.all('figures'), library.all('row'));
+        const named = status?.named() ?? {rates: [], lengths: []}, {gaps, refusedLast, slipped, slips, perhaps} = log;
+        return Object.assign(this.about, this.counted(), {
+            isFound: numberAt(answer, 0) === 1, number: numberAt(answer, 1), row: [...row], rowRefusal,
+            fault, records: log.at.record, times: log.at.time, cut: log.size - log.at.place,
+            gaps, refusedLast, slipped, slips, perhaps, columns, first, rows: lines, last,
+            named, rate: named.rates[0]?.rate ?? 0, status: status && {lines: status.lines, count: status.count},
+        });
     }
 }
 
@@ -297,8 +341,8 @@ function scan(log) {
     return all.end(log.walk(all));
 }
 
-function anything({refusal, yes, records}) {
-    return refusal ? `log refused ${refusal}` : yes >= 0 ? `yes ${yes}` : `no ${records}`;
+function anything({refusal, isFound, number}) {
+    return refusal ? `log refused ${refusal}` : `${isFound ? 'yes' : 'no'} ${number}`;
 }
 
 // ---- What is asked for while one looks and listens ----

@@ -14,8 +14,8 @@ import sys
 TESTS = pathlib.Path(__file__).resolve().parent.parent
 sys.path.insert(0, str(TESTS))
 from desk_third_made import flipped, records, spoiled_log  # noqa: E402
-from third_log import write_header  # noqa: E402
-from third_reading import Setting  # noqa: E402
+from third_log import write_header, write_record  # noqa: E402
+from third_reading import Sender, Setting, send  # noqa: E402
 
 RATE = 44100  # that every third log is asked by
 
@@ -23,7 +23,7 @@ RATE = 44100  # that every third log is asked by
 def of_vectors():
     """Each log of the vectors once."""
     found = {}
-    for kind in ('read_header', 'linelist', 'anything', 'salvage', 'sheet'):
+    for kind in ('slips', 'read_header', 'linelist', 'anything', 'salvage', 'sheet'):
         for line in (TESTS / 'vectors' / f'{kind}.txt').read_text(encoding='ascii').splitlines():
             fields = line.split(' => ')[0].split(' ')
             octets = bytes.fromhex(fields[1].strip('-'))
@@ -43,9 +43,28 @@ def turning(chance, given, count):
     return [row[at % 16] for at in range(count)]
 
 
+def slipping(chance, given, borders):
+    """Cells are lost by sixteens before the last or the first record of a piece of the page's: what second numbers tell is
+    decided in the next piece, once behind forty records that are refused; of the very last record nothing decides."""
+    state, row, cycle = Sender(given, 0, True, 0), [], []
+    for _ in range(128):  # then numbers and second numbers begin anew
+        samples, indication = [chance.randrange(1 << 24) for _ in range(given.entries)], state.number % 8 == 0
+        state, cell = send(state, indication, samples, [0] * given.entries)
+        cycle.append(write_record(indication, cell))
+    sent = 0
+    for border, refused in borders:
+        for lost in (0, chance.choice([16, 48, 112])):
+            sent += lost
+            while len(row) < border - (0 if lost else 1):
+                row.append(cycle[sent % 128])
+                sent += 1
+        row += [row[-1]] * refused
+    return row
+
+
 def made(chance):
     """Over several pieces of the page, with gaps and refusals at their borders; a gap at sample 375 of 48,000 Hz, a tie of
-    printf's; damage in the very last sample; all slots; nothing."""
+    printf's; damage in the very last sample; all slots; slips at the borders of pieces; nothing."""
     given = Setting(0x56, 2, 0)
     row = turning(chance, given, 40000)
     for at in (39990, 33000, 32768, 32767, 16385, 16384, 16383, 100):
@@ -60,6 +79,9 @@ def made(chance):
     for octet, slots in ((0x02, 48), (0x5A, 8), (0x17, 12)):
         given = Setting(octet, slots, 1)
         yield f'all-{octet:02x}', write_header(given) + b''.join(turning(chance, given, 50))
+    given = Setting(0x56, 2, 0)
+    row = slipping(chance, given, [(16384, 0), (32768, 40), (49153, 0), (52000, 3)])
+    yield 'slips', write_header(given) + b''.join(row)
     yield 'nothing', b''
     yield 'no-records', write_header(given)
 
@@ -96,8 +118,9 @@ def main(tool, out, each='1', spoiled='200'):
         base, rate = str(desk / name), ['--rate', str(RATE)] if at % 3 == 0 else []
         said = run('salvage', name, f'{base}.salvaged').stderr.decode()
         pathlib.Path(f'{base}.lines').write_text(''.join(line for line in said.splitlines(True) if line[:11] != 'rimesatchel'))
-        run('labels', '-q', '--no-slips', *rate, name, to=pathlib.Path(f'{base}.status'))
-        run('receive', '-q', '--no-slips', *rate, name, f'{base}.wav', '--labels', f'{base}.labels')
+        run('labels', '-q', *rate, name, to=pathlib.Path(f'{base}.status'))
+        words = ('--json', '--labels', f'{base}.labels')
+        run('receive', '-q', *rate, name, f'{base}.wav', *words, to=pathlib.Path(f'{base}.json'))
     print(f'page: {len(names)} logs through the desk tool')
 
 

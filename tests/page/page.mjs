@@ -7,10 +7,10 @@ import path from 'node:path';
 import {Browser} from './browser.mjs';
 
 const [page, folder, tool, pictures] = process.argv.slice(2), logs = path.join(folder, 'logs'), desk = path.join(folder, 'desk');
-const ASKED = 44100, ASKED_OF = ['pieces.log', 'all-02.log']; // as desk.py asks every third log
+const ASKED = 44100, ASKED_OF = ['pieces.log', 'all-02.log', 'slips.log']; // as desk.py asks every third log
 const NAMED = '<img src=x onerror=boom()>"&.log';
 fs.copyFileSync(path.join(logs, 'last.log'), path.join(logs, NAMED));
-const LOGS = ['pieces.log', 'tie.log', 'all-02.log', 'all-5a.log', 'no-records.log', 'nothing.log', NAMED];
+const LOGS = ['pieces.log', 'tie.log', 'all-02.log', 'slips.log', 'all-5a.log', 'no-records.log', 'nothing.log', NAMED];
 const made = (log, ending) => fs.readFileSync(path.join(desk, `${log === NAMED ? 'last.log' : log}.${ending}`));
 const of = command => {
     const out = spawnSync(tool, [command, '-q', ...LOGS], {cwd: logs, maxBuffer: 1 << 28}).stdout;
@@ -57,6 +57,8 @@ async function tryLog(browser, log, at, answers, lists) {
     assert.equal(await text('list'), plain);
     if (plain.startsWith('log refused')) return assert.ok(await browser.eval("$('saves').hidden"));
     if (ASKED_OF.includes(log)) await browser.eval(`$('rate').value = ${ASKED}; $('rate').onchange()`);
+    const {slipped, slips} = JSON.parse(made(log, 'json')).cells, told = `${slipped} more in ${slips} places by second numbers`;
+    assert.equal((await text('facts')).includes(told), slips > 0, `${log}: what second numbers tell`);
     await browser.until(`$('status').textContent === ${JSON.stringify(made(log, 'status').toString().trim())}`);
     for (const [what, ending] of [['list', 'list'], ['salvage', 'salvaged'], ['wav', 'wav']])
         if (ending === 'list') same(await browser.save("document.querySelector('[data-get=list]').click()"),

@@ -20,6 +20,8 @@ function same(what, got, want) {
     if (wrong++ < 5) console.log(`${what}:\n  the reader    ${mine}\n  the desk tool ${its}`);
 }
 
+const linesOf = text => text.toString().split('\n');
+
 function source(octets) {
     return {size: octets.length, read: (from, past) => new Uint8Array(octets.subarray(from, past))};
 }
@@ -46,14 +48,20 @@ function one(name, octets, log, about, asked) {
     same(`${name}: the label track`, gathered(put => room.labelTrack(log, rate, put)), made('labels'));
     const wav = gathered(put => room.wav(log, rate, put));
     same(`${name}: the sound`, withoutPeakTimes(log, wav), withoutPeakTimes(log, made('wav')));
+    const {sound, missing, gaps, slipped, slips, perhaps, refused, refusedLast} = about;
+    const cells = {sound, missing, gaps, slipped, slips, waits: perhaps > 0, refused, refused_last: refusedLast};
+    same(`${name}: the counts of cells`, JSON.stringify(cells), JSON.stringify(JSON.parse(made('json')).cells));
+    same(`${name}: damaged samples`, String(about.damaged), String(JSON.parse(made('json')).samples_damaged));
     const status = room.statusLines(about, {asked, rate, isAssumed: !asked && !about.rate});
     same(`${name}: channel status`, status.map(line => `${line}\n`).join(''), made('status'));
 }
 
-// A near picture and a second of sound, from any point, are what the whole walk gives.
-function near(name, log, about) {
-    const from = Math.floor(about.times * 0.7), count = Math.min(about.times - from, 300);
+// A near picture and a second of sound, from any point, are what a walk from the start gives.
+function near(name, log, about, part) {
+    const from = Math.floor(about.times * part), count = Math.min(about.times - from, 300);
     const columns = room.picture(log, from, from + count, count), heard = room.sound(log, from, count);
+    const whole = room.sound(new room.Log(library, log.source), from, count);
+    same(`${name}: the sound from ${from} on`, heard.join(), whole.join());
     for (let time = 0; time < count; time++)
         for (let channel = 0; channel < log.channels; channel++) {
             const at = time * log.channels + channel, value = columns.seen[at] & 1 ? columns.low[at] : 0;
@@ -75,6 +83,15 @@ function wide(name, columns, heard, from, count) {
     same(`${name}: a picture of several samples a column`, got.join(), low.join());
 }
 
+// The lines of the list that are shown: all that aren't `sound 0`, the first thousand, and what ends it.
+function shown(name, about, text) {
+    if (about.refusal) return;
+    const lines = linesOf(text).slice(0, -1).filter(line => !/^\d+ sound 0 /.test(line)), {first, rows, last} = about;
+    const few = [...lines.slice(0, 1 + rows.length), ...lines.slice(-last.length)], count = 1 + rows.length + last.length;
+    if (rows.length < 1000) same(`${name}: how many lines are shown`, String(count), String(lines.length));
+    same(`${name}: the lines that are shown`, [...first, ...rows, ...last].join('\n'), few.join('\n'));
+}
+
 // As `list` and `anything` print several logs: a list begins with its log's name, and an answer stands behind it.
 const names = fs.readFileSync(path.join(desk, 'anything'), 'utf8').trim().split('\n').map(line => line.split(': ')[0]);
 const scanned = [], lists = [], answers = [];
@@ -82,11 +99,12 @@ for (const [at, name] of names.entries()) {
     const octets = fs.readFileSync(path.join(logs, name)), log = new room.Log(library, source(octets)), about = room.scan(log);
     scanned.push({name, about});
     answers.push(`${name}: ${room.anything(about)}\n`);
-    lists.push(`${name}:\n`, gathered(put => room.list(log, put)));
+    const text = gathered(put => room.list(log, put));
+    lists.push(`${name}:\n`, text);
+    shown(name, about, text);
     one(name, octets, log, about, at % 3 === 0 ? RATE : 0);
-    if (!log.refusal && about.times > 0) near(name, log, about);
+    for (const part of log.refusal || about.times === 0 ? [] : [0.7, 0.99]) near(name, log, about, part);
 }
-const linesOf = text => text.toString().split('\n');
 const differ = (what, got, want) => {
     const mine = linesOf(got), its = linesOf(want), at = mine.findIndex((line, index) => line !== its[index]);
     same(`${what}, line ${at}`, `${mine.length} ${mine[at]}`, `${its.length} ${its[at]}`);

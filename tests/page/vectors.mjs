@@ -59,6 +59,10 @@ const boxes = {
         return [refusal, said(s), ...runs.map(list), ...some(report, 4)];
     },
     line,
+    slip([watch, report]) {
+        const w = lent(1, numbers(watch)), slip = empty(1, 2);
+        return [ask('rime_slip', w.at, lent(1, numbers(report)).at, slip.at), list(w), ...some(slip, 2)];
+    },
     status_step([bits, block, ancillary, mark]) {
         const b = lent(1, [bits, ...octets(block)]), out = empty(1, 25);
         return [ask('rime_status_step', b.at, u8(ancillary), u8(mark), out.at), one(b), hex(b, 1), one(out), hex(out, 1)];
@@ -88,10 +92,38 @@ const logs = {
         const refusal = ask('rime_judge_log', s.at, ...both(lent(1, octets(log))), u64(place), ...both(r), counts.at);
         return [refusal, said(s), hex(r), ...some(counts, 3)];
     },
+    send_log([state, indications, samples, ancillary, log, place]) {
+        const s = lent(1, numbers(state)), l = lent(1, octets(log)), counts = empty(8, 4);
+        const a = lent(8, numbers(samples)), b = lent(1, numbers(ancillary));
+        const words = [Number(indications), ...both(a), ...both(b), ...both(l), u64(place)];
+        return [ask('rime_send_log', s.at, ...words, counts.at), list(s), hex(l), ...some(counts, 4)];
+    },
+    receive_log([state, log, place, samples, ancillary, marks]) {
+        const s = receiver(state), runs = [lent(8, numbers(samples)), lent(1, octets(ancillary)), lent(1, octets(marks))];
+        const words = [...both(lent(1, octets(log))), u64(place), ...runs.flatMap(both)], counts = empty(8, 9);
+        const refusal = ask('rime_receive_log', s.at, ...words, counts.at);
+        return [refusal, said(s), list(runs[0]), hex(runs[1]), hex(runs[2]), ...some(counts, 9)];
+    },
     linelist([log]) {
         const run = lent(1, octets(log)), out = empty(1, 100 + 2 * run.length), listed = empty(8, 2);
         ask('rime_log_list', ...both(run), ...both(out), listed.at);
         return [hex(out, 0, Number(one(listed)))];
+    },
+    // In pieces of twenty octets, with the octets that may still come put into the state.
+    linelist_limit([log, limit]) {
+        const state = empty(8, 15), held = empty(1, 49), piece = empty(1, 20), text = empty(1, 216 + 76), written = empty(8, 1);
+        const all = octets(log), said = [], take = () => { if (one(written) !== '0') said.push(hex(text, 0, Number(one(written)))); };
+        ask('rime_list_start', state.at, held.at);
+        lender.put(state, 3, u64(limit));
+        for (let from = 0; from < all.length; from += 20) {
+            const some = all.slice(from, from + 20);
+            some.forEach((octet, at) => lender.put(piece, at, BigInt(octet)));
+            ask('rime_list_take', state.at, held.at, piece.at, BigInt(some.length), ...both(text), written.at);
+            take();
+        }
+        ask('rime_list_end', state.at, held.at, ...both(text), written.at);
+        take();
+        return [said.join('') || '-'];
     },
     anything([log]) {
         const answer = empty(8, 2);
@@ -140,8 +172,8 @@ const beside = {
     },
 };
 
-// The list's limit can't be moved in the library; the others are calls of rime_management.h.
-const ELSEWHERE = new Set(['linelist_limit', 'controller', 'equipment', 'port_packing', 'port_settings']);
+// Of `slips` the reader is asked (desk.py); the others are calls of rime_management.h.
+const ELSEWHERE = new Set(['slips', 'controller', 'equipment', 'port_packing', 'port_settings']);
 const kinds = {...boxes, ...logs, ...beside};
 let cases = 0, wide = 0, wrong = 0;
 
