@@ -96,7 +96,8 @@ def received():
     flawed_logs()
     told = document('receive', 'flawed.log', 'o.wav', '--json', '--labels', 'o.txt')
     labels = [line.split('\t')[2] for line in pathlib.Path('o.txt').read_text(encoding='ascii').splitlines()]
-    assert told['cells'] == {'sound': 1995, 'missing': 3, 'gaps': 2, 'refused': 1, 'refused_last': 0}, told['cells']
+    cells = {'sound': 1995, 'missing': 3, 'gaps': 2, 'slipped': 0, 'slips': 0, 'waits': False, 'refused': 1, 'refused_last': 0}
+    assert told['cells'] == cells, told['cells']
     assert [(row['refusal'], row['cells']) for row in told['refusals']] == [(8, 1)]
     words = [f'{row["what"]}{"" if row["what"] == "missing" else " in channel 1"}: sample'
              + (f' {row["from"]}' if row['past'] == row['from'] + 1 else f's {row["from"]} to {row["past"] - 1}')
