@@ -58,7 +58,8 @@ async function tryLog(browser, log, at, answers, lists) {
     if (plain.startsWith('log refused')) return assert.ok(await browser.eval("$('saves').hidden"));
     if (ASKED_OF.includes(log)) await browser.eval(`$('rate').value = ${ASKED}; $('rate').onchange()`);
     const {slipped, slips} = JSON.parse(made(log, 'json')).cells;
-    const told = `, ${slipped} more in ${slips} place${slips === 1 ? '' : 's'} by second numbers, `;
+    const grouped = count => count.toLocaleString('en-US');
+    const told = `, ${grouped(slipped)} more in ${grouped(slips)} place${slips === 1 ? '' : 's'} by second numbers, `;
     assert.equal((await text('facts')).includes(told), slips > 0, `${log}: what second numbers tell`);
     await browser.until(`$('status').textContent === ${JSON.stringify(made(log, 'status').toString().trim())}`);
     for (const [what, ending] of [['list', 'list'], ['salvage', 'salvaged'], ['wav', 'wav']])
