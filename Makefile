@@ -12,6 +12,8 @@ help:
 	@echo 'to use it'
 	@echo '  make demo             a reading made on the spot into a log, some cells lost, and back; without the proof: seconds'
 	@echo '  make desk             build the desk tool over the proved library: target/desk/rimesatchel'
+	@echo '  make page             the reading room: one page that reads logs in a browser, over the proved library: target/page'
+	@echo '  make page-quick       the same without the proof, in seconds: target/page-quick'
 	@echo '  make programs         prove and build the programs: $(PROGRAMS); up to 8 minutes from nothing, on two cores'
 	@echo '  make lib              prove and build the archive and the shared library: up to 15 minutes from nothing'
 	@echo '  make lib TARGET=..    the archives for the other machine, x86_64 or aarch64, of the same proved modules: target/TARGET'
@@ -31,6 +33,8 @@ help:
 	@echo '  make sheet-19         one sheet over 626 MB, by the call and by the program: refused 19; a record less is given'
 	@echo '  make desk-fuzz        spoiled logs through the desk tool, with memory checks'
 	@echo '  make desk-third       LOGS=1010 spoiled logs through the desk tool, held against a decoder written from docs/RULES.md'
+	@echo '  make line             play and record over sockets, full disks, spoiled input, and an hour over two namespaces: SOAK=60'
+	@echo '  make page-test        the reading room against the vectors and the desk tool, under Node and in Chromium'
 	@echo '  make desk-limits      files of 4 GiB by the desk tool: the longest that each kind holds'
 	@echo '  make desk-hour        a reading of one hour through the desk tool: time and memory'
 	@echo '  make bench            speed beside plain C: instructions and nanoseconds; ROWS=56-C2 for some rows'
@@ -43,6 +47,7 @@ help:
 
 include tests/face.mk
 include desk/desk.mk
+include web/web.mk
 
 # rt builds for x86-64. Elsewhere what an rt by hand left in target/ isn't taken for built (tools/native.py).
 ifneq ($(MACHINE),x86_64)

@@ -24,7 +24,7 @@ import tempfile
 ROOT = pathlib.Path(__file__).resolve().parent.parent
 CELLS = 16  # calls in a batch, as in bench.c
 RECORDS = 1024  # records of a log, as in walks.c
-WALKS = ('sheet', 'anything', 'list', 'salvage')  # calls that go through a log: told for one record
+WALKS = ('sheet', 'anything', 'list', 'salvage', 'send_log')  # calls that go through a log: told for one record
 
 # What is asked, in instructions: a number for the usual call, and for every other row a part of plain C's. Before request 8 it was
 # 395 and 348, 0.60 and 0.65; the division in place of the number table may take 32 and 20 more than the 379 and 338 before it, and
@@ -36,6 +36,8 @@ PART_OF_PLAIN_FRAMES = 1.2  # rows of an AES3 cable: a frame in and a frame out
 PART_OF_PLAIN_UNITS = 0.55  # rows of data units: export and read
 # Rows of calls that go through a log. Of plain C's time 0.40 is asked of a sheet (sheet.c). Of a salvage nothing is asked.
 PART_OF_PLAIN_WALKS = {'sheet': 0.70, 'anything': 1.0, 'list': 1.0, 'salvage': float('inf')}
+# Of sending into a log, beside single calls in place of plain C: 56 hex with one channel or two in order 0, and every other row.
+PART_OF_SINGLE_CALLS = {True: 0.56, False: 0.72}
 
 # How far a guarded row may be from its number; and where the number was measured over other sources, as after a change that was
 # measured on the other machine alone.
@@ -59,6 +61,8 @@ class Row:
             self.asked = PART_OF_PLAIN_FRAMES * plain
         elif self.way in ('export', 'read'):
             self.asked = PART_OF_PLAIN_UNITS * plain
+        elif self.way == 'send_log':
+            self.asked = PART_OF_SINGLE_CALLS[self.octet == '56' and self.channels in ('1', '2') and self.order == '0'] * self.plain
         elif self.way in WALKS:
             self.asked = PART_OF_PLAIN_WALKS[self.way] * self.plain
         elif self.octet in ('13', '15', '17'):
@@ -130,7 +134,8 @@ def tables(rows):
                             ('a record counted for a sheet', lambda row: row.way == 'sheet'),
                             ('a record of silence looked at', lambda row: row.way == 'anything'),
                             ('a record listed', lambda row: row.way == 'list'),
-                            ('a record salvaged', lambda row: row.way == 'salvage')):
+                            ('a record salvaged', lambda row: row.way == 'salvage'),
+                            ('a cell sent into a log, beside single calls', lambda row: row.way == 'send_log')):
         lines = {}
         for row in filter(wanted, rows):
             text = f'{row.proved:.0f} ({row.ratio:.2f})'

@@ -1,7 +1,7 @@
 /*
  * Calls that go through a whole log, beside plain C, on one log of 1,024 records. A sheet is counted in every format with two
  * channels and with five, in both orders; the others go through every format with two channels in order 0. For rime_anything the
- * log is silence: it stops at the first sample that isn't.
+ * log is silence: it stops at the first sample that isn't. rime_send_log, which writes a log, stands beside single calls.
  */
 #include "walks.h"
 
@@ -88,11 +88,61 @@ static void salvage_by_plain(struct left *left) {
     insist(plain_salvage(log_of_row, LOG_OCTETS, left->octets, LOG_OCTETS, left->list, 2 * RECORDS, left->numbers) == 0);
 }
 
+static struct {
+    const struct format *format;
+    uint8_t channels, order;
+    size_t used; /* entries in a cell */
+    uint64_t samples[RECORDS * RIME_MOST_SLOTS];
+    uint8_t ancillary[RECORDS * RIME_MOST_SLOTS];
+} sent;
+
+/* What is sent, in place of a log. */
+static void make_entries(const struct format *format, uint8_t channels, uint8_t order, size_t records, uint8_t *log) {
+    (void)log;
+    sent.format = format, sent.channels = channels, sent.order = order;
+    sent.used = (size_t)(format->slots / channels) * channels;
+    uint64_t number = 1;
+    for (size_t entry = 0; entry < records * sent.used; entry++) {
+        number = number * 6364136223846793005 + 1442695040888963407;
+        sent.samples[entry] = number >> (64 - format->sample_bits);
+        sent.ancillary[entry] = format->ancillary ? number >> 16 & 15 : 0;
+    }
+}
+
+static void open_sender(uint8_t state[RIME_SENDER_STATE]) {
+    insist(rime_sender_open(sent.format->octet, sent.channels, sent.order, 0, false, 0, state) == RIME_DONE);
+}
+
+static void send_by_library(struct left *left) {
+    uint8_t state[RIME_SENDER_STATE];
+    uint64_t counts[RIME_SENT_LOG];
+    size_t entries = RECORDS * sent.used;
+    open_sender(state);
+    insist(rime_send_log(state, true, sent.samples, entries, sent.ancillary, entries, left->octets, LOG_OCTETS, HEADER_OCTETS,
+                         counts) == RIME_DONE);
+    left->numbers[0] = counts[RIME_SENT_CELLS];
+}
+
+static void send_by_calls(struct left *left) {
+    uint8_t state[RIME_SENDER_STATE], cell[RIME_CELL_OCTETS];
+    uint64_t next = HEADER_OCTETS;
+    open_sender(state);
+    for (size_t record = 0; record < RECORDS; record++) {
+        bool indication = record % 8 == 0;
+        size_t at = record * sent.used;
+        insist(rime_send(state, indication, sent.samples + at, sent.used, sent.ancillary + at, sent.used, cell, sizeof cell) ==
+               RIME_DONE);
+        insist(rime_log_put_record(left->octets, LOG_OCTETS, next, cell, sizeof cell, indication, &next) == RIME_DONE);
+    }
+    left->numbers[0] = RECORDS;
+}
+
 static const struct kind kinds[] = {
     {"sheet", sheet_by_library, sheet_by_plain, make_log, true},
     {"anything", anything_by_library, anything_by_plain, make_silence, false},
     {"list", list_by_library, list_by_plain, make_log, false},
     {"salvage", salvage_by_library, salvage_by_plain, make_log, false},
+    {"send_log", send_by_library, send_by_calls, make_entries, false},
 };
 
 enum { KINDS = sizeof kinds / sizeof *kinds };

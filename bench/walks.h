@@ -1,4 +1,7 @@
-/* The benchmark's rows of calls that go through a whole log: rime_sheet, rime_anything, rime_log_list and rime_salvage. */
+/*
+ * The benchmark's rows of calls that go through a whole log: rime_sheet, rime_anything, rime_log_list and rime_salvage; and of
+ * rime_send_log, which writes one.
+ */
 #ifndef WALKS_H
 #define WALKS_H
 

@@ -26,6 +26,7 @@ enum { DESK_ROOM = (RIME_MOST_MISSING + 1) * RIME_MOST_SLOTS };
 /* Each takes its own arguments, its name first, and returns a status. */
 int desk_send(int argc, char **argv);
 int desk_receive(int argc, char **argv);
+int desk_verify(int argc, char **argv);
 int desk_list(int argc, char **argv);
 int desk_anything(int argc, char **argv);
 int desk_sheet(int argc, char **argv);
@@ -33,6 +34,8 @@ int desk_add(int argc, char **argv);
 int desk_salvage(int argc, char **argv);
 int desk_labels(int argc, char **argv);
 int desk_picture(int argc, char **argv);
+int desk_play(int argc, char **argv);
+int desk_record(int argc, char **argv);
 
 /* say.c: a line on standard error, after the program's name and a file's. */
 int say_failed(const char *name);                                      /* what errno says; returns STATUS_FILE */
@@ -61,8 +64,6 @@ void progress_clear(void); /* for a line of text; the bar is drawn again after i
 void progress_end(void);
 void progress_within(const char *name, uint64_t total); /* a bar in the place of the other one, up to progress_without */
 void progress_without(void);
-void progress_watch(const char *name, const void *start, size_t size); /* how far a call is in what is mapped there */
-void progress_watched(void);
 
 /* limits.c: settings that are refused, with the limit that they pass; and a log whose header is. STATUS_REFUSED. */
 struct settings {
@@ -112,6 +113,35 @@ bool whole_end(struct whole *whole, const char *name, uint64_t octets, bool to_t
  * failed, and that is said.
  */
 int spool(int from, const char *name);
+bool spool_first(int *fd, const char *name, struct whole *whole); /* the same in its place, where it isn't a regular file */
+
+/* Entries of whole cells. */
+struct entries {
+    uint64_t samples[DESK_ROOM];
+    uint8_t ancillary[DESK_ROOM], marks[DESK_ROOM];
+};
+
+enum step {
+    STEP_SOUND,   /* a cell was taken: samples, ancillary, marks, report, given */
+    STEP_REFUSED, /* the receiver refused it: refusal */
+    STEP_END,     /* the log is over */
+    STEP_BROKEN,  /* a framing fault in record `record`: refusal */
+    STEP_FAILED   /* the file can't be read; that was said */
+};
+
+/* slips.c: what second numbers tell of the cells of a log. */
+struct slips {
+    bool off; /* nobody asks, or the format has no overhead */
+    uint8_t watch[RIME_SLIP];
+    unsigned before, perhaps; /* by the cell taken last: cells missing before the one taken before it; perhaps before itself */
+    uint64_t cells, places;   /* told of so far */
+
+    /* the cell that is held, and what came behind it */
+    enum { SLIPS_READS, SLIPS_HOLDS, SLIPS_DECIDED, SLIPS_NEXT } stage;
+    unsigned silence; /* cells of it that are still to be handed out */
+    size_t given, next_given;
+    enum step next;
+};
 
 /*
  * reading.c: a log, read a buffer at a time, and what the receiver makes of each of its records. `-` is standard input.
@@ -134,11 +164,15 @@ struct reading {
     /* of the last record */
     const uint8_t *cell;
     bool indication;
-    uint64_t samples[DESK_ROOM];
-    uint8_t ancillary[DESK_ROOM], marks[DESK_ROOM];
+    struct entries rooms[2], *now, *held_back; /* now: what the receiver wrote */
     uint8_t report[RIME_REPORT];
     unsigned refusal;
-    size_t given; /* how many entries the record handed out */
+
+    /* of the last step: what was handed out */
+    const uint64_t *samples;
+    const uint8_t *ancillary, *marks;
+    size_t given; /* how many entries */
+    struct slips slips;
 
     /* of all records so far */
     uint64_t record; /* records read */
@@ -148,19 +182,13 @@ struct reading {
     uint64_t time;         /* sample times handed out before this record */
 };
 
-enum step {
-    STEP_SOUND,   /* a cell was taken: samples, ancillary, marks, report, given */
-    STEP_REFUSED, /* the receiver refused it: refusal */
-    STEP_END,     /* the log is over */
-    STEP_BROKEN,  /* a framing fault in record `record`: refusal */
-    STEP_FAILED   /* the file can't be read; that was said */
-};
-
 int reading_open(struct reading *reading, const char *name, bool quiet);  /* a status; says what is wrong */
 int reading_header(struct reading *reading);                              /* the refusal; -1 where reading failed */
-int reading_begin(struct reading *reading, const char *name, bool quiet); /* both; a status, and says what is wrong */
+int reading_start(struct reading *reading);                               /* behind reading_open: the header; a status, so too */
+int reading_begin(struct reading *reading, const char *name, bool quiet); /* both; so too */
+int reading_twice(struct reading *reading); /* behind reading_open: keeps what comes from a pipe, and reads the header; so too */
+int reading_again(struct reading *reading); /* after that: from the start of the log; so too */
 enum step reading_step(struct reading *reading);
-bool reading_cut(struct reading *reading, uint64_t *cut); /* of a broken log: octets from the fault's record to the end */
 void reading_close(struct reading *reading);
 int reading_broken(const struct reading *reading); /* says where the log is broken; returns STATUS_REFUSED */
 

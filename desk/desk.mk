@@ -1,4 +1,4 @@
-# The desk tool: target/desk/rimesatchel, over the proved library, libsndfile and cairo. The Makefile includes this file.
+# The desk tool: target/desk/rimesatchel, over the proved library, libsndfile, cairo, jansson and libmd. The Makefile includes this file.
 #
 # RIME_LIB   the folder of librimesatchel.a
 # DESK       the folder in which the tool is built
@@ -8,6 +8,7 @@ RIME_LIB ?= $(CURDIR)/target/staticlib
 DESK ?= target/desk
 DESK_SOURCES := $(wildcard desk/*.c)
 DESK_HEADERS := $(wildcard desk/*.h) include/rimesatchel.h
+DESK_LIBRARIES := sndfile cairo jansson libmd
 DESK_FLAGS := -std=c11 -D_GNU_SOURCE -O2 -Wall -Wextra -Werror -Iinclude $(DESK_MORE)
 
 .PHONY: desk desk-needs
@@ -15,12 +16,12 @@ desk: $(DESK)/rimesatchel
 
 # What it is built with, by the names of Debian's packages.
 desk-needs:
-	@bash tests/need.sh pkg-config libsndfile1-dev libcairo2-dev
+	@bash tests/need.sh pkg-config libsndfile1-dev libcairo2-dev libjansson-dev libmd-dev
 
 $(DESK)/rimesatchel: $(DESK_SOURCES) $(DESK_HEADERS) $(RIME_LIB)/librimesatchel.a | desk-needs
 	@mkdir -p $(DESK)
-	gcc $(DESK_FLAGS) $$(pkg-config --cflags sndfile cairo) $(DESK_SOURCES) $(RIME_LIB)/librimesatchel.a \
-	    $$(pkg-config --libs sndfile cairo) -lm -o $@
+	gcc $(DESK_FLAGS) $$(pkg-config --cflags $(DESK_LIBRARIES)) $(DESK_SOURCES) $(RIME_LIB)/librimesatchel.a \
+	    $$(pkg-config --libs $(DESK_LIBRARIES)) -lm -o $@
 
 .PHONY: demo
 demo: desk-needs
@@ -39,8 +40,8 @@ desk-limits: desk
 .PHONY: desk-fuzz
 $(DESK)/rimesatchel-asan: $(DESK_SOURCES) $(DESK_HEADERS) $(RIME_LIB)/librimesatchel.a | desk-needs
 	@mkdir -p $(DESK)
-	gcc $(DESK_FLAGS) -g -O1 -fsanitize=address,undefined -fno-sanitize-recover=all $$(pkg-config --cflags sndfile cairo) \
-	    $(DESK_SOURCES) $(RIME_LIB)/librimesatchel.a $$(pkg-config --libs sndfile cairo) -lm -o $@
+	gcc $(DESK_FLAGS) -g -O1 -fsanitize=address,undefined -fno-sanitize-recover=all $$(pkg-config --cflags $(DESK_LIBRARIES)) \
+	    $(DESK_SOURCES) $(RIME_LIB)/librimesatchel.a $$(pkg-config --libs $(DESK_LIBRARIES)) -lm -o $@
 
 desk-fuzz: $(DESK)/rimesatchel-asan
 	python3 tests/desk_fuzz.py $< 300 $(SEED)
@@ -51,3 +52,8 @@ LOGS ?= 1010
 desk-third: $(DESK)/rimesatchel-asan
 	@bash tests/need.sh sox
 	ASAN_OPTIONS=detect_leaks=0 python3 tests/desk_third.py $< $(LOGS) $(or $(SEED),1)
+
+# The line with sockets, full disks, spoiled input and an hour over two namespaces.
+.PHONY: line
+line: desk
+	@bash tests/line.sh

@@ -6,6 +6,8 @@
 #include <stdlib.h>
 #include <string.h>
 
+#include "json.h"
+
 const char plain_names[] =
     "log,sound,missing,refused 8,refused 9,refused 15,refused 20,marked 0,marked 1,marked 2,missing per million";
 const char more_names[] = ",state,file";
@@ -78,6 +80,27 @@ static void print_rows(const struct sheet *sheet) {
     puts(sheet->plain ? "" : ",,");
 }
 
+static void tell_figures(const struct figures *figures) {
+    static const char *const keys[FIGURES] = {"sound",    "missing",  "refused_8", "refused_9", "refused_15",
+                                              "refused_20", "marked_0", "marked_1",  "marked_2",  "missing_per_million"};
+    for (unsigned at = 0; at < FIGURES; at++) doc_number(keys[at], figures->of[at]);
+}
+
+void sheet_tell(const struct sheet *sheet) {
+    doc_array("logs");
+    for (size_t at = 0; at < sheet->logs; at++) {
+        doc_object(NULL);
+        doc_text("log", sheet->rows[at].file);
+        tell_figures(&sheet->rows[at].figures);
+        doc_text("state", sheet->rows[at].state);
+        doc_end();
+    }
+    doc_end();
+    doc_object("all");
+    tell_figures(&sheet->all);
+    doc_end();
+}
+
 int sheet_print(struct sheet *sheet) {
     if (sheet->refusal != RIME_DONE) {
         printf("sheet refused %u\n", sheet->refusal);
@@ -87,6 +110,7 @@ int sheet_print(struct sheet *sheet) {
         warnx("the logs: a total passes 18,446,744,073,709,551,615, and no sheet is printed");
         return STATUS_REFUSED;
     }
-    print_rows(sheet);
+    if (sheet->json) sheet_tell(sheet);
+    else print_rows(sheet);
     return STATUS_WELL;
 }

@@ -41,6 +41,7 @@ struct sheet {
     struct figures all;
     uint64_t stated;  /* rows that have a state */
     bool plain;       /* the sheet of request 3 itself: its columns and its limits */
+    bool json;        /* printed as JSON */
     bool overflow;    /* a total has no room in 64 bits */
     unsigned refusal; /* 18 or 19 of a plain sheet, or 0 */
 };
@@ -48,6 +49,7 @@ struct sheet {
 /* figures.c */
 extern const char plain_names[], more_names[]; /* the columns of a plain sheet, and those that any other has after them */
 void sheet_take(struct sheet *sheet, const struct row *row); /* the next log's: its first nine figures, state and name */
+void sheet_tell(const struct sheet *sheet); /* the same in JSON: the members `logs` and `all`, of a sheet that isn't refused */
 int sheet_print(struct sheet *sheet); /* a status. A plain one that is refused is a line that says so, and so it is told */
 
 /* readback.c: takes the rows of sheets that were printed, plain or not, one after the other in a file. A status; says what is

@@ -1,6 +1,7 @@
 /* Samples of a log as a sound file has them. */
 #include "fitting.h"
 
+#include "slips.h"
 #include "sound.h"
 
 struct fitting fitting_of(unsigned sample_bits, unsigned bits, unsigned cut) {
@@ -43,4 +44,15 @@ size_t fitting_put(struct fitting *fitting, const uint64_t *samples, size_t coun
     if (fitting->file_bits == SOUND_FLOAT) put_real(fitting->sample_bits, samples, count, to->real + place);
     else put_all(fitting->sample_bits, samples, count, to->whole + place);
     return count;
+}
+
+enum step fitting_try(struct reading *reading, unsigned bits, bool *fits) {
+    uint64_t low = reading->format.sample_bits <= bits ? 0 : ((uint64_t)1 << (reading->format.sample_bits - bits)) - 1, any = 0;
+    enum step step = STEP_SOUND;
+    while (any == 0 && low != 0 && (step == STEP_SOUND || step == STEP_REFUSED)) {
+        step = slips_step(reading);
+        for (size_t at = 0; at < reading->given; at++) any |= reading->samples[at] & low;
+    }
+    *fits = any == 0;
+    return step;
 }

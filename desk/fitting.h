@@ -22,4 +22,7 @@ struct fitting fitting_of(unsigned sample_bits, unsigned bits, unsigned cut);
 /* Puts samples into a run from a place on. Returns how many: all, or those before the first that has bits too many. */
 size_t fitting_put(struct fitting *fitting, const uint64_t *samples, size_t count, union fitted *to, size_t place);
 
+/* Goes through a log to its end or its fault: whether every sample has zeros below so many top bits. Returns the last step. */
+enum step fitting_try(struct reading *reading, unsigned bits, bool *fits);
+
 #endif

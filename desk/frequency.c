@@ -6,10 +6,14 @@
 #include <stdlib.h>
 #include <string.h>
 
+#include "blocks.h"
+#include "slips.h"
 #include "status.h"
 
 /* A block of one channel: the first of all that names a frequency decides. */
-static void take_block(struct frequency *frequency, unsigned channel, const uint8_t out[RIME_OUT]) {
+static void take_block(void *user, unsigned channel, const uint8_t out[RIME_OUT], uint64_t past) {
+    struct frequency *frequency = user;
+    (void)past;
     if (!status_counts(out)) return;
     frequency->lengths |= (uint64_t)1 << status_sample_bits(out + RIME_OUT_OCTETS);
     unsigned rate = status_rate(out + RIME_OUT_OCTETS);
@@ -22,14 +26,10 @@ static void take_block(struct frequency *frequency, unsigned channel, const uint
 
 /* The blocks that end in the first sample times of what is held. */
 static void take_blocks(struct frequency *frequency) {
-    uint8_t blocks[RIME_MOST_SLOTS][RIME_BLOCK] = {{0}};
+    struct blocks blocks = {0};
     unsigned channels = frequency->reading->channels;
-    for (size_t at = 0; at < frequency->held && at < (size_t)FREQUENCY_TIMES * channels; at++) {
-        uint8_t out[RIME_OUT];
-        unsigned channel = (unsigned)(at % channels);
-        rime_status_step(blocks[channel], frequency->ancillary[at], frequency->marks[at], out);
-        if (out[RIME_OUT_ANSWER] != RIME_STATUS_NONE) take_block(frequency, channel, out);
-    }
+    size_t most = (size_t)FREQUENCY_TIMES * channels, given = frequency->held < most ? frequency->held : most;
+    blocks_take(&blocks, channels, frequency->ancillary, frequency->marks, given, take_block, frequency);
 }
 
 static void settle(struct frequency *frequency) {
@@ -40,7 +40,11 @@ static void settle(struct frequency *frequency) {
         progress_clear();
         warnx("%s: channel status says %u Hz in %llu block%s, the first of them in channel %u: %s%u Hz is used",
               frequency->reading->name, named->rate, (unsigned long long)named->blocks, plural(named->blocks),
-              named->channel + 1, frequency->asked != 0 ? "--rate " : "", frequency->rate);
+              named->channel + 1,
+              frequency->by_sidecar     ? "the sidecar's "
+              : frequency->asked != 0 ? "--rate "
+                                      : "",
+              frequency->rate);
         frequency->contradicted = true;
     }
 }
@@ -62,7 +66,7 @@ static void hold_first(struct frequency *frequency) {
     if (frequency->samples == NULL || frequency->ancillary == NULL) err(STATUS_FILE, "%s", reading->name);
     frequency->marks = frequency->ancillary + room;
     while (frequency->held < enough && (frequency->step == STEP_SOUND || frequency->step == STEP_REFUSED)) {
-        frequency->step = reading_step(reading);
+        frequency->step = slips_step(reading);
         if (frequency->step == STEP_SOUND) hold(frequency);
     }
 }
@@ -97,12 +101,16 @@ enum step frequency_walk(struct frequency *frequency, handed_taken *take, void *
     struct reading *reading = frequency->reading;
     enum step step = frequency->step;
     if (!hand_held(frequency, take, user)) return step;
-    struct handed handed = {.samples = reading->samples, .ancillary = reading->ancillary, .marks = reading->marks};
     while (step == STEP_SOUND || step == STEP_REFUSED) {
-        step = reading_step(reading);
+        step = slips_step(reading);
         if (step != STEP_SOUND) continue;
-        handed.given = reading->given;
-        handed.time = reading->time;
+        struct handed handed = {
+            .samples = reading->samples,
+            .ancillary = reading->ancillary,
+            .marks = reading->marks,
+            .given = reading->given,
+            .time = reading->time,
+        };
         if (!take(&handed, user)) break;
     }
     return step;
@@ -112,9 +120,15 @@ bool frequency_assumed(const struct frequency *frequency) {
     return frequency->asked == 0 && frequency->named[0].rate == 0;
 }
 
+const char *frequency_by(const struct frequency *frequency) {
+    if (frequency->asked != 0) return frequency->by_sidecar ? "sidecar" : "--rate";
+    return frequency_assumed(frequency) ? "assumed" : "channel status";
+}
+
 const char *frequency_words(const struct frequency *frequency, char words[FREQUENCY_WORDS]) {
-    snprintf(words, FREQUENCY_WORDS, "%u Hz%s", frequency->rate,
-             frequency->asked != 0 ? "" : frequency_assumed(frequency) ? ", assumed" : ", by channel status");
+    static const char *const said[] = {"", ", by the sidecar", ", assumed", ", by channel status"};
+    unsigned by = frequency->asked != 0 ? frequency->by_sidecar : frequency_assumed(frequency) ? 2 : 3;
+    snprintf(words, FREQUENCY_WORDS, "%u Hz%s", frequency->rate, said[by]);
     return words;
 }
 

@@ -21,7 +21,8 @@ struct handed {
 typedef bool handed_taken(const struct handed *handed, void *user); /* false where no more is wanted */
 
 struct frequency {
-    unsigned asked; /* by --rate, 0 where it isn't given */
+    unsigned asked;  /* by --rate or a sidecar, 0 where neither gives it */
+    bool by_sidecar; /* it is a sidecar's */
 
     unsigned rate;      /* that is used */
     uint64_t lengths;   /* bit N: channel status says words of N bits */
@@ -43,6 +44,7 @@ void frequency_find(struct frequency *frequency, struct reading *reading);
 /* Hands out what is held, at most DESK_ROOM entries at a time, and then the rest of the log. Returns the last step. */
 enum step frequency_walk(struct frequency *frequency, handed_taken *take, void *user);
 bool frequency_assumed(const struct frequency *frequency); /* nothing says it */
+const char *frequency_by(const struct frequency *frequency); /* what says it: "--rate", "sidecar", "channel status", "assumed" */
 /* "44100 Hz, by channel status", "48000 Hz, assumed", "96000 Hz" */
 enum { FREQUENCY_WORDS = 40 };
 const char *frequency_words(const struct frequency *frequency, char words[FREQUENCY_WORDS]);

@@ -6,8 +6,11 @@
 #include <string.h>
 #include <unistd.h>
 
+#include "blocks.h"
 #include "frequency.h"
+#include "json.h"
 #include "options.h"
+#include "slips.h"
 #include "status.h"
 
 /* Octets of a block that are compared with the one before it: those up to the sample addresses, which count on, and the
@@ -15,24 +18,28 @@
 enum { ALIKE = 14, FLAGS = 22 };
 
 struct channel {
-    uint8_t block[RIME_BLOCK]; /* under assembly */
-    uint8_t said[RIME_OUT];    /* the last that was handed out: answer, then octets */
-    uint64_t count;            /* blocks like it in a row, 0 before the first */
-    uint64_t from, past;       /* sample times of theirs */
+    uint8_t said[RIME_OUT]; /* the last that was handed out: answer, then octets */
+    uint64_t count;         /* blocks like it in a row, 0 before the first */
+    uint64_t from, past;    /* sample times of theirs */
     uint64_t lines;
 };
 
 struct labels {
     const char *name;
-    bool quiet;
+    bool quiet, json, no_slips;
+    bool told;    /* the document is begun */
     bool assumed; /* a line counts its seconds by a frequency that nothing says */
     struct reading reading;
     struct frequency frequency;
     struct channel channels[RIME_MOST_SLOTS];
+    struct blocks blocks;
+    uint64_t time; /* sample times before what is handed out */
 };
 
 static const struct argp_option options[] = {
     {"rate", 'r', "HZ", 0, "sampling frequency, whatever channel status says; without both it is 48000", 0},
+    {"json", 'j', NULL, 0, "print a document of JSON", 0},
+    {"no-slips", OPTION_NO_SLIPS, NULL, 0, "put in nothing for cells that only second numbers tell of", 0},
     {"quiet", 'q', NULL, 0, "no bar", 0},
     {0},
 };
@@ -41,6 +48,8 @@ static error_t parse(int key, char *word, struct argp_state *state) {
     struct labels *labels = state->input;
     switch (key) {
     case 'r': labels->frequency.asked = option_rate(state, word); break;
+    case 'j': labels->json = true; break;
+    case OPTION_NO_SLIPS: labels->no_slips = true; break;
     case 'q': labels->quiet = true; break;
     case ARGP_KEY_ARG:
         if (state->arg_num > 0) argp_usage(state);
@@ -84,9 +93,44 @@ static unsigned rate_of(struct labels *labels, const uint8_t said[RIME_OUT]) {
     return frequency->rate;
 }
 
-static void say_blocks(struct labels *labels, unsigned number) {
-    static const char *const answers[] = {"neither", "doesn't fit", "fits", "none carried"};
+static const char *const answers[] = {"neither", "doesn't fit", "fits", "none carried"};
+
+static void tell_letters(const char *key, const uint8_t *letters) {
+    size_t count = STATUS_LETTERS;
+    while (count > 0 && letters[count - 1] == 0) count--;
+    doc_octets(key, letters, count);
+}
+
+static void tell_professional(const uint8_t *octets) {
+    unsigned rate = status_rate(octets), bits = status_sample_bits(octets);
+    if (rate != 0) doc_number("rate", rate);
+    if (bits != 0) doc_number("bits", bits);
+    doc_flag("flagged", status_flagged(octets));
+    tell_letters("origin", octets + STATUS_ORIGIN);
+    tell_letters("destination", octets + STATUS_DESTINATION);
+}
+
+static void tell_blocks(struct labels *labels, unsigned number) {
     const struct channel *channel = &labels->channels[number];
+    unsigned answer = channel->said[RIME_OUT_ANSWER];
+    doc_object(NULL);
+    doc_number("channel", number + 1);
+    doc_number("from", channel->from);
+    doc_number("past", channel->past);
+    doc_number("seconds_at", rate_of(labels, channel->said));
+    doc_number("blocks", channel->count);
+    doc_text("answer", answers[answer % 4]);
+    doc_flag("professional", answer != RIME_STATUS_NONE_CARRIED);
+    if (answer != RIME_STATUS_NONE_CARRIED) tell_professional(channel->said + RIME_OUT_OCTETS);
+    doc_end();
+}
+
+static void say_blocks(struct labels *labels, unsigned number) {
+    const struct channel *channel = &labels->channels[number];
+    if (labels->json) {
+        tell_blocks(labels, number);
+        return;
+    }
     unsigned answer = channel->said[RIME_OUT_ANSWER], rate = rate_of(labels, channel->said);
     printf("channel %u: %.6f to %.6f s, %llu block%s: %s", number + 1, (double)channel->from / rate,
            (double)channel->past / rate, (unsigned long long)channel->count, plural(channel->count),
@@ -100,8 +144,10 @@ static bool are_alike(const uint8_t a[RIME_OUT], const uint8_t b[RIME_OUT]) {
     return memcmp(a, b, RIME_OUT_OCTETS + ALIKE) == 0 && a[RIME_OUT_OCTETS + FLAGS] == b[RIME_OUT_OCTETS + FLAGS];
 }
 
-static void take_block(struct labels *labels, unsigned number, const uint8_t *out, uint64_t past) {
+static void take_block(void *user, unsigned number, const uint8_t *out, uint64_t passed) {
+    struct labels *labels = user;
     struct channel *channel = &labels->channels[number];
+    uint64_t past = labels->time + passed;
     if (channel->count == 0 || !are_alike(out, channel->said)) {
         if (channel->count > 0) say_blocks(labels, number);
         memcpy(channel->said, out, RIME_OUT);
@@ -116,26 +162,56 @@ static void take_block(struct labels *labels, unsigned number, const uint8_t *ou
 /* Brings each channel's block forward by what is handed out. */
 static bool take(const struct handed *handed, void *user) {
     struct labels *labels = user;
-    unsigned channels = labels->reading.channels;
-    for (size_t at = 0; at < handed->given; at++) {
-        unsigned number = (unsigned)(at % channels);
-        uint8_t out[RIME_OUT];
-        rime_status_step(labels->channels[number].block, handed->ancillary[at], handed->marks[at], out);
-        if (out[RIME_OUT_ANSWER] != RIME_STATUS_NONE) take_block(labels, number, out, handed->time + at / channels + 1);
-    }
+    labels->time = handed->time;
+    blocks_take(&labels->blocks, labels->reading.channels, handed->ancillary, handed->marks, handed->given, take_block, labels);
     return true;
+}
+
+/* What each channel had last, or that it had none. */
+static void say_rest(struct labels *labels) {
+    const struct reading *reading = &labels->reading;
+    for (unsigned number = 0; number < reading->channels; number++)
+        if (labels->channels[number].count > 0) say_blocks(labels, number);
+        else if (labels->json) continue;
+        else if (reading->format.ancillary) printf("channel %u: no channel status block\n", number + 1);
+        else printf("channel %u: no channel status block: the format has no ancillary bits\n", number + 1);
+}
+
+static void begin_document(struct labels *labels) {
+    const struct reading *reading = &labels->reading;
+    labels->told = true;
+    doc_object(NULL);
+    doc_text("log", labels->name);
+    doc_number("format", reading->header[RIME_HEADER_FORMAT]);
+    doc_number("channels", reading->channels);
+    doc_number("order", reading->header[RIME_HEADER_ORDER]);
+    doc_flag("ancillary", reading->format.ancillary);
+    doc_number("rate", labels->frequency.rate);
+    doc_text("rate_by", frequency_by(&labels->frequency));
+    doc_array("blocks");
+}
+
+static void end_document(const struct labels *labels, int status) {
+    if (!labels->told) {
+        doc_object(NULL);
+        doc_text("log", labels->name);
+        if (status == STATUS_REFUSED) doc_refusal("refused", labels->reading.refusal);
+    }
+    doc_number("status", (uint64_t)status);
+    doc_end();
 }
 
 static int label_all(struct labels *labels) {
     struct reading *reading = &labels->reading;
     frequency_find(&labels->frequency, reading);
+    if (labels->json) begin_document(labels);
     enum step step = frequency_walk(&labels->frequency, take, labels);
     progress_end();
+    if (step != STEP_FAILED) say_rest(labels);
+    if (labels->json) doc_end();
     if (step == STEP_FAILED) return STATUS_FILE;
-    for (unsigned number = 0; number < reading->channels; number++)
-        if (labels->channels[number].count > 0) say_blocks(labels, number);
-        else if (reading->format.ancillary) printf("channel %u: no channel status block\n", number + 1);
-        else printf("channel %u: no channel status block: the format has no ancillary bits\n", number + 1);
+    slips_say(&reading->slips, reading->name);
+    if (labels->json && step == STEP_BROKEN) doc_broken(reading->record, reading->refusal);
     if (labels->assumed && !labels->quiet)
         warnx("%s: seconds are counted at %u Hz, which is assumed (--rate)", reading->name, labels->frequency.rate);
     return step == STEP_BROKEN ? reading_broken(reading) : STATUS_WELL;
@@ -151,9 +227,12 @@ int desk_labels(int argc, char **argv) {
     };
     argp_parse(&argp, argc, argv, 0, NULL, &labels);
     int status = reading_begin(&labels.reading, labels.name, labels.quiet || isatty(STDOUT_FILENO));
-    if (status != STATUS_WELL) return status;
-    status = label_all(&labels);
-    reading_close(&labels.reading);
-    frequency_close(&labels.frequency);
+    if (labels.no_slips) labels.reading.slips.off = true;
+    if (status == STATUS_WELL) {
+        status = label_all(&labels);
+        reading_close(&labels.reading);
+        frequency_close(&labels.frequency);
+    } else if (!labels.json) return status;
+    if (labels.json) end_document(&labels, status);
     return printed(status);
 }

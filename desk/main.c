@@ -16,10 +16,12 @@ static const struct {
     int (*run)(int argc, char **argv);
 } commands[] = {
     {"send", "rimesatchel send", desk_send},          {"receive", "rimesatchel receive", desk_receive},
+    {"verify", "rimesatchel verify", desk_verify},
     {"list", "rimesatchel list", desk_list},          {"anything", "rimesatchel anything", desk_anything},
     {"sheet", "rimesatchel sheet", desk_sheet},       {"add", "rimesatchel add", desk_add},
     {"salvage", "rimesatchel salvage", desk_salvage}, {"labels", "rimesatchel labels", desk_labels},
-    {"picture", "rimesatchel picture", desk_picture},
+    {"picture", "rimesatchel picture", desk_picture}, {"play", "rimesatchel play", desk_play},
+    {"record", "rimesatchel record", desk_record},
 };
 
 static const char about[] =
@@ -27,6 +29,7 @@ static const char about[] =
     "Subcommands; each has its own --help:\n"
     "  send IN.wav OUT.log      packs a sound file into a log\n"
     "  receive IN.log OUT.wav   writes a log's sound, and shows what is missing\n"
+    "  verify SOUND LOG         whether a log carries a sound file, sample for sample\n"
     "  list FILE..              what the receiver makes of each record\n"
     "  anything FILE..          whether there is any sound on a log at all\n"
     "  sheet FILE..             figures of many logs: cells sound, missing and refused, samples by their marks\n"
@@ -34,6 +37,8 @@ static const char about[] =
     "  salvage IN.log OUT.log   a new log of the records that the receiver takes\n"
     "  labels IN.log            the channel status blocks that a log carries\n"
     "  picture IN.log OUT.png   draws the reading over time\n"
+    "  play LOG                 plays a log onto the line, or into a capture\n"
+    "  record OUT.log           records what comes from the line, or from a capture\n"
     "\n"
     "A name - is standard input or standard output. Ends with 0 where all is well, 1 where the answer is a no, 2 for a "
     "refusal or a broken log, 3 where a file can't be read or written, 64 for a wrong call.";

@@ -9,6 +9,8 @@
 
 #include "desk.h"
 
+enum { OPTION_NO_SLIPS = 256, OPTION_SLIPS, OPTION_BLOCKS }; /* options without a letter */
+
 /* Names of files, at least one. */
 struct names {
     char **words;

@@ -12,6 +12,7 @@
 #include "bins.h"
 #include "options.h"
 #include "place.h"
+#include "slips.h"
 #include "stretches.h"
 
 enum { WIDTH = 1600, LEFT = 60, RIGHT = 30, PLOT = WIDTH - LEFT - RIGHT };
@@ -26,7 +27,7 @@ static const struct colour ink = {38, 38, 38}, faint = {209, 209, 209}, sound_co
 
 struct picture {
     const char *in_name, *out_name;
-    bool force, quiet;
+    bool force, quiet, no_slips;
     struct reading reading;
     struct frequency frequency;
     struct bins bins;
@@ -41,6 +42,7 @@ struct picture {
 static const struct argp_option options[] = {
     {"rate", 'r', "HZ", 0, "sampling frequency, whatever channel status says; without both it is 48000", 0},
     {"force", 'F', NULL, 0, "write over OUT.png if it is there", 0},
+    {"no-slips", OPTION_NO_SLIPS, NULL, 0, "put in nothing for cells that only second numbers tell of", 0},
     {"quiet", 'q', NULL, 0, "no bar", 0},
     {0},
 };
@@ -50,6 +52,7 @@ static error_t parse(int key, char *word, struct argp_state *state) {
     switch (key) {
     case 'r': picture->frequency.asked = option_rate(state, word); break;
     case 'F': picture->force = true; break;
+    case OPTION_NO_SLIPS: picture->no_slips = true; break;
     case 'q': picture->quiet = true; break;
     default: return option_pair(state, key, word, &picture->in_name, &picture->out_name);
     }
@@ -179,9 +182,9 @@ static void draw_head(const struct picture *picture) {
     text(cairo, LEFT, 28, words);
     cairo_set_font_size(cairo, 14);
     double x = draw_entry(cairo, LEFT, sound_colour, "sound");
-    snprintf(words, sizeof words, "missing: %llu cell%s in %llu place%s, %.3f s", (unsigned long long)reading->missing,
-             plural(reading->missing), (unsigned long long)reading->gaps, plural(reading->gaps),
-             (double)(reading->missing * reading->times) / picture->frequency.rate);
+    unsigned long long missing = reading->missing + reading->slips.cells, gaps = reading->gaps + reading->slips.places;
+    snprintf(words, sizeof words, "missing: %llu cell%s in %llu place%s, %.3f s", missing, plural(missing), gaps, plural(gaps),
+             (double)(missing * reading->times) / picture->frequency.rate);
     x = draw_entry(cairo, x, missing_colour, words);
     snprintf(words, sizeof words, "damaged: %llu sample%s in %llu place%s", (unsigned long long)picture->damaged,
              plural(picture->damaged), (unsigned long long)picture->damaged_places, plural(picture->damaged_places));
@@ -240,6 +243,7 @@ static int picture_log(struct picture *picture) {
     stretches_end(&picture->stretches, count_stretch, picture);
     progress_end();
     if (step == STEP_FAILED) return STATUS_FILE;
+    slips_say(&reading->slips, reading->name);
     status = draw(picture);
     return status == STATUS_WELL && step == STEP_BROKEN ? reading_broken(reading) : status;
 }
@@ -257,6 +261,7 @@ int desk_picture(int argc, char **argv) {
     if (!place_ends(picture.out_name, "png")) errx(EX_USAGE, "%s: a picture is PNG: .png, or no ending", picture.out_name);
     int status = reading_begin(&picture.reading, picture.in_name, picture.quiet);
     if (status != STATUS_WELL) return status;
+    if (picture.no_slips) picture.reading.slips.off = true;
     status = picture_log(&picture);
     reading_close(&picture.reading);
     frequency_close(&picture.frequency);

@@ -112,9 +112,9 @@ static bool same_file(const struct place *one, const struct place *other) {
 
 static void hold_apart(const char *output, const char *name, bool is_output) {
     struct place one, other;
-    bool standard = is_output && strcmp(output, "-") == 0 && strcmp(name, "-") == 0; /* two outputs would be mixed */
     find(&one, output, STDOUT_FILENO);
     find(&other, name, is_output ? STDOUT_FILENO : STDIN_FILENO);
+    bool standard = is_output && one.descriptor >= 0 && one.descriptor == other.descriptor; /* two outputs would be mixed */
     bool same = standard || same_file(&one, &other);
     free(one.path);
     free(other.path);

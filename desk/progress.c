@@ -1,8 +1,5 @@
 /* A bar on a terminal, from the first second on; nothing in a pipe. */
-#include <fcntl.h>
-#include <signal.h>
 #include <stdio.h>
-#include <sys/time.h>
 #include <time.h>
 #include <unistd.h>
 
@@ -18,15 +15,9 @@ static struct {
     bool on;
 } bar;
 
-/* What a bar within the bar stands in for, and what is watched. */
+/* What a bar within the bar stands in for. */
 static const char *outer_name;
 static uint64_t outer_total;
-static struct {
-    const uint8_t *start;
-    size_t size;
-    size_t page;
-    int map; /* of this process's pages; -1 where nothing is watched */
-} watched = {.map = -1};
 
 static int tenths(void) {
     struct timespec now;
@@ -82,48 +73,4 @@ void progress_without(void) {
     progress_clear();
     bar.name = outer_name;
     bar.total = outer_total;
-}
-
-/* Whether a page of what is watched is in this process's memory. */
-static bool is_here(size_t page) {
-    uint64_t entry;
-    off_t place = (off_t)(((uintptr_t)watched.start / watched.page + page) * sizeof entry);
-    return pread(watched.map, &entry, sizeof entry, place) == sizeof entry && entry >> 63 != 0;
-}
-
-/* The call goes from the start to the end, and a page is here once it came to it: so where the first pages end that are. */
-static void look(int signal) {
-    (void)signal;
-    size_t low = 0, high = watched.size / watched.page;
-    while (low < high) {
-        size_t middle = low + (high - low) / 2;
-        if (is_here(middle)) low = middle + 1;
-        else high = middle;
-    }
-    progress_at((uint64_t)low * watched.page);
-}
-
-/* The handler runs only while a proved call does, which calls nothing of the C library. */
-void progress_watch(const char *name, const void *start, size_t size) {
-    if (!bar.on || size == 0) return;
-    watched.map = open("/proc/self/pagemap", O_RDONLY | O_CLOEXEC);
-    if (watched.map < 0) return;
-    watched.start = start;
-    watched.size = size;
-    watched.page = (size_t)sysconf(_SC_PAGESIZE);
-    progress_within(name, size);
-    struct sigaction action = {.sa_handler = look, .sa_flags = SA_RESTART};
-    struct itimerval often = {{0, 200000}, {0, 200000}};
-    sigaction(SIGALRM, &action, NULL);
-    setitimer(ITIMER_REAL, &often, NULL);
-}
-
-void progress_watched(void) {
-    if (watched.map < 0) return;
-    struct itimerval never = {0};
-    setitimer(ITIMER_REAL, &never, NULL);
-    signal(SIGALRM, SIG_IGN);
-    close(watched.map);
-    watched.map = -1;
-    progress_without();
 }

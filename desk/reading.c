@@ -30,9 +30,8 @@ void reading_close(struct reading *reading) {
     reading->buffer = NULL;
 }
 
-/* Sees that so many octets are held from the place on, or all that there are. */
-static bool hold(struct reading *reading, size_t count) {
-    if (reading->held - reading->place >= count || reading->ended) return true;
+/* Reads until so many octets are held from the place on, or all that there are. */
+static bool fill(struct reading *reading, size_t count) {
     reading->held -= reading->place;
     memmove(reading->buffer, reading->buffer + reading->place, reading->held);
     reading->place = 0;
@@ -52,6 +51,11 @@ static bool hold(struct reading *reading, size_t count) {
     return true;
 }
 
+/* Sees that so many octets are held from the place on, or all that there are. */
+static inline bool hold(struct reading *reading, size_t count) {
+    return reading->held - reading->place >= count || reading->ended || fill(reading, count);
+}
+
 /* What was read so far is still there, and where the end was met, it is that of the file. Says what is wrong. */
 static bool is_whole(struct reading *reading) {
     progress_clear();
@@ -66,26 +70,56 @@ int reading_header(struct reading *reading) {
         refusal = rime_receiver_open(header[RIME_HEADER_FORMAT], header[RIME_HEADER_CHANNELS],
                                      header[RIME_HEADER_ORDER], reading->state);
     if (refusal != RIME_DONE) return is_whole(reading) ? (int)refusal : -1;
+    reading->now = &reading->rooms[0];
+    reading->held_back = &reading->rooms[1];
     reading->place = header[RIME_HEADER_PLACE];
     reading->format = format_of(header[RIME_HEADER_FORMAT]);
     reading->channels = header[RIME_HEADER_CHANNELS];
+    if (!reading->format.overhead) reading->slips.off = true;
     reading->times = reading->format.slots / reading->channels;
     reading->entries = reading->channels * reading->times;
     return RIME_DONE;
 }
 
-int reading_begin(struct reading *reading, const char *name, bool quiet) {
-    int status = reading_open(reading, name, quiet);
-    if (status != STATUS_WELL) return status;
+/* The header; where there is none to go on with, that is said, and the log closed. */
+int reading_start(struct reading *reading) {
     int refusal = reading_header(reading);
     if (refusal == RIME_DONE) return STATUS_WELL;
-    status = refusal < 0 ? STATUS_FILE : say_header(reading->name, reading->buffer, reading->held, (unsigned)refusal);
+    reading->refusal = refusal < 0 ? RIME_DONE : (unsigned)refusal;
+    int status = refusal < 0 ? STATUS_FILE : say_header(reading->name, reading->buffer, reading->held, reading->refusal);
     reading_close(reading);
     return status;
 }
 
+int reading_begin(struct reading *reading, const char *name, bool quiet) {
+    int status = reading_open(reading, name, quiet);
+    return status == STATUS_WELL ? reading_start(reading) : status;
+}
+
+int reading_twice(struct reading *reading) {
+    if (spool_first(&reading->fd, reading->name, &reading->whole)) return reading_start(reading);
+    reading_close(reading);
+    return STATUS_FILE;
+}
+
+int reading_again(struct reading *reading) {
+    if (lseek(reading->fd, (off_t)reading->whole.start, SEEK_SET) < 0) {
+        int status = say_failed(reading->name);
+        reading_close(reading);
+        return status;
+    }
+    struct reading fresh = {.name = reading->name, .fd = reading->fd, .buffer = reading->buffer, .limit = reading->limit,
+                            .slips = {.off = reading->slips.off}};
+    *reading = fresh;
+    whole_begin(&reading->whole, reading->fd);
+    return reading_start(reading);
+}
+
 static enum step taken(struct reading *reading) {
     unsigned missing = reading->report[RIME_REPORT_MISSING];
+    reading->samples = reading->now->samples;
+    reading->ancillary = reading->now->ancillary;
+    reading->marks = reading->now->marks;
     reading->given = (missing + 1) * reading->entries;
     reading->sound++;
     reading->missing += missing;
@@ -117,24 +151,14 @@ enum step reading_step(struct reading *reading) {
     reading->indication = found[RIME_RECORD_INDICATION] == 1;
     reading->place = found[RIME_RECORD_NEXT];
     reading->refusal =
-        rime_receive(reading->state, reading->cell, RIME_CELL_OCTETS, reading->indication, reading->samples, DESK_ROOM,
-                     reading->ancillary, DESK_ROOM, reading->marks, DESK_ROOM, reading->report);
+        rime_receive(reading->state, reading->cell, RIME_CELL_OCTETS, reading->indication, reading->now->samples, DESK_ROOM,
+                     reading->now->ancillary, DESK_ROOM, reading->now->marks, DESK_ROOM, reading->report);
     reading->record++;
     if (reading->refusal == RIME_DONE) return taken(reading);
     reading->refused++;
     reading->refused_by[reading->refusal]++;
     reading->refused_last++;
     return STEP_REFUSED;
-}
-
-bool reading_cut(struct reading *reading, uint64_t *cut) {
-    *cut = reading->held - reading->place;
-    while (!reading->ended) {
-        reading->place = reading->held;
-        if (!hold(reading, 1)) return false;
-        *cut += reading->held - reading->place;
-    }
-    return is_whole(reading);
 }
 
 int reading_broken(const struct reading *reading) {

@@ -5,41 +5,13 @@
 #include <stdlib.h>
 #include <string.h>
 #include <sys/stat.h>
+#include <sysexits.h>
+#include <unistd.h>
 
-#include "fitting.h"
-#include "frequency.h"
 #include "options.h"
 #include "place.h"
-#include "sound.h"
-#include "stretches.h"
-
-struct receive {
-    const char *in_name, *out_name, *labels_name, *marks_name;
-    unsigned bits, cut; /* 0 where they aren't given */
-    uint64_t length;    /* samples a channel */
-    bool measured;      /* a length is given */
-    bool strict, force, quiet;
-
-    struct reading reading;
-    struct frequency frequency;
-    struct fitting fitting;
-    struct sound_out sound;
-    struct output labels, marks;
-    struct stretches stretches;
-    uint64_t damaged; /* samples marked 1, of all channels */
-    uint64_t times;   /* sample times handed on to the files */
-    uint64_t unfit;   /* the entry that has bits too many, counted from 1; 0 where none has */
-
-    /* what stands after the length in its cell, until it is known whether another cell follows */
-    uint64_t rest[RIME_MOST_SLOTS];
-    uint8_t rest_marks[RIME_MOST_SLOTS];
-    size_t rest_given;
-
-    /* entries that are handed out and not yet written */
-    union fitted held;
-    uint8_t held_marks[FITTED];
-    size_t entries;
-};
+#include "receive.h"
+#include "slips.h"
 
 static const struct argp_option options[] = {
     {"labels", 'l', "FILE", 0, "write an Audacity label track of what is missing or damaged", 0},
@@ -48,11 +20,29 @@ static const struct argp_option options[] = {
     {"bits", 'b', "16|24|32", 0, "bits of the file's samples; none that isn't 0 may be dropped for it", 0},
     {"cut", 'c', "16|24|32", 0, "keep the top bits of each sample, and count those that lose others which aren't 0", 0},
     {"length", 'n', "SAMPLES", 0, "end after this number of samples a channel, where that is in the last cell", 0},
+    {"sidecar", 'k', "FILE.json", 0, "take length, frequency and bits from it, put back what it keeps, compare samples", 0},
+    {"cues", 'C', NULL, 0, "put cue points into a WAV file where samples are missing or damaged, 4096 at most", 0},
+    {"sum", 'S', NULL, 0, "print the SHA-256 of OUT.wav, as sha256sum does", 0},
+    {"json", 'j', NULL, 0, "print what was received as a document of JSON, in the place of the summary", 0},
+    {"no-slips", OPTION_NO_SLIPS, NULL, 0, "put in nothing for cells that only second numbers tell of", 0},
     {"strict", 's', NULL, 0, "end with status 1 where anything is missing, damaged, refused or contradicted", 0},
     {"force", 'F', NULL, 0, "write over files that are there", 0},
     {"quiet", 'q', NULL, 0, "no bar and no summary", 0},
     {0},
 };
+
+/* What can't stand together. */
+static void check_call(const struct receive *receive, const struct argp_state *state) {
+    const char *out = receive->out_name, *in = receive->in_name;
+    if (receive->bits != 0 && receive->bits < receive->cut)
+        argp_error(state, "--bits %u is less than --cut %u", receive->bits, receive->cut);
+    if ((receive->json || receive->sum) && strcmp(out, "-") == 0)
+        argp_error(state, "--json and --sum print on standard output, and so the sound can't go there");
+    if (receive->sum && place_is_stream(out)) argp_error(state, "--sum: %s can't be read back", out);
+    if (receive->cued && !sound_holds_chunks(out)) argp_error(state, "--cues: only a .wav or .rf64 file holds them");
+    if (receive->sidecar_name != NULL && strcmp(receive->sidecar_name, "-") == 0 && strcmp(in, "-") == 0)
+        argp_error(state, "the log and the sidecar can't both come from standard input");
+}
 
 static error_t parse(int key, char *word, struct argp_state *state) {
     struct receive *receive = state->input;
@@ -66,13 +56,15 @@ static error_t parse(int key, char *word, struct argp_state *state) {
         receive->measured = true;
         receive->length = option_up_to(state, "length", word, 10, UINT64_MAX / 2);
         break;
+    case OPTION_NO_SLIPS: receive->no_slips = true; break;
     case 's': receive->strict = true; break;
     case 'F': receive->force = true; break;
     case 'q': receive->quiet = true; break;
-    case ARGP_KEY_SUCCESS:
-        if (receive->bits != 0 && receive->bits < receive->cut)
-            argp_error(state, "--bits %u is less than --cut %u", receive->bits, receive->cut);
-        break;
+    case 'k': receive->sidecar_name = word; break;
+    case 'C': receive->cued = true; break;
+    case 'S': receive->sum = true; break;
+    case 'j': receive->json = true; break;
+    case ARGP_KEY_SUCCESS: check_call(receive, state); break;
     default: return option_pair(state, key, word, &receive->in_name, &receive->out_name);
     }
     return 0;
@@ -106,6 +98,8 @@ static void label(const struct stretch *stretch, void *user) {
     char line[STRETCH_LINE];
     if (receive->labels_name != NULL)
         output_write(&receive->labels, line, stretch_label(stretch, receive->frequency.rate, line));
+    if (receive->cued) cues_show(&receive->cues, stretch);
+    if (receive->json) tell_stretch(stretch);
 }
 
 /* False where a file can't be written any more. */
@@ -125,6 +119,7 @@ static bool hand_on(struct receive *receive, const struct handed *handed) {
         receive->unfit = handed->time * receive->reading.channels + put + 1;
         return false;
     }
+    if (receive->sidecar_name != NULL) sidecar_take(receive, handed);
     memcpy(receive->held_marks + receive->entries, handed->marks, handed->given);
     receive->entries += handed->given;
     receive->damaged += stretches_take(&receive->stretches, receive->reading.channels, handed, label, receive);
@@ -165,6 +160,7 @@ static enum step receive_all(struct receive *receive) {
     enum step step = frequency_walk(&receive->frequency, take, receive);
     stretches_end(&receive->stretches, label, receive);
     write_held(receive);
+    if (receive->json) doc_end(); /* of the stretches */
     return step;
 }
 
@@ -180,51 +176,48 @@ static int say_bits(const struct receive *receive) {
 static bool is_length(const struct receive *receive) {
     if (!receive->measured || receive->times == receive->length) return true;
     const struct reading *reading = &receive->reading;
+    const char *what = receive->by_sidecar ? "the sidecar's length" : "--length";
     if (receive->times == 0)
-        warnx("%s: --length %llu, and there is no sound cell", reading->name, (unsigned long long)receive->length);
+        warnx("%s: %s %llu, and there is no sound cell", reading->name, what, (unsigned long long)receive->length);
     else
-        warnx("%s: --length %llu isn't in the last cell (%llu to %llu): nothing is cut", reading->name,
+        warnx("%s: %s %llu isn't in the last cell (%llu to %llu): nothing is cut", reading->name, what,
               (unsigned long long)receive->length, (unsigned long long)(receive->times - reading->times + 1),
               (unsigned long long)receive->times);
     return false;
 }
 
-static void say_summary(const struct receive *receive) {
-    const struct reading *reading = &receive->reading;
-    const uint32_t *header = reading->header;
-    fprintf(stderr, "%s: format %02X hex, %u channel%s, order %u\n", reading->name, header[RIME_HEADER_FORMAT],
-            reading->channels, plural(reading->channels), header[RIME_HEADER_ORDER]);
-    fprintf(stderr, "cells: %llu sound, %llu missing in %llu place%s, %llu refused\n",
-            (unsigned long long)reading->sound, (unsigned long long)reading->missing, (unsigned long long)reading->gaps,
-            plural(reading->gaps), (unsigned long long)reading->refused);
-    for (unsigned number = 0; number < 256; number++)
-        if (reading->refused_by[number] > 0)
-            fprintf(stderr, "  refused %u: %llu, %s\n", number, (unsigned long long)reading->refused_by[number],
-                    rime_refusal_text(number));
-    if (reading->refused_last > 0)
-        fprintf(stderr, "  %llu of them after the last sound cell: no silence stands for them\n",
-                (unsigned long long)reading->refused_last);
-    char length[DURATION], rate[FREQUENCY_WORDS];
-    unsigned long long missing = reading->missing * reading->entries;
-    fprintf(stderr, "%s: %llu samples a channel, %s at %s%s; %llu sample%s missing, %llu damaged\n",
-            receive->out_name, (unsigned long long)receive->times,
-            duration((double)receive->times / receive->frequency.rate, length),
-            frequency_words(&receive->frequency, rate),
-            frequency_assumed(&receive->frequency) ? " (--rate, if it was another)" : "", missing, plural(missing),
-            (unsigned long long)receive->damaged);
-    frequency_say(&receive->frequency);
-    if (receive->fitting.cut != 0)
-        fprintf(stderr, "%s: %llu sample%s lost low bits that weren't 0 (--cut %u)\n", receive->out_name,
-                (unsigned long long)receive->fitting.dropped, plural(receive->fitting.dropped), receive->fitting.cut);
-    if (!reading->format.overhead)
-        fprintf(stderr, "%s: a format without overhead doesn't show what is missing or damaged\n", reading->name);
-}
-
 /* Gives the files their names, once all of them are whole. */
 static int keep(struct receive *receive) {
     struct output *outputs[] = {&receive->sound.output, &receive->labels, &receive->marks};
+    cues_put(&receive->cues, &receive->tail);
+    receive->sound.tail = &receive->tail;
+    if (receive->sum) receive->sound.sum = receive->sha256;
     int status = sound_done(&receive->sound);
     return status == STATUS_WELL ? outputs_keep(outputs, 3) : status;
+}
+
+static void say_cues(const struct receive *receive) {
+    if (receive->cues.left_out > 0)
+        warnx("%s: %llu more stretch%s missing or damaged than the %zu that cue points show", receive->out_name,
+              (unsigned long long)receive->cues.left_out, receive->cues.left_out == 1 ? " is" : "es are", receive->cues.shown);
+    if (receive->sound.no_room)
+        warnx("%s: so close to 4 GB WAV has no room for cue points or what a sidecar keeps: .rf64 has", receive->out_name);
+}
+
+/* What was written: it is said or printed, and judged. */
+static int judge(struct receive *receive, enum step last) {
+    const struct reading *reading = &receive->reading;
+    bool flawed = reading->missing + reading->refused + receive->damaged > 0 || slips_flawed(&reading->slips);
+    if (receive->sidecar_name != NULL && !sidecar_agrees(receive)) flawed = true;
+    if (receive->sum && !receive->json) sum_print(receive->sha256, receive->out_name);
+    receive->out_name = receive->sound.output.name; /* as it is shown */
+    if (receive->json) tell_result(receive, last == STEP_BROKEN);
+    else if (!receive->quiet) say_summary(receive);
+    say_cues(receive);
+    slips_say(&reading->slips, reading->name);
+    if (!is_length(receive) || receive->frequency.contradicted) flawed = true;
+    if (last == STEP_BROKEN) return reading_broken(reading);
+    return receive->strict && flawed ? STATUS_NO : STATUS_WELL;
 }
 
 static int receive_log(struct receive *receive) {
@@ -234,18 +227,37 @@ static int receive_log(struct receive *receive) {
     frequency_find(&receive->frequency, &receive->reading);
     status = sound_begin(&receive->sound, receive->frequency.rate);
     if (status != STATUS_WELL) return status;
+    if (receive->sidecar_name != NULL) sidecar_put(receive);
+    if (receive->json) tell_begin(receive);
     enum step last = receive_all(receive);
     progress_end();
     if (last == STEP_FAILED) return STATUS_FILE;
     if (receive->unfit != 0) return say_bits(receive);
     status = keep(receive);
-    if (status != STATUS_WELL) return status;
-    receive->out_name = receive->sound.output.name; /* as it is shown */
-    if (!receive->quiet) say_summary(receive);
-    bool flawed = receive->reading.missing + receive->reading.refused + receive->damaged > 0;
-    if (!is_length(receive) || receive->frequency.contradicted) flawed = true;
-    if (last == STEP_BROKEN) return reading_broken(&receive->reading);
-    return receive->strict && flawed ? STATUS_NO : STATUS_WELL;
+    return status == STATUS_WELL ? judge(receive, last) : status;
+}
+
+/* The log up to its header, or the sidecar before it. A status; where it isn't well the log isn't open. */
+static int begin(struct receive *receive) {
+    struct reading *reading = &receive->reading;
+    bool quiet = receive->quiet || (receive->json && isatty(STDOUT_FILENO));
+    int status = receive->sidecar_name != NULL ? sidecar_begin(receive) : STATUS_WELL;
+    if (status == STATUS_WELL) status = reading_open(reading, receive->in_name, quiet);
+    reading->slips.off = receive->no_slips;
+    if (receive->sidecar_name == NULL) return status == STATUS_WELL ? reading_start(reading) : status;
+    if (status == STATUS_WELL) status = reading_twice(reading);
+    return status == STATUS_WELL ? sidecar_bits(receive) : status;
+}
+
+static void end(struct receive *receive) {
+    reading_close(&receive->reading);
+    frequency_close(&receive->frequency);
+    sound_drop(&receive->sound);
+    output_drop(&receive->labels);
+    output_drop(&receive->marks);
+    kept_free(&receive->sidecar.kept);
+    cues_free(&receive->cues);
+    tail_free(&receive->tail);
 }
 
 int desk_receive(int argc, char **argv) {
@@ -258,14 +270,15 @@ int desk_receive(int argc, char **argv) {
                "which WAV is written.",
     };
     argp_parse(&argp, argc, argv, 0, NULL, &receive);
-    place_apart(receive.in_name, (const char *[]){receive.out_name, receive.labels_name, receive.marks_name}, 3);
-    int status = reading_begin(&receive.reading, receive.in_name, receive.quiet);
-    if (status != STATUS_WELL) return status;
-    status = receive_log(&receive);
-    reading_close(&receive.reading);
-    frequency_close(&receive.frequency);
-    sound_drop(&receive.sound);
-    output_drop(&receive.labels);
-    output_drop(&receive.marks);
-    return status;
+    bool prints = receive.json || receive.sum;
+    const char *outputs[] = {receive.out_name, receive.labels_name, receive.marks_name, prints ? "-" : NULL};
+    place_apart(receive.in_name, outputs, 4);
+    if (receive.sidecar_name != NULL) place_apart(receive.sidecar_name, outputs, 4);
+    int status = begin(&receive);
+    if (status == STATUS_WELL) {
+        status = receive_log(&receive);
+        end(&receive);
+    }
+    if (receive.json && status != EX_USAGE) tell_end(&receive, status);
+    return prints ? printed(status) : status;
 }

@@ -1,21 +1,21 @@
 /* rimesatchel salvage: a new log of the records that the receiver takes, and the list of what was left out. */
 #include <argp.h>
 #include <stdio.h>
-#include <unistd.h>
 
 #include "options.h"
+#include "pieces.h"
 #include "place.h"
-
-enum { RECORDS = 1024 }; /* records that are written at a time */
 
 struct salvage {
     const char *in_name, *out_name;
     bool force, quiet;
 
-    struct reading reading;
+    struct pieces pieces;
     struct output out;
-    uint8_t log[RECORDS * RIME_RECORD_OCTETS];
-    uint64_t place; /* octets of it that aren't written yet */
+    bool begun; /* something is in it */
+    uint64_t state[RIME_SALVAGE_STATE];
+    uint8_t log[PIECE_ROOM(RIME_OUT_ROOM, RIME_OUT_RECORD)];
+    uint8_t notes[PIECE_ROOM(RIME_NOTES_ROOM, RIME_NOTES_RECORD)];
 };
 
 static const struct argp_option options[] = {
@@ -34,53 +34,49 @@ static error_t parse(int key, char *word, struct argp_state *state) {
     return 0;
 }
 
-static bool write_held(struct salvage *salvage) {
-    bool good = output_write(&salvage->out, salvage->log, salvage->place);
-    salvage->place = 0;
-    return good;
-}
-
-static bool keep_record(struct salvage *salvage) {
-    const struct reading *reading = &salvage->reading;
-    if (salvage->place + RIME_RECORD_OCTETS > sizeof salvage->log && !write_held(salvage)) return false;
-    return rime_log_put_record(salvage->log, sizeof salvage->log, salvage->place, reading->cell, RIME_CELL_OCTETS,
-                               reading->indication, &salvage->place) == RIME_DONE;
-}
-
-/* A line of the list. */
-static void leave_out(const struct salvage *salvage) {
-    if (salvage->quiet) return;
+/* The lines that the proved calls wrote. */
+static void say_notes(const struct salvage *salvage, uint64_t octets) {
+    if (salvage->quiet || octets == 0) return;
     progress_clear();
-    fprintf(stderr, "%llu refused %u\n", (unsigned long long)salvage->reading.record - 1, salvage->reading.refusal);
+    fwrite(salvage->notes, 1, octets, stderr);
 }
 
-static enum step sort(struct salvage *salvage) {
-    const uint32_t *header = salvage->reading.header;
-    rime_log_put_header(salvage->log, sizeof salvage->log, header[RIME_HEADER_FORMAT], header[RIME_HEADER_CHANNELS],
-                        header[RIME_HEADER_ORDER], &salvage->place);
-    enum step step;
-    while ((step = reading_step(&salvage->reading)) == STEP_SOUND || step == STEP_REFUSED) {
-        if (step == STEP_REFUSED) leave_out(salvage);
-        else if (!keep_record(salvage)) break;
+/* Takes the piece that was read. The new log begins with the first octets of it: a log whose header is refused has none. */
+static int take_piece(struct salvage *salvage) {
+    struct pieces *pieces = &salvage->pieces;
+    uint64_t written[RIME_WRITTEN];
+    rime_salvage_take(salvage->state, pieces->held, pieces->piece, pieces->count, salvage->log, sizeof salvage->log,
+                      salvage->notes, sizeof salvage->notes, written);
+    size_t octets = written[RIME_WRITTEN_OUT];
+    if (octets > 0 && !salvage->begun) {
+        int status = output_open(&salvage->out, salvage->out_name, salvage->force);
+        if (status != STATUS_WELL) return status;
+        salvage->begun = true;
     }
-    write_held(salvage);
-    return step;
+    say_notes(salvage, written[RIME_WRITTEN_NOTES]);
+    if (octets == 0 || output_write(&salvage->out, salvage->log, octets)) return STATUS_WELL;
+    progress_end();
+    return output_keep(&salvage->out); /* says why it can't be written */
 }
 
 static int salvage_log(struct salvage *salvage) {
-    struct reading *reading = &salvage->reading;
-    int status = output_open(&salvage->out, salvage->out_name, salvage->force);
+    struct pieces *pieces = &salvage->pieces;
+    rime_salvage_start(salvage->state, pieces->held);
+    while (salvage->state[RIME_PIECES_STAGE] != 2 && pieces_next(pieces)) {
+        int status = take_piece(salvage);
+        if (status != STATUS_WELL) return status;
+    }
+    int status = pieces_whole(pieces);
     if (status != STATUS_WELL) return status;
-    enum step last = sort(salvage);
-    uint64_t cut = 0;
-    if (last == STEP_FAILED || (last == STEP_BROKEN && !reading_cut(reading, &cut))) return STATUS_FILE;
+    struct fault fault = pieces_fault(pieces, salvage->state);
+    if (fault.header) return pieces_say(pieces, fault);
     progress_end();
     status = output_keep(&salvage->out);
     if (status != STATUS_WELL) return status;
-    if (!salvage->quiet)
-        fprintf(stderr, "end %llu kept %llu left out %llu cut\n", (unsigned long long)reading->sound,
-                (unsigned long long)reading->refused, (unsigned long long)cut);
-    return last == STEP_BROKEN ? reading_broken(reading) : STATUS_WELL;
+    uint64_t octets;
+    rime_salvage_end(salvage->state, pieces->held, salvage->notes, sizeof salvage->notes, &octets);
+    say_notes(salvage, octets);
+    return pieces_say(pieces, fault);
 }
 
 int desk_salvage(int argc, char **argv) {
@@ -94,10 +90,12 @@ int desk_salvage(int argc, char **argv) {
     };
     argp_parse(&argp, argc, argv, 0, NULL, &salvage);
     place_apart(salvage.in_name, &salvage.out_name, 1);
-    int status = reading_begin(&salvage.reading, salvage.in_name, salvage.quiet);
+    int status = pieces_open(&salvage.pieces, salvage.in_name);
     if (status != STATUS_WELL) return status;
+    progress_begin(salvage.pieces.name, salvage.pieces.whole.length, salvage.quiet);
     status = salvage_log(&salvage);
-    reading_close(&salvage.reading);
+    progress_end();
+    pieces_close(&salvage.pieces);
     output_drop(&salvage.out);
     return status;
 }

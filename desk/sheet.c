@@ -4,18 +4,20 @@
 #include <stdio.h>
 
 #include "figures.h"
-#include "lent.h"
+#include "json.h"
 #include "options.h"
+#include "pieces.h"
 
 struct call {
     struct names names;
-    bool plain, quiet;
+    bool plain, quiet, json;
     bool counted; /* --logs is given */
     uint64_t logs;
 };
 
 static const struct argp_option sheet_options[] = {
     {"plain", 'p', NULL, 0, "the columns of the program sheet alone, and its limits: 4,096 logs, totals up to 4,294,967,295", 0},
+    {"json", 'j', NULL, 0, "print a document of JSON", 0},
     {"quiet", 'q', NULL, 0, "no bar, and no word on logs that are refused or broken", 0},
     {0},
 };
@@ -32,8 +34,12 @@ static error_t parse(int key, char *word, struct argp_state *state) {
         call->counted = true;
         call->logs = option_number(state, "logs", word, 10);
         break;
+    case 'j': call->json = true; break;
     case 'p': call->plain = true; break;
     case 'q': call->quiet = true; break;
+    case ARGP_KEY_SUCCESS:
+        if (call->plain && call->json) argp_error(state, "--plain is a table, and --json isn't");
+        break;
     default: return option_names(state, key, &call->names);
     }
     return 0;
@@ -45,38 +51,38 @@ static void put_state(struct row *row, struct fault fault) {
     else snprintf(row->state, STATE, "broken %u at %llu", fault.refusal, (unsigned long long)fault.record);
 }
 
-/* What rime_sheet answered for a log alone, and what comes after its records: figures and state. A status. */
-static int take_figures(struct row *row, const struct lent *lent, unsigned refusal, const uint32_t *figures, bool quiet) {
+/* What the proved calls answered for a log, and how it ends: figures and state. A status. */
+static int take_figures(struct row *row, const struct pieces *pieces, unsigned refusal, struct fault fault, bool quiet) {
     if (refusal != RIME_DONE) {
         put_state(row, (struct fault){.refusal = refusal, .header = true});
-        return quiet ? STATUS_REFUSED : say_refused(lent->name, "its sheet is", refusal);
+        return quiet ? STATUS_REFUSED : say_refused(pieces->name, "its sheet is", refusal);
     }
-    uint64_t records = figures[SOUND_CELLS];
-    for (unsigned at = REFUSED_8; at <= REFUSED_20; at++) records += figures[at];
-    for (unsigned at = 0; at < FIGURES; at++) row->figures.of[at] = figures[at];
-    struct fault fault = lent_fault(lent, records);
     put_state(row, fault);
-    if (!quiet) return lent_say(lent, fault);
+    if (!quiet) return pieces_say(pieces, fault);
     return fault.refusal == RIME_DONE ? STATUS_WELL : STATUS_REFUSED;
 }
 
 /* The figures of a log, up to its end or its fault, and its state. A refused header counts nothing. A status. */
 static int read_log(struct sheet *sheet, struct row *row, bool quiet) {
-    struct lent lent;
-    int status = lent_open(&lent, row->file);
+    static struct pieces pieces;
+    int status = pieces_open(&pieces, row->file);
     if (status != STATUS_WELL) return status;
-    lent_watch(&lent);
-    if (lent_lost(&lent)) return lent_gone(&lent);
-    uint64_t length = lent.count;
-    uint32_t figures[FIGURES], totals[FIGURES];
-    progress_watch(lent.name, lent.mapped, lent.size);
-    unsigned refusal = rime_sheet(lent.octets, lent.count, &length, 1, figures, FIGURES, totals);
-    progress_watched();
-    status = lent_whole(&lent, true);
-    if (status != STATUS_WELL) return status;
-    if (sheet->plain) sheet->refusal = refusal; /* of the sheet itself, and said of it */
-    status = take_figures(row, &lent, refusal, figures, quiet || sheet->refusal != RIME_DONE);
-    lent_close(&lent);
+    uint64_t state[RIME_FIGURES_STATE];
+    uint32_t figures[FIGURES];
+    rime_figures_start(state, pieces.held);
+    progress_within(pieces.name, pieces.whole.length);
+    while (state[RIME_PIECES_STAGE] < 2 && pieces_next(&pieces))
+        rime_figures_take(state, pieces.held, pieces.piece, pieces.count);
+    progress_without();
+    status = pieces_whole(&pieces);
+    if (status == STATUS_WELL) {
+        unsigned refusal = rime_figures_end(state, figures);
+        for (unsigned at = 0; at < FIGURES; at++) row->figures.of[at] = figures[at];
+        if (sheet->plain) sheet->refusal = refusal; /* of the sheet itself, and said of it */
+        bool silent = quiet || sheet->refusal != RIME_DONE;
+        status = take_figures(row, &pieces, refusal, pieces_fault(&pieces, state), silent);
+    }
+    pieces_close(&pieces);
     return status;
 }
 
@@ -110,8 +116,15 @@ int desk_sheet(int argc, char **argv) {
         progress_at((uint64_t)at + 1);
     }
     progress_end();
+    sheet.json = call.json;
+    if (call.json) doc_object(NULL);
     int status = sheet_print(&sheet);
-    return printed(status > worst ? status : worst);
+    if (status < worst) status = worst;
+    if (call.json) {
+        doc_number("status", (uint64_t)status);
+        doc_end();
+    }
+    return printed(status);
 }
 
 /* What all the rows say together: a status, and says why it isn't well. */

@@ -9,7 +9,9 @@
 #include <sysexits.h>
 #include <unistd.h>
 
+#include "chunks.h"
 #include "place.h"
+#include "sum.h"
 
 /* The bits of a sample, 0 where a file has no whole numbers. */
 static unsigned bits_of(int format) {
@@ -29,7 +31,7 @@ static unsigned bits_of(int format) {
 
 int sound_open(struct sound_in *in, const char *name) {
     *in = (struct sound_in){.name = shown(name, false)};
-    int fd = sound_fd(name);
+    int fd = in->fd = sound_fd(name);
     if (fd < 0) return STATUS_FILE;
     enum header_says says = sound_says(fd);
     name = in->name;
@@ -187,6 +189,23 @@ static void forget_time(struct output *output) {
         if (memcmp(head + at, "PEAK", 4) == 0 && pwrite(output->fd, none, sizeof none, at + 12) < 0) output->error = errno;
 }
 
+bool sound_holds_chunks(const char *name) {
+    const struct kind *kind = kind_of(name);
+    return kind != NULL && kind->container == SF_FORMAT_RF64 && !place_is_stream(name);
+}
+
+bool sound_has_chunks(const struct sound_out *out) {
+    return !out->stream && (out->about.format & SF_FORMAT_TYPEMASK) == SF_FORMAT_RF64;
+}
+
+/* What comes when libsndfile has written all that is its own. */
+static void finish(struct sound_out *out) {
+    struct output *output = &out->output;
+    if (is_real(out)) forget_time(output);
+    if (out->tail != NULL && out->tail->count > 0) out->no_room = !tail_append(out->tail, output);
+    if (out->sum != NULL && output->error == 0 && !sum_file(output->fd, out->sum)) output->error = errno;
+}
+
 int sound_done(struct sound_out *out) {
     int failed = SF_ERR_NO_ERROR, closed = SF_ERR_NO_ERROR;
     if (out->file != NULL) {
@@ -196,7 +215,7 @@ int sound_done(struct sound_out *out) {
         closed = sf_close(out->file);
     }
     out->file = NULL;
-    if (is_real(out)) forget_time(&out->output);
+    finish(out);
     bool written = output_done(&out->output);
     if (out->full) {
         warnx("%s: %s holds at most %llu samples a channel here, and more came: .wav or .w64 holds them",

@@ -9,6 +9,7 @@
 struct sound_in {
     const char *name;
     SNDFILE *file;
+    int fd; /* libsndfile closes it */
     SF_INFO about;
     unsigned bits; /* of a sample */
 };
@@ -27,12 +28,17 @@ struct sound_out {
     uint64_t most;    /* frames that such a file can hold */
     uint64_t frames;  /* written so far */
     bool full;        /* more came than it can hold */
+    const struct tail *tail; /* chunks to stand behind the sound, NULL where there are none */
+    bool no_room;            /* there was no room for them */
+    char *sum;               /* room for its SHA-256, NULL where that isn't wanted */
 };
 /* The name and what is to stand in it, and then, once it is known, the sampling frequency. Statuses; say what is wrong. */
 int sound_create(struct sound_out *out, const char *name, unsigned channels, unsigned bits, bool force);
 int sound_begin(struct sound_out *out, unsigned rate);
 /* Frames of int, or of double in a file of SOUND_FLOAT. False where no more can be written. */
 bool sound_write(struct sound_out *out, const void *samples, size_t frames);
+bool sound_holds_chunks(const char *name); /* a file of this name would be such a one */
+bool sound_has_chunks(const struct sound_out *out); /* it is a file of WAV or RF64, into which chunks can be put */
 int sound_done(struct sound_out *out); /* nothing more is written; a status, and says what is wrong */
 void sound_drop(struct sound_out *out);
 

@@ -43,6 +43,16 @@ static int copy(int from, int to, bool *reading) {
     }
 }
 
+bool spool_first(int *fd, const char *name, struct whole *whole) {
+    int kept = whole->known ? *fd : spool(*fd, name);
+    if (kept < 0) return false;
+    if (kept == *fd) return true;
+    if (*fd != STDIN_FILENO) close(*fd);
+    *fd = kept;
+    whole_begin(whole, kept);
+    return true;
+}
+
 int spool(int from, const char *name) {
     const char *asked = getenv("TMPDIR"), *folder = asked != NULL && asked[0] != '\0' ? asked : P_tmpdir;
     int fd = nameless(folder);

@@ -64,13 +64,20 @@ static int say_channels(uint64_t channels, char *to, size_t room) {
     return length;
 }
 
-size_t stretch_label(const struct stretch *stretch, unsigned rate, char line[STRETCH_LINE]) {
+size_t stretch_words(const struct stretch *stretch, char words[STRETCH_LINE]) {
     bool missing = stretch->mark == RIME_MARK_MISSING;
     unsigned long long from = stretch->from, last = stretch->past - 1;
-    int length = snprintf(line, STRETCH_LINE, "%.6f\t%.6f\t%s", (double)stretch->from / rate,
-                          (double)stretch->past / rate, missing ? "missing" : "damaged");
-    if (!missing) length += say_channels(stretch->channels, line + length, STRETCH_LINE - (size_t)length);
-    if (from == last) length += snprintf(line + length, STRETCH_LINE - (size_t)length, ": sample %llu\n", from);
-    else length += snprintf(line + length, STRETCH_LINE - (size_t)length, ": samples %llu to %llu\n", from, last);
+    int length = snprintf(words, STRETCH_LINE, "%s", missing ? "missing" : "damaged");
+    if (!missing) length += say_channels(stretch->channels, words + length, STRETCH_LINE - (size_t)length);
+    if (from == last) length += snprintf(words + length, STRETCH_LINE - (size_t)length, ": sample %llu", from);
+    else length += snprintf(words + length, STRETCH_LINE - (size_t)length, ": samples %llu to %llu", from, last);
+    return (size_t)length;
+}
+
+size_t stretch_label(const struct stretch *stretch, unsigned rate, char line[STRETCH_LINE]) {
+    char words[STRETCH_LINE];
+    size_t count = stretch_words(stretch, words);
+    int length = snprintf(line, STRETCH_LINE, "%.6f\t%.6f\t%.*s\n", (double)stretch->from / rate,
+                          (double)stretch->past / rate, (int)count, words);
     return (size_t)length;
 }

@@ -21,8 +21,10 @@ uint64_t stretches_take(struct stretches *stretches, unsigned channels, const st
                         void *user);
 void stretches_end(struct stretches *stretches, stretch_told *told, void *user);
 
-/* A line of an Audacity label track: start and end in seconds, and what. Returns its length. */
+/* "missing: samples 600 to 683", "damaged in channels 1 and 2: sample 30001". Returns its length. */
 enum { STRETCH_LINE = 512 };
+size_t stretch_words(const struct stretch *stretch, char words[STRETCH_LINE]);
+/* A line of an Audacity label track: start and end in seconds, and what. Returns its length. */
 size_t stretch_label(const struct stretch *stretch, unsigned rate, char line[STRETCH_LINE]);
 
 #endif

@@ -6,11 +6,11 @@
  * all state is the caller's, in the arrays below, and may hold any octets whatever.
  *
  * Every call but rime_check_character and rime_receiver_placed returns a refusal number, RIME_DONE (0) where there is none.
- * A call never does half of its work. rime_judge_log alone does as many records as it can and says where it stopped; each
- * record is done whole or not at all. A refusal leaves every lent run and the state as they were, and fills `report`, `out`
- * of rime_status_step and rime_status_run, `facts`, `header`, `*next`, `counts`, `totals`, `units`, `*entries`,
- * `answer` or the two entries or halves of a frame with zeros; an opening that is refused fills `state` with zeros, which is
- * itself refused 1.
+ * A call never does half of its work. Only the calls over many records, rime_receive_log, rime_judge_log and rime_send_log, do as
+ * many as they can and say where they stopped; each record is done whole or not at all. A refusal leaves every lent run and the
+ * state as they were, and fills `report`, `out` of rime_status_step and rime_status_run, `facts`, `header`, `*next`, `counts`,
+ * `totals`, `row`, `units`, `*entries`, `answer`, `slip`, `*written` and `written` or the two entries or halves of a frame with
+ * zeros; an opening that is refused fills `state` with zeros, which is itself refused 1.
  * Where several refusals apply, the first in the order of the list at each function is given.
  *
  * Lent memory: a run is a pointer and the number of its entries. A pointer is never NULL (a run of no entries may
@@ -39,6 +39,8 @@ enum {
     RIME_SENDER_STATE = 7,
     RIME_RECEIVER_STATE = 9,
     RIME_REPORT = 4,
+    RIME_SLIP = 7,                /* a watch over second numbers */
+    RIME_SLIPPED = 2,             /* what it tells */
     RIME_BLOCK = 25,
     RIME_OUT = 25,
     RIME_STATUS_OCTETS = 24,
@@ -52,7 +54,9 @@ enum {
     RIME_ANSWER = 2,
     RIME_FORMAT = 4,
     RIME_JUDGED_LOG = 3,
+    RIME_RECEIVED_LOG = 9,
     RIME_JUDGEMENT = 5,           /* of a record, in what rime_judge_log writes */
+    RIME_SENT_LOG = 4,
     RIME_MOST_SLOTS = 48,
     RIME_MOST_MISSING = 14
 };
@@ -103,7 +107,7 @@ enum {
     RIME_REFUSED_LOGS = 18,       /* a sheet over more than 4,096 logs */
     RIME_REFUSED_TOTAL = 19,      /* a sheet with a total above 4,294,967,295 */
     RIME_REFUSED_COUNT = 20,      /* the count of cells placed would pass 4,294,967,295 */
-    RIME_REFUSED_OUTPUT = 21,     /* an output of the salvage is shorter than what goes into it */
+    RIME_REFUSED_OUTPUT = 21,     /* an output of a salvage, or of a list in pieces, is shorter than what can go into it */
     RIME_REFUSED_PLAN = 22,       /* more than 64 circuits or 1,024 channels */
     RIME_REFUSED_FREQUENCY = 23,  /* a sampling frequency of 0 or above 1,000,000 */
     /* 24 and 25 are the management port's: rime_management.h */
@@ -111,7 +115,8 @@ enum {
     RIME_REFUSED_UNIT_SIZE = 27,  /* data units: a size below one frame */
     RIME_REFUSED_UNIT_ROOM = 28,  /* data units: too little room */
     RIME_REFUSED_BLOCKS = 29,     /* the B bits of a frame's halves differ */
-    RIME_REFUSED_CIRCUITS = 30    /* S times the circuits is below the channels */
+    RIME_REFUSED_CIRCUITS = 30,   /* S times the circuits is below the channels */
+    RIME_REFUSED_REPORT = 31      /* a report that can't follow the cells that the watch has seen */
 };
 
 /* What a refusal number means, in words that a user can be shown. Never NULL, whatever the number. */
@@ -148,6 +153,7 @@ static inline const char *rime_refusal_text(unsigned number) {
     case 28: return "there is too little room for the data units";
     case 29: return "a block begins in one half of the frame and not in the other";
     case 30: return "the circuits are too few for the channels";
+    case 31: return "the report can't follow the cell before it";
     default: return "there is no such refusal";
     }
 }
@@ -178,6 +184,26 @@ enum { RIME_FORMAT_SAMPLE_BITS = 0, RIME_FORMAT_ANCILLARY_BITS = 1, RIME_FORMAT_
 
 /* Places in what rime_receive reports. */
 enum { RIME_REPORT_MISSING = 0, RIME_REPORT_NUMBER = 1, RIME_REPORT_SECOND = 2, RIME_REPORT_INDICATION = 3 };
+
+/* Places in a watch over second numbers. A yes or no here is 1 or 0, and any other octet is refused. */
+enum {
+    RIME_SLIP_STARTED = 0,        /* yes: a cell was taken */
+    RIME_SLIP_NUMBER = 1,         /* number of the cell taken last */
+    RIME_SLIP_SURE = 2,           /* yes: two cells one after the other agreed */
+    RIME_SLIP_SECOND = 3,         /* second number of the last cell in step */
+    RIME_SLIP_MAY = 4,            /* block starts since that cell, 15 where there are more */
+    RIME_SLIP_WAITS = 5,          /* yes: the cell taken last is out of step, or none was sure yet */
+    RIME_SLIP_OTHER = 6           /* second number of the cell taken last, where it waits */
+};
+
+/* Places in what rime_slip tells, and what it tells. */
+enum { RIME_SLIPPED_WHAT = 0, RIME_SLIPPED_CELLS = 1 };
+enum {
+    RIME_SLIP_NOTHING = 0,
+    RIME_SLIP_BEFORE = 1,         /* so many cells more are missing before the cell taken before this one */
+    RIME_SLIP_ALONE = 2,          /* the cell taken before this one was out of step alone */
+    RIME_SLIP_PERHAPS = 3         /* this cell is out of step: perhaps so many cells more are missing before it */
+};
 
 /* Places in a channel status block under assembly and in what rime_status_step hands out. */
 enum { RIME_BLOCK_BITS = 0, RIME_BLOCK_OCTETS = 1, RIME_OUT_ANSWER = 0, RIME_OUT_OCTETS = 1 };
@@ -265,6 +291,30 @@ uint8_t rime_receive(uint8_t state[RIME_RECEIVER_STATE], const uint8_t *cell, si
 uint32_t rime_receiver_placed(const uint8_t state[RIME_RECEIVER_STATE]);
 
 /*
+ * Brings a watch over second numbers forward by one cell that the receiver took, by its `report` as rime_receive left it.
+ * `watch` is seven zeros at first. A cell number tells at most fourteen lost cells; second numbers tell more where the
+ * sender keeps them. Sixteen cells have two block starts (numbers 0 and 8), and only there may the second number go up:
+ * where it went up by more than the numbers allow, whole sixteens of cells are missing beside those that the report tells.
+ * Leaves in `slip` what it tells and how many cells, a multiple of 16 up to 128:
+ *   RIME_SLIP_NOTHING   0
+ *   RIME_SLIP_BEFORE    at least so many cells more are missing before the cell that was taken before this one, and before
+ *                       those that its own report told missing
+ *   RIME_SLIP_ALONE     0: that cell was out of step alone. Second numbers are unprotected, and this one was false
+ *   RIME_SLIP_PERHAPS   this cell is out of step, and the next one decides: perhaps so many cells more are missing before
+ *                       it; 0, none whatever comes. A caller that puts silence in holds the cell back where they are above 0
+ * The cells told are never more than the cells lost, whatever the sender sent as indications. They are exact where it keeps
+ * second numbers, gives the indication in every cell whose number is a multiple of 8, and at most 119 cells were sent
+ * between two taken ones, with two cells in step before and two behind: docs/LOSSES.md. The indication of the report isn't
+ * looked at.
+ * Refused, with `watch` untouched and `slip` zeros: 4, a watch that can't be (a yes or no above 1, a number above 15, not
+ * started and not all zeros, not sure and not waiting or with a second number or block starts, sure and not waiting with
+ * block starts or another second number); 31, a report that can't follow (missing above 14, a number above 15, missing cells
+ * at the first cell, later missing plus 1 not the difference of the numbers modulo 16). A format without overhead has no
+ * numbers: its second report is refused 31.
+ */
+uint8_t rime_slip(uint8_t watch[RIME_SLIP], const uint8_t report[RIME_REPORT], uint8_t slip[RIME_SLIPPED]);
+
+/*
  * Brings one channel's status block forward by one entry that the receiver wrote. `block` is the count of bits begun
  * and the 24 octets under assembly, 25 zeros at first. B = 1 begins a block with the entry's C bit as bit 0, dropping
  * an unfinished one; B = 0 adds the C bit to a begun block and otherwise changes nothing; mark 2 drops the block,
@@ -349,6 +399,58 @@ enum { RIME_JUDGEMENT_REFUSAL = 0, RIME_JUDGEMENT_REPORT = 1 };
 uint8_t rime_judge_log(uint8_t state[RIME_RECEIVER_STATE], const uint8_t *log, size_t log_len, size_t place,
                        uint8_t *reports, size_t reports_len, uint64_t counts[RIME_JUDGED_LOG]);
 
+/* Places in what rime_send_log counts. */
+enum { RIME_SENT_NEXT = 0, RIME_SENT_ENTRIES = 1, RIME_SENT_STOP = 2, RIME_SENT_CELLS = 3 };
+
+/*
+ * Sends cell after cell, each of the next C * T entries, and writes its record into a log from `place` on, as rime_send and
+ * rime_log_put_record would; all else in `log` stays. The indication is 1 in every cell whose number is a multiple of 8 where
+ * `indications` says yes, else in none.
+ * Leaves in `state` the sender's behind the last cell, with its yes-or-no octets as 0 or 1; in `counts` the next place, the
+ * entries taken, why it stopped, and the cells. It stops by 0, fewer than C * T entries are left; 12, no record fits any more, a
+ * place at the end or past it too; 6, the next cell has a number too large; of several the first in this order.
+ * After 12 the entries that are left go on in a new log or with more room; after 0 what is left goes to the front of the next runs.
+ * Refused, with `state` and `log` untouched and `counts` zeros: 1 to 4 of what stands in `state`; then 5, the two runs aren't
+ * equally long.
+ */
+uint8_t rime_send_log(uint8_t state[RIME_SENDER_STATE], bool indications, const uint64_t *samples, size_t samples_len,
+                      const uint8_t *ancillary, size_t ancillary_len, uint8_t *log, size_t log_len, size_t place,
+                      uint64_t counts[RIME_SENT_LOG]);
+
+/* Places in what rime_receive_log counts. */
+enum {
+    RIME_BATCH_NEXT = 0,
+    RIME_BATCH_ENTRIES = 1,
+    RIME_BATCH_STOP = 2,
+    RIME_BATCH_TAKEN = 3,
+    RIME_BATCH_MISSING = 4,
+    RIME_BATCH_REFUSED_8 = 5,
+    RIME_BATCH_REFUSED_9 = 6,
+    RIME_BATCH_REFUSED_15 = 7,
+    RIME_BATCH_REFUSED_20 = 8
+};
+
+/*
+ * Receives the records of a log from `place` on, one after the other, as rime_log_record and rime_receive would: each
+ * cell's entries, with those of the cells missing before it, go into the three runs behind the last one's; what
+ * stands past them stays. A record that the receiver refuses by 8, 15, 9 or 20 is passed over and counted, and needs
+ * no room. It stops at the first record whose entries, with those of the missing cells, don't fit into what is left
+ * of the runs: it is done whole or not at all. With 15 * RIME_MOST_SLOTS entries in each run every call goes on or
+ * comes to the end or a record that is broken.
+ * Leaves in `state` the receiver's behind the last record, with its yes-or-no octet as 0 or 1; in `counts`, all of
+ * this call: the next place; the entries written to each run; why it stopped; cells taken; cells missing before them;
+ * records refused by 8, by 9, by 15 and by 20. Why it stopped is what the next single call would answer: 0, the log's
+ * end; 11, a first octet above 1; 12, a record that is cut; 10, no room; of several the first in this order. After 10
+ * the same place is given again with new runs. Of a log in pieces, after 12 the octets from the next place on, at
+ * most 48, go to the front of the next piece. A place at the end or past it, however large, is the end, and comes
+ * back as it was.
+ * Refused, with `state` and the runs untouched and `counts` zeros: 1 to 4 of what stands in `state`, as for
+ * rime_receive; then 5, the three runs aren't equally long; also where no record is there.
+ */
+uint8_t rime_receive_log(uint8_t state[RIME_RECEIVER_STATE], const uint8_t *log, size_t log_len, size_t place,
+                         uint64_t *samples, size_t samples_len, uint8_t *ancillary, size_t ancillary_len,
+                         uint8_t *marks, size_t marks_len, uint64_t counts[RIME_RECEIVED_LOG]);
+
 /* Places in what rime_log_list says. */
 enum { RIME_LISTED_OCTETS = 0, RIME_LISTED_WHOLE = 1 };
 
@@ -383,6 +485,115 @@ uint8_t rime_anything(const uint8_t *log, size_t log_len, uint64_t answer[RIME_A
  */
 uint8_t rime_salvage(const uint8_t *log, size_t log_len, uint8_t *out, size_t out_len, uint64_t *list, size_t list_len,
                      uint64_t counts[RIME_COUNTS]);
+
+/*
+ * A log in pieces, as it comes off a disk or a line: its list, its salvage, whether there is anything on it and its figures, each
+ * by three calls. _start makes `state` and `held` ready; _take is given piece after piece, each of any length; _end is called
+ * where the log ends. What they write and answer together is that of the whole log, however it is divided. All that is known
+ * between two calls stands in `state`, which is numbers of 64 bits, and in `held`, the octets of a header or a record that isn't
+ * whole yet. Behind a fault, stages 2 and 3, nothing more is read.
+ * No state is refused: a number in it is taken modulo its width, and of a yes or no 0 is no and any other number yes. A state that
+ * no call left has answers that mean nothing, refusal numbers among them, and never more octets than is said below.
+ */
+
+/* Places in each of the four states: where the log stands, then the receiver's state. */
+enum {
+    RIME_PIECES_STAGE = 0,        /* 0 in the header, 1 among the records, 2 the header was refused, 3 a record was broken */
+    RIME_PIECES_FAULT = 1,        /* the refusal at stages 2 and 3, else 0; stage and fault are numbers of 8 bits */
+    RIME_PIECES_HELD = 2,         /* how many octets are held */
+    RIME_PIECES_LEFT = 3,         /* how many octets may still come */
+    RIME_PIECES_RECORDS = 4,      /* whole records so far */
+    RIME_PIECES_FORMAT = 5,       /* format, channels, order and last number have 8 bits */
+    RIME_PIECES_CHANNELS = 6,
+    RIME_PIECES_ORDER = 7,
+    RIME_PIECES_STARTED = 8,      /* a yes or no */
+    RIME_PIECES_LAST = 9,
+    RIME_PIECES_COUNT = 10        /* 32 bits */
+};
+
+/* Then what each counts itself, and how many numbers its state has. */
+enum { RIME_LIST_RECORDS = 11, RIME_LIST_SOUND = 12, RIME_LIST_MISSING = 13, RIME_LIST_REFUSED = 14, RIME_LIST_STATE = 15 };
+enum {
+    RIME_SALVAGE_OCTETS = 11,     /* of the log so far */
+    RIME_SALVAGE_REFUSAL = 12,    /* of the header: 8 bits */
+    RIME_SALVAGE_TAKEN = 13,      /* octets of the header and of the whole records */
+    RIME_SALVAGE_KEPT = 14,       /* records */
+    RIME_SALVAGE_LEFT_OUT = 15,
+    RIME_SALVAGE_STATE = 16
+};
+enum {
+    RIME_ANYTHING_REFUSAL = 11,   /* of the header: 8 bits */
+    RIME_ANYTHING_FOUND = 12,     /* a yes or no */
+    RIME_ANYTHING_NUMBER = 13,    /* for a yes the first such record, else how many whole records were read */
+    RIME_ANYTHING_STATE = 14
+};
+enum { RIME_FIGURES_COUNTS = 11, /* nine, in the order of a row of rime_sheet */ RIME_FIGURES_STATE = 20 };
+
+/*
+ * The room that a piece needs: so many octets, and so many more for each of `piece_len` / 49 + 1 records. An end needs the first
+ * of the two alone.
+ */
+enum {
+    RIME_TEXT_ROOM = 216,
+    RIME_TEXT_RECORD = 76,
+    RIME_OUT_ROOM = 3,
+    RIME_OUT_RECORD = 49,
+    RIME_NOTES_ROOM = 216,
+    RIME_NOTES_RECORD = 50
+};
+
+/* Places in what rime_salvage_take says it wrote. */
+enum { RIME_WRITTEN_OUT = 0, RIME_WRITTEN_NOTES = 1, RIME_WRITTEN = 2 };
+
+/*
+ * The list of a log in pieces, as rime_log_list writes it of the whole log. A log of more than 4,294,967,295 octets is refused 13
+ * in the list. rime_list_take writes from the start of `text` the lines that the piece makes whole, and rime_list_end what ends
+ * the list: nothing where a fault ended it before. What is past them stays. Both leave in `*written` how many octets they are.
+ * Refused, with all else untouched and `*written` 0: 21, `text` is shorter than 216 + 76 * (`piece_len` / 49 + 1) octets, at the
+ * end than 216. So no line is ever cut. rime_list_start refuses nothing.
+ */
+uint8_t rime_list_start(uint64_t state[RIME_LIST_STATE], uint8_t held[RIME_RECORD_OCTETS]);
+uint8_t rime_list_take(uint64_t state[RIME_LIST_STATE], uint8_t held[RIME_RECORD_OCTETS], const uint8_t *piece, size_t piece_len,
+                       uint8_t *text, size_t text_len, uint64_t *written);
+uint8_t rime_list_end(const uint64_t state[RIME_LIST_STATE], const uint8_t held[RIME_RECORD_OCTETS], uint8_t *text,
+                      size_t text_len, uint64_t *written);
+
+/*
+ * The salvage of a log in pieces, of any length. rime_salvage_take writes from the start of `out` what the piece makes of the new
+ * log, as rime_salvage has it, and from the start of `notes` a line for each whole record that is left out, as `1 refused 9`;
+ * rime_salvage_end writes the last line, as `end 5 kept 2 left out 17 cut` (records, records, octets), or `log refused 11` where
+ * the header is refused. What is past them stays. They leave in `written` and `*written` how many octets that is. Octets behind a
+ * fault are counted, so all of the log must be taken.
+ * Refused, with all else untouched and `written` or `*written` zeros: 21, `out` is shorter than 3 + 49 * (`piece_len` / 49 + 1)
+ * octets or `notes` than 216 + 50 * (`piece_len` / 49 + 1), at the end than 216. rime_salvage_start refuses nothing.
+ */
+uint8_t rime_salvage_start(uint64_t state[RIME_SALVAGE_STATE], uint8_t held[RIME_RECORD_OCTETS]);
+uint8_t rime_salvage_take(uint64_t state[RIME_SALVAGE_STATE], uint8_t held[RIME_RECORD_OCTETS], const uint8_t *piece,
+                          size_t piece_len, uint8_t *out, size_t out_len, uint8_t *notes, size_t notes_len,
+                          uint64_t written[RIME_WRITTEN]);
+uint8_t rime_salvage_end(const uint64_t state[RIME_SALVAGE_STATE], const uint8_t held[RIME_RECORD_OCTETS], uint8_t *notes,
+                         size_t notes_len, uint64_t *written);
+
+/*
+ * Is there anything on a log in pieces, of any length? rime_anything_take leaves in `*more` 1 where more octets could change the
+ * answer, else 0: behind the first yes, and behind a fault, nothing more need be read. rime_anything_end leaves in `answer` what
+ * rime_anything does of the whole log.
+ * Refused, by rime_anything_end alone, with `answer` zeros: 11, 1, 2 and 3, as rime_log_header has them.
+ */
+uint8_t rime_anything_start(uint64_t state[RIME_ANYTHING_STATE], uint8_t held[RIME_RECORD_OCTETS]);
+uint8_t rime_anything_take(uint64_t state[RIME_ANYTHING_STATE], uint8_t held[RIME_RECORD_OCTETS], const uint8_t *piece,
+                           size_t piece_len, uint64_t *more);
+uint8_t rime_anything_end(const uint64_t state[RIME_ANYTHING_STATE], const uint8_t held[RIME_RECORD_OCTETS],
+                          uint64_t answer[RIME_ANSWER]);
+
+/*
+ * The figures of one log in pieces, of any length. rime_figures_end leaves in `row` the ten numbers that rime_sheet has for it.
+ * Refused, by rime_figures_end alone, with `row` zeros: 19, one of the first nine is above 4,294,967,295.
+ */
+uint8_t rime_figures_start(uint64_t state[RIME_FIGURES_STATE], uint8_t held[RIME_RECORD_OCTETS]);
+uint8_t rime_figures_take(uint64_t state[RIME_FIGURES_STATE], uint8_t held[RIME_RECORD_OCTETS], const uint8_t *piece,
+                          size_t piece_len);
+uint8_t rime_figures_end(const uint64_t state[RIME_FIGURES_STATE], uint32_t row[10]);
 
 /* The preambles of an AES3 frame's halves, by their letters. */
 enum { RIME_PREAMBLE_X = 0x58, RIME_PREAMBLE_Y = 0x59, RIME_PREAMBLE_Z = 0x5A };

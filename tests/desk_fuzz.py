@@ -5,9 +5,10 @@ usage: desk_fuzz.py PROGRAM [COUNT [SEED]]
 
 Each log is a whole one in some format, with octets changed, taken out or put in. Every call must end with 0, 1 or 2 and say
 nothing of memory; the marks that `receive` writes must be as many as the records that `list` shows call for; and `list` must
-print what linelist does, where that is built. Spoiled sheets go through `add`, and spoiled sound files through `send`; they may
-end with 3 too.
+print what linelist does, where that is built. Spoiled sheets go through `add`, spoiled sound files, with chunks beside their
+sound too, through `send`, and spoiled sidecars through `receive`; they may end with 3 too.
 """
+import json
 import os
 import pathlib
 import random
@@ -15,6 +16,8 @@ import subprocess
 import sys
 import tempfile
 import wave
+
+from desk_archive_made import bext, cues, info, sound_file
 
 if len(sys.argv) < 2:
     sys.exit(__doc__)
@@ -165,9 +168,51 @@ def try_sound(folder):
         fail(f'{name.read_bytes()[:120]} ends with {by_name.returncode}, and through a pipe with {by_pipe.returncode}')
 
 
+def sidecar_of(folder):
+    """A log and a sidecar of a sound file whose chunks are spoiled; None where it can't be sent."""
+    name, log, kept = folder / chance.choice(['beside.wav', 'beside.rf64']), str(folder / 'beside.log'), folder / 'beside.json'
+    points = [(chance.randrange(1 << 32), chance.randbytes(at).replace(b'\0', b'x')) for at in range(chance.randrange(9))]
+    where = chance.choice(['before', 'after'])
+    sound_file(name, kind=b'RF64' if name.suffix == '.rf64' else b'RIFF', frames=10 + chance.randrange(99),
+               channels=chance.choice([1, 2]), **{where: bext(chance.randbytes(chance.randrange(256))) + info() + cues(points)})
+    if chance.randrange(2):
+        name.write_bytes(spoiled(name.read_bytes(), kinds=4))
+    done = run('send', '--cut', '--force', str(name), log, '--sidecar', str(kept), may=(0, 2, 3))
+    if done.returncode == 0:
+        json.loads(kept.read_text(encoding='utf-8'))
+    return (log, kept) if done.returncode == 0 else None
+
+
+def try_sidecar(folder):
+    """A sidecar with octets changed, taken out and put in, or with other values."""
+    made = sidecar_of(folder)
+    if made is None:
+        return
+    log, kept = made
+    text = kept.read_bytes()
+    if chance.randrange(2):
+        text = spoiled(text, kinds=4)
+    elif chance.randrange(2):
+        values = json.loads(text)
+        others = [0, -1, 1, 2, 1 << 31, 1 << 62, 'x', None, [], {}, [{}], 1.5, {'at': 0}, True]
+        values[chance.choice(list(values))] = chance.choice(others)
+        text = json.dumps(values).encode()
+    kept.write_bytes(text)
+    out = folder / chance.choice(['beside-out.wav', 'beside-out.rf64', 'beside-out.flac', 'beside-out.aiff', 'beside-out.w64'])
+    out.unlink(missing_ok=True)
+    more = ['--cues'] if out.suffix in ('.wav', '.rf64') else []
+    done = run('receive', log, str(out), '--sidecar', str(kept), '--json', '--sum', '--strict', *more, may=(0, 1, 2, 3))
+    told = json.loads(done.stdout)
+    if told['status'] != done.returncode or out.exists() != (done.returncode < 2):
+        fail(f'{text!r}: {told}, {done.stderr!r}')
+    if b"isn't a sidecar" in done.stderr and done.returncode != 2:
+        fail(f'{text!r} ended with {done.returncode}')
+
+
 with tempfile.TemporaryDirectory() as place:
     for _ in range(count):
         try_log(pathlib.Path(place), spoiled(whole_log(pathlib.Path(place))))
         try_sheet(pathlib.Path(place))
         try_sound(pathlib.Path(place))
-print(f'desk: {count} spoiled logs, sheets and sound files, no fault')
+        try_sidecar(pathlib.Path(place))
+print(f'desk: {count} spoiled logs, sheets, sound files and sidecars, no fault')

@@ -1,7 +1,7 @@
 /*
  * A library that is loaded before the desk tool (LD_PRELOAD), so that a test can act at a moment that it chooses:
  *
- *   HOOK_FILE=NAME HOOK_READ=N HOOK_SIZE=OCTETS   gives the file that length before the N-th read of it, or when it is mapped;
+ *   HOOK_FILE=NAME HOOK_READ=N HOOK_SIZE=OCTETS   gives the file that length before the N-th read of it;
  *                                                 where it becomes longer, the octets are a copy of those before its end
  *   HOOK_LOG=NAME                                 a line there for each file that is synced and each that is renamed
  */
@@ -10,7 +10,6 @@
 #include <stdio.h>
 #include <stdlib.h>
 #include <string.h>
-#include <sys/mman.h>
 #include <sys/stat.h>
 #include <unistd.h>
 
@@ -41,13 +40,6 @@ ssize_t read(int fd, void *to, size_t count) {
     const char *when = getenv("HOOK_READ");
     if (when != NULL && is_the_file(fd) && ++reads == atoi(when)) act();
     return real(fd, to, count);
-}
-
-void *mmap(void *at, size_t size, int protection, int flags, int fd, off_t offset) {
-    void *(*real)(void *, size_t, int, int, int, off_t) = dlsym(RTLD_NEXT, "mmap");
-    void *mapped = real(at, size, protection, flags, fd, offset);
-    if (fd >= 0 && is_the_file(fd)) act();
-    return mapped;
 }
 
 static void note(const char *what, const char *name) {

@@ -160,7 +160,7 @@ def try_sheet(case: Case, desk: Desk) -> None:
 
 
 def try_labels(case: Case, desk: Desk, blocks: List[Finished], rate: Rate) -> None:
-    ran = desk.run("labels", desk.name, *rate.words)
+    ran = desk.run("labels", "--no-slips", desk.name, *rate.words)
     same("labels", ran.out.splitlines(), status_lines(case.setting, blocks, rate) if case.setting else [])
     same("labels' status", ran.status, status_of(case))
     fault_said(case, ran, "labels")
@@ -217,7 +217,7 @@ def summary(case: Case, setting: Setting, ran: Ran) -> None:
 def try_receive(case: Case, desk: Desk, rate: Rate) -> None:
     wav, marks, labels = desk.output("out.wav"), desk.output("out.marks"), desk.output("out.txt")
     strict, quiet = desk.chance.choice([[], ["--strict"]]), desk.chance.choice([[], ["-q"]])
-    ran = desk.run("receive", desk.name, wav, "--marks", marks, "--labels", labels, *rate.words, *strict, *quiet)
+    ran = desk.run("receive", "--no-slips", desk.name, wav, "--marks", marks, "--labels", labels, *rate.words, *strict, *quiet)
     flawed = case.counts[1] + case.counts[3] + case.handed.marks.count(DAMAGED) > 0 or bool(rate.contradicted)
     same("receive's status", ran.status, status_of(case, bool(strict) and flawed))
     fault_said(case, ran, "receive")
@@ -242,7 +242,7 @@ def try_kinds(case: Case, desk: Desk) -> None:
         return
     kind, bits = desk.chance.choice(["flac", "w64", "aiff"]), FILE_BITS[case.setting.shape.bits]
     out = desk.output(f"out.{kind}")
-    ran = desk.run("receive", "-q", desk.name, out)
+    ran = desk.run("receive", "-q", "--no-slips", desk.name, out)
     if kind == "flac" and (bits > 24 or case.setting.channels > 8):
         same("FLAC's status", ran.status, 64 if bits == 64 else 3)
         same("a FLAC file that can't hold them", out.exists(), False)

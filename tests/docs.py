@@ -20,8 +20,8 @@ ANY = re.compile(r'\b(?:NAME|FILE|File|FUNCTION|CRATE|CRATES|PROGRAM|MACHINE|VER
 # Words of the standards and of other tools, and a file that the toolchain writes.
 OTHERS = {'pcmAudioEncap', 'pydoc'}
 OTHER_FILES = {'Lts.antt'}
-NOT_OUR_PAGES = {'sox', 'soxi', 'sndfile-info', 'audacity', 'parallel'}
-NOT_OURS = ('cargo', 'pip', 'gcc', 'git', 'parallel', 'pkg-config', 'apt-get', 'sox', 'valgrind', 'for', 'export')
+NOT_OUR_PAGES = {'sha256sum', 'sox', 'soxi', 'sndfile-info', 'audacity', 'parallel', 'editcap'}
+NOT_OURS = ('cargo', 'pip', 'gcc', 'git', 'parallel', 'pkg-config', 'apt-get', 'sox', 'valgrind', 'for', 'export', 'tshark', 'editcap')
 
 
 @functools.cache
@@ -280,7 +280,7 @@ FAULTS = [
     ('README.md', 'See docs/NOSUCH.md.'), ('README.md', 'See crates/nosuch.'), ('README.md', 'It is in nosuch.py.'),
     ('README.md', 'See receiver/Nosuch.'), ('README.md', 'It writes target/nosuch/file.'), ('README.md', 'Run `make nosuch`.'),
     ('docs/DESK.md', '    make nosuch   # a remark'), ('README.md', 'Run `make install NOSUCH=1`.'),
-    ('README.md', 'Run `rt nosuch`.'), ('docs/RULES.md', 'It is refused 31.'),
+    ('README.md', 'Run `rt nosuch`.'), ('docs/RULES.md', 'It is refused 41.'),
     ('docs/RULES.md', 'Refusals 1 to 5 and 40.'), ('docs/DESK.md', 'Use `rimesatchel nosuch in.log`.'),
     ('docs/DESK.md', 'Use `rimesatchel receive in.log out.wav --nosuch`.'),
     ('docs/DESK.md', 'Use `rimesatchel list in.log --labels x`.'), ('docs/DESK.md', 'Use --nosuch.'),

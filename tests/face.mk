@@ -28,6 +28,7 @@ endif
 INSTRUCTIONS := bench/instructions-$(MACHINE).txt
 GATE_CALLS := 400000
 GATE_SEED := 1
+GATE_LINES := 2000
 # Fewer than N: memcheck is slow.
 MEMCHECK_CALLS := 20000
 MEMCHECK := valgrind --quiet --error-exitcode=9
@@ -113,6 +114,7 @@ face-bindings: $(LIB)/librimesatchel.a $(SHARED) $(SHARED_MANAGEMENT)
 	cargo test --quiet --offline --locked --doc --manifest-path bindings/rust/Cargo.toml \
 	    --target-dir target/compare > $(EXAMPLES)/doc-tests 2>&1 || { cat $(EXAMPLES)/doc-tests; exit 1; }
 	cd bindings/python && python3 -c 'import doctest, rimesatchel, sys; sys.exit(doctest.testmod(rimesatchel).failed != 0)'
+	python3 tests/slips.py
 	@echo "bindings: the pages of the Rust crate and of the Python module say what is so"
 
 # Everything that links the archive. The gate builds it while `rt ci` goes on.
@@ -122,6 +124,7 @@ face-build: face-compare face-near $(EXAMPLES)/handover-c $(EXAMPLES)/handover-r
 face-test: face-compare face-examples face-bindings
 	$(COMPARE) vectors tests/vectors $(LINELIST)
 	$(COMPARE) story
+	$(COMPARE) slips $(GATE_LINES)
 	$(COMPARE) fuzz $(GATE_CALLS) $(GATE_SEED) $(LINELIST)
 
 fuzz: face-archive

@@ -16,7 +16,7 @@ import types
 HERE = pathlib.Path(__file__).resolve().parent.parent
 HEADERS = ['include/rimesatchel.h', 'include/rime_management.h']
 CRATES = ['crates/rimesatchel', 'crates/management']
-RUST = ['bindings/rust/src/face.rs', 'bindings/rust/src/management.rs']
+RUST = ['bindings/rust/src/face.rs', 'bindings/rust/src/face/pieces.rs', 'bindings/rust/src/management.rs']
 PYTHON = 'bindings/python/rimesatchel/__init__.py'
 C_KINDS = {'uint8_t': 'u8', 'uint32_t': 'u32', 'uint64_t': 'u64', 'size_t': 'usize', 'bool': 'bool'}
 CTYPES = {ctypes.c_uint8: 'u8', ctypes.c_uint32: 'u32', ctypes.c_uint64: 'u64', ctypes.c_bool: 'bool'}

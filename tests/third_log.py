@@ -11,12 +11,15 @@ from third_reading import (
     Refused,
     Report,
     Runs,
+    Sender,
     Setting,
     check_receiver,
+    check_sender,
     check_setting,
     receive,
     refuse,
     runs_for,
+    send,
 )
 
 # 10. The log
@@ -102,6 +105,60 @@ def judge_log(state: Receiver, log: bytes, place: int, room: int) -> Tuple[Recei
         except Refused as refusal:
             judged += bytes([refusal.number, 0, 0, 0, 0])
         place += 49
+
+
+def receive_log(state: Receiver, log: bytes, place: int, runs: Runs) -> Tuple[Receiver, List[int]]:
+    """10.7: the state, and what is counted."""
+    check_receiver(state)
+    refuse(5, len({len(run) for run in runs}) != 1)
+    written = taken = missing = 0
+    refused = {8: 0, 9: 0, 15: 0, 20: 0}
+    while True:
+        part = Runs(*(run[written:] for run in runs))
+        try:
+            record = record_at(log, place)
+            if record is None:
+                why = 0
+                break
+            state, report = receive(state, record[1], record[0], part)
+        except Refused as refusal:
+            if refusal.number not in refused:
+                why = refusal.number
+                break
+            refused[refusal.number] += 1
+        else:
+            entries = (report.missing + 1) * state.setting.entries
+            for run, new in zip(runs, part):
+                run[written : written + entries] = new[:entries]
+            written, taken, missing = written + entries, taken + 1, missing + report.missing
+        place += 49
+    return state, [place, written, why, taken, missing, *refused.values()]
+
+
+def send_log(
+    state: Sender, indications: bool, samples: Sequence[int], ancillary: Sequence[int], log: bytearray, place: int
+) -> Tuple[Sender, List[int]]:
+    """10.8: the state, and what is counted; the log is written."""
+    check_sender(state)
+    refuse(5, len(samples) != len(ancillary))
+    used, cells = state.setting.entries, 0
+    while True:
+        here = slice(cells * used, (cells + 1) * used)
+        if len(samples) < here.stop:
+            why = 0
+            break
+        if place + 49 > len(log):
+            why = 12
+            break
+        indication = indications and state.number % 8 == 0
+        try:
+            state, cell = send(state, indication, samples[here], ancillary[here])
+        except Refused as refusal:
+            why = refusal.number
+            break
+        log[place : place + 49] = write_record(indication, cell)
+        place, cells = place + 49, cells + 1
+    return state, [place, cells * used, why, cells]
 
 
 def read_log(log: bytes, limit: int = LIMIT) -> Iterator[Event]:

@@ -14,6 +14,7 @@ import third_beside as beside
 import third_log
 import third_port
 import third_reading as third
+import third_slips
 from third_reading import Refused
 
 
@@ -178,6 +179,29 @@ def judge_log_case(state: str, log: str, place: str, reports: str) -> str:
     return answer(ask, words(state, reports, 0, 0, 0))
 
 
+def receive_log_case(state: str, log: str, place: str, samples: str, ancillary: str, marks: str) -> str:
+    runs = third.Runs(numbers(samples), list(octets(ancillary)), list(octets(marks)))
+
+    def left() -> str:
+        return words(run(runs.samples), text(bytes(runs.ancillary)), text(bytes(runs.marks)))
+
+    def ask() -> str:
+        after, counts = third_log.receive_log(receiver_of(state), octets(log), int(place), runs)
+        return words(receiver_text(after), left(), *counts)
+
+    return answer(ask, words(state, left(), *[0] * 9))
+
+
+def send_log_case(state: str, indications: str, samples: str, ancillary: str, log: str, place: str) -> str:
+    def ask() -> str:
+        written = bytearray(octets(log))
+        given = numbers(samples), numbers(ancillary)
+        after, counts = third_log.send_log(sender_of(state), indications == "1", *given, written, int(place))
+        return words(sender_text(after), text(bytes(written)), *counts)
+
+    return answer(ask, words(state, log, 0, 0, 0, 0))
+
+
 def linelist_case(log: str, limit: str = str(third.LIMIT)) -> str:
     return text("".join(line + "\n" for line in third_log.list_lines(octets(log), int(limit))).encode())
 
@@ -276,6 +300,21 @@ def port_settings_case(record: str) -> str:
 
 def port_packing_case(octet: str, channels: str, order: str) -> str:
     return answer(lambda: str(third_port.port_packing(third.Setting(int(octet), int(channels), int(order)))), "0")
+
+
+def slip_case(watch: str, report: str) -> str:
+    missing, number, second, indication = numbers(report)
+
+    def ask() -> str:
+        after, what, cells = third_slips.step(third_slips.Watch(*numbers(watch)), third.Report(missing, number, second, indication != 0))
+        return words(run(after), what, cells)
+
+    return answer(ask, words(watch, 0, 0))
+
+
+def slips_case(log: str) -> str:
+    told = third_slips.story(octets(log))
+    return words(run(told.told), run(told.alone), run(told.waiting), told.placed, ",".join(told.marks) or "-", told.digest)
 
 
 CASES: Dict[str, Callable[..., str]] = {

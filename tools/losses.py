@@ -11,7 +11,7 @@ PAGE = pathlib.Path(__file__).resolve().parent.parent / "docs/LOSSES.md"
 # S, and the formats with overhead that have it
 FORMATS = {24: "13, 52", 16: "15, 54", 12: "17, 56", 8: "5A"}
 FREQUENCIES = [32000, 44100, 48000, 96000]
-OUTAGES = [14, 15, 16, 17, 31, 32, 200]
+OUTAGES = [14, 15, 16, 17, 31, 32, 119, 127, 200]
 
 
 def row(*cells):
@@ -37,15 +37,31 @@ def durations():
         yield row(*(channels(slots, times) for slots in FORMATS), times, *(milliseconds(times, f) for f in FREQUENCIES))
 
 
+def starts(last, steps):
+    """Block starts among so many numbers after this one."""
+    return (last + steps) // 8 - last // 8
+
+
+def found(gone):
+    """Cells that second numbers tell beside those told missing, of a sender that counts blocks, whatever the last number was."""
+    told = set()
+    for last in range(16):
+        up, by = starts(last, gone + 1) % 16, starts(last, (gone + 1) % 16)
+        told.add(0 if up <= by else (up - by + 1) // 2 * 16)
+    if len(told) > 1:
+        raise SystemExit(f"losses: what is found of {gone} lost cells hangs on the last number: {sorted(told)}")
+    return told.pop()
+
+
 def outages():
-    """As the theorem says it: k lost ones are shown as k modulo 16, and a cell after 15 modulo 16 is refused and lost too."""
-    yield row("lost in a row", "the next unaltered cell", "then told missing", "places after it are early by")
-    yield row("---:", "---", "---:", "---:")
+    """As the theorems say it: k lost ones are shown as k modulo 16, and a cell after 15 modulo 16 is refused and lost too."""
+    yield row("lost in a row", "the next unaltered cell", "then told missing", "places after it are early by", "found by second numbers")
+    yield row("---:", "---", "---:", "---:", "---:")
     for lost in OUTAGES:
         refused = lost % 16 == 15
         gone = lost + refused
         slip = f"{gone // 16 * 16} cells" if gone >= 16 else "none"
-        yield row(lost, "refused 9, and lost too" if refused else "taken", gone % 16, slip)
+        yield row(lost, "refused 9, and lost too" if refused else "taken", gone % 16, slip, found(gone))
 
 
 def put(text, name, lines):

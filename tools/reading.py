@@ -42,7 +42,7 @@ LEGEND = ROOT.parent / "docs/PROMISES.md"
 CODE = {"Adding", "Code", "Packing", "Unpacking", "Marks", "Settings", "Sound", "Steps", "Stretch", "Taken", "Taking"}
 CONTRACTS = ("line", "Contracts")
 MOST = 1455
-MOST_ALL = 2341
+MOST_ALL = 3458
 
 NAME = r"[^\s(){}\[\],;.:λ∷→«»\"]+"
 DECLARES = re.compile(rf"^(?:unfoldable |abbrev )?(?:pub )?(?:record |data )?({NAME})\s*(?:[:({{]|$)")

@@ -65,11 +65,11 @@ HEAD = '''// Three tables by the nine top bits of a sample: the protection bits,
 // Where two loops call it, both make a call for every slot, which takes much longer. So each loop has its own.
 ghost use mathlib.Core.Path.{_≡_};
 ghost use Prim.Native.Nat.{_%_, _<_};
-ghost use Rattle.guards.specs.Guards.{withV, protectedBits, tenGuard};
+ghost use Rattle.guards.specs.Guards.{vIn, protectedBits, tenGuard};
 ghost use Rattle.tables.specs.Marks.{MarksOf, MarksWithoutV};
 '''
 
-GUARD = '⌜ r ≡ tenGuard (protectedBits (nine % 512) (withV 0)) ⌝'
+GUARD = '⌜ r ≡ tenGuard (protectedBits (nine % 512) (vIn 0)) ⌝'
 MARKS = '⌜ MarksOf (nine % 512) r × (r < 4294967296) ⌝'
 BARE = '⌜ MarksWithoutV (nine % 512) r × (r < 4294967296) ⌝'
 

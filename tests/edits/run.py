@@ -11,6 +11,7 @@ crate are built there, and the scripts of tests/gate that try programs run until
 import os
 import pathlib
 import shutil
+import signal
 import subprocess
 import sys
 
@@ -67,13 +68,17 @@ def built(program):
 def stopped_by(programs):
     """The first script that fails, and its words; nothing where all pass."""
     for script in [PROGRAMS[program] for program in programs] + [LOOPS]:
+        ran = subprocess.Popen(['bash', f'tests/gate/{script}.sh'], cwd=ROOT, stdout=subprocess.PIPE, stderr=subprocess.STDOUT,
+                               text=True, errors='replace', env={**os.environ, 'PROGRAMS': str(SCRATCH / 'programs')},
+                               start_new_session=True)
         try:
-            ran = subprocess.run(['bash', f'tests/gate/{script}.sh'], cwd=ROOT, capture_output=True, text=True, errors='replace',
-                                 timeout=600, env={**os.environ, 'PROGRAMS': str(SCRATCH / 'programs')}, check=False)
+            out, _ = ran.communicate(timeout=200)
         except subprocess.TimeoutExpired:
+            os.killpg(ran.pid, signal.SIGKILL)  # the script, and the program that goes on for ever
+            ran.communicate()
             return f'{script}.sh, which did not end'
         if ran.returncode:
-            said = [line for line in (ran.stdout + ran.stderr).split('\n') if line.strip()]
+            said = [line for line in out.split('\n') if line.strip()]
             return f'{script}.sh: {said[-1][:160] if said else "no word"}'
     return ''
 

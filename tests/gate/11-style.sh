@@ -3,7 +3,8 @@
 set -eu -o pipefail
 export LC_ALL=C
 bash tests/need.sh shellcheck
-mapfile -t scripts < <(grep -rlE --exclude-dir=target --exclude-dir=.git '^#!.*\<(bash|sh)$' .)
+# A page may show a script: it is one only where that is its first line.
+mapfile -t scripts < <(grep -rnm 1 -E --exclude-dir=target --exclude-dir=.git '^#!.*\<(bash|sh)$' . | sed -n 's/:1:#!.*//p')
 [ "${#scripts[@]}" -gt 10 ] || { echo "style: the scripts weren't found" >&2; exit 1; }
 shellcheck --severity=warning --external-sources --format=gcc "${scripts[@]}"
 

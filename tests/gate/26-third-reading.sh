@@ -31,6 +31,7 @@ planted send third_reading.py '0b1011' '0b1101'
 planted receive third_reading.py '= 0, 0, MISSING' '= 0, 0, SOUND'
 planted status_step third_reading.py '& ~worth |' '|'
 planted linelist third_log.py '"sound", report.number' '"sound", report.second'
+planted slip third_slips.py '16 * -(-too_far // 2)' '16 * (too_far // 2)'
 planted aes3_import third_beside.py 'c << 2 | u << 1' 'u << 2 | c << 1'
 planted controller third_port.py 'sum(differ) < fewest' 'sum(differ) <= fewest'
-echo "third reading: six planted faults noticed"
+echo "third reading: seven planted faults noticed"

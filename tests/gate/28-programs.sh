@@ -149,6 +149,7 @@ silent "the second name is too long" sheet
 # as ever.
 words() { sed -n "s/^    case $1: return \"\(.*\)\";/\1/p" include/rimesatchel.h; }
 printf '\x02\x01\x00\x07' > "$dir/11.log"
+{ printf '\x02\x01\x00'; blank 2; printf '\x07'; blank 1; } > "$dir/later.log"
 { printf '\x02\x01\x00'; blank 70000; head -c 30 /dev/zero; } > "$dir/12.log"
 printf '\x02' > "$dir/short.log"
 printf '\x99\x01\x00' > "$dir/1.log"
@@ -171,6 +172,7 @@ while IFS='|' read -r log printed stopped; do
     cmp "$dir/by-name" "$dir/out"
 done << LOGS
 11|no 0|record 0 broken 11: $(words 11)
+later|no 2|record 2 broken 11: $(words 11)
 12|no 70000|record 70000 broken 12: $(words 12)
 short|log refused 11|the log is refused 11: $(words 11)
 1|log refused 1|the log is refused 1: $(words 1)
@@ -180,6 +182,11 @@ LOGS
 { seq 4095 | sed "s|.*|0|"; echo 4; cat "$dir/11.log"; } > "$dir/most"
 tried sheet < "$dir/most"
 [ "$(tail -n 1 "$dir/err")" = "sheet: log 4095: record 0 broken 11: $(words 11)" ] || fail "sheet: the last of 4,096 logs"
+# Behind a refusal nothing more is read: what comes here never ends.
+set +o pipefail
+{ echo 'no length'; cat /dev/zero; } 2> /dev/null | tried sheet
+set -o pipefail
+[ "$(cat "$dir/out")" = 'sheet refused 5' ] || fail "sheet: no length: $(cat "$dir/out")"
 tried sheet "$dir/11.log" - "$dir/one.log" < "$dir/12.log"
 said "two that stop" sheet "sheet: $dir/11.log: record 0 broken 11: $(words 11)" \
     "sheet: standard input: record 70000 broken 12: $(words 12)"

@@ -237,7 +237,7 @@ assert missing not in sound and damaged not in sound, 'a colour too many in the 
 PY
 
 # The man page has every option of every subcommand, and no other.
-for command in send receive list anything sheet add salvage labels picture; do
+for command in send receive list anything sheet add salvage labels picture verify play record; do
     "$desk" "$command" --help | grep -o -- '--[a-z]*' | sed '/--help/d; /--usage/d; /--version/d' | sort -u > options
     sed -n "/^\.SS $command /,/^\.S[SH] /p" "$here/desk/rimesatchel.1" | sed -n 's/.*\\-\\-\([a-z]*\).*/--\1/p' | sort -u |
         diff options - || fail "$command: the man page has other options"
@@ -293,12 +293,12 @@ ends 3 "No such file or directory" "$desk" receive long.log nowhere/x.wav
 ends 3 "Is a directory" "$desk" list none
 ends 3 "Is a directory" "$desk" anything none
 
-# A file that becomes shorter while it is mapped and looked at: 8 GB of silence, none of it on the disk.
+# A file that becomes shorter while it is read: 8 GB of silence, none of it on the disk.
 shortened() {
     printf '\x02\x01\x00' > shrinking.log
     truncate -s 8G shrinking.log
     "$desk" "$1" -q still.log shrinking.log &
-    while kill -0 $! && ! grep -q shrinking.log "/proc/$!/maps"; do sleep 0.01; done
+    while kill -0 $! && ! find "/proc/$!/fd" -lname '*/shrinking.log' | grep -q .; do sleep 0.01; done
     truncate -s 100 shrinking.log
     wait $!
 }

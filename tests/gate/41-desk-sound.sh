@@ -15,3 +15,5 @@ make --no-print-directory -s -f desk/desk.mk desk DESK="$dir" \
 python3 tests/desk_sound.py "${DESK:-target/desk}/rimesatchel" "$dir/rimesatchel" "$dir/desk_log"
 # Three spoiled logs of each format, held against the reading of docs/RULES.md alone. `make desk-third` takes more.
 python3 tests/desk_third.py "${DESK:-target/desk}/rimesatchel" 42 1 6
+# Outages of up to 200 cells, told by second numbers.
+python3 tests/desk_slips.py "${DESK:-target/desk}/rimesatchel" tests/vectors

@@ -3,7 +3,7 @@
 # file, one name given twice, and what is left where an output fails or a call is stopped.
 . tests/desk_try.sh
 
-# A log that is cut while it is read: before the first read, after a buffer of 1,024 records (within a record, and between two),
+# A log that is cut while it is read: before the first read, after a buffer (within a record, and between two),
 # and when all of it was read. Then one that grows.
 size=$(stat -c %s in.log)
 [ "$size" = $((3 + 2000 * 49)) ] || fail "2,000 records"
@@ -29,10 +29,18 @@ done
 ends 3 "1499 sound" hooked 2 $((3 + 1500 * 49)) "$desk" list read.log
 ! grep -q '^end' printed || fail "a list of a log that was cut ends as if it were whole"
 ends 0 "2001 sound" hooked 2 $((size + 98)) "$desk" list read.log
-for command in sheet anything; do # no signal tells of a cut within the last page
-    ends 3 "read.log: became shorter while it was read" hooked 0 $((size - 49)) "$desk" $command read.log
+{ printf '\x02\x01\x00' && head -c $((2000 * 49)) /dev/zero; } > silent.log # so that `anything` reads all of it
+mv in.log sound.log
+mv silent.log in.log
+for command in sheet anything; do
+    for cut in "1 0" "2 60000" "2 $((3 + 1500 * 49))" "3 $((size - 1))"; do
+        # shellcheck disable=SC2086
+        ends 3 "read.log: became shorter while it was read" hooked $cut "$desk" $command read.log
+    done
+    [ "$command" = sheet ] && well=0 || well=1
+    ends $well "read.log: grew while it was read" hooked 2 $((size + 49)) "$desk" "$command" read.log
 done
-ends 0 "read.log: grew while it was read" hooked 0 $((size + 49)) "$desk" sheet read.log
+mv sound.log in.log
 
 # What isn't a regular file is written into: a pipe, a device where one can be made, and standard output by a link as /dev/stdout
 # is one. Never those of the machine itself: a tool that renames over them would take them away.

@@ -114,11 +114,11 @@ cp printed rows.csv
 ends 0 "all,163880,0," "$desk" add --logs 8194 rows.csv rows.csv
 # A log alone whose totals pass 32 bits.
 sources=()
-for name in sheet figures readback lent whole spool output place say limits format progress; do
+for name in sheet figures json readback pieces whole spool output place say limits format progress; do
     sources+=("$here/desk/$name.c")
 done
-gcc -std=c11 -D_GNU_SOURCE -O1 -Wall -Wextra -Werror -I"$here/include" -I"$here/desk" -Wl,--wrap=rime_sheet \
-    "$here/tests/desk_total.c" "${sources[@]}" "$lib/librimesatchel.a" -lm -o total
+gcc -std=c11 -D_GNU_SOURCE -O1 -Wall -Wextra -Werror -I"$here/include" -I"$here/desk" -Wl,--wrap=rime_figures_take \
+    "$here/tests/desk_total.c" "${sources[@]}" "$lib/librimesatchel.a" -ljansson -lm -o total
 ends 2 "in.log: its sheet is refused 19: a total would pass 4,294,967,295" ./total small.log in.log torn.log
 sed -n 3p printed | grep -qx '1,0,0,0,0,0,0,0,0,0,0,refused 19,"in.log"' || fail "the row of a log that is too long alone"
 grep -q '^all,20,' printed || fail "a log that is too long alone counts"

@@ -105,12 +105,14 @@ for kind in wav w64 rf64 aiff flac; do
 done
 
 # TMPDIR is where what comes from a pipe is kept.
-for call in "send - none/x.log" "sheet -" "anything -"; do
-    # shellcheck disable=SC2086
-    ends 3 "$dir/nowhere: standard input can't be kept there" piped in.wav env TMPDIR="$dir/nowhere" "$desk" $call
-done
+ends 3 "$dir/nowhere: standard input can't be kept there" piped in.wav env TMPDIR="$dir/nowhere" "$desk" send - none/x.log
+ends 0 "all,2000," piped in.log env TMPDIR="$dir/nowhere" "$desk" sheet -
+ends 0 "yes 0" piped in.log env TMPDIR="$dir/nowhere" "$desk" anything -
 mkdir kept
-ends 0 "all,2000," piped in.log env TMPDIR="$dir/kept" "$desk" sheet -
+"$desk" send -q - none/x.log < in.wav
+TMPDIR="$dir/kept" piped in.wav "$desk" send -q - none/y.log
+same none/x.log none/y.log "a log of what was kept in TMPDIR"
+rm none/x.log none/y.log
 empty kept
 empty none
 

@@ -2,12 +2,13 @@
 """Tries the mutants: small wrong changes of the crates, each of which the prover must refuse.
 
   run.py [CRATE...]     try the mutants of these crates, or all: `make mutants`
-  run.py --joint [CRATE...]  try the joint edits of these crates, or all: those with a line `above: CRATE`
+  run.py --joint [CRATE...]  try the joint edits of these crates, or all: those with a line `above:`
   run.py --applies      only see that each edit, those of tests/edits and the must-fail edits too, still fits the file that it changes:
                         the gate
 
 The crates are copied to target/mutants, with the mutants in the place of their must-fail edits; `rt must-fail` tries them
-there. It leaves what the prover said of each in target/mutants/target/must-fail/CRATE/NAME/.log.
+there. It leaves what the prover said of each in target/mutants/target/must-fail/CRATE/NAME/.log. Joint edits of different crates are
+tried together, in target/joint/ABOVE-ROUND.
 """
 import os
 import pathlib
@@ -49,10 +50,15 @@ def fault_of(edit, crate):
     return '' if pairs else 'it has no `old:` and `new:`'
 
 
-def above_of(edit):
-    """The crate with the page that must refuse a joint edit, or nothing."""
-    found = re.search(r'^above: (\w+)$', edit.read_text(encoding='utf-8'), re.M)
+def line_of(edit, word):
+    """What an edit says behind a word, as `above:`, or nothing."""
+    found = re.search(rf'^{word}: (.+)$', edit.read_text(encoding='utf-8'), re.M)
     return found[1] if found else ''
+
+
+def above_of(edit):
+    """The crate with the page that must refuse a joint edit, `vectors` where no statement does, or nothing."""
+    return line_of(edit, 'above')
 
 
 def apply(edit, crate):
@@ -67,27 +73,58 @@ def apply(edit, crate):
             file.write_text(file.read_text(encoding='utf-8').replace(old, line[4:].removeprefix(' ')), encoding='utf-8')
 
 
-def try_joint(crates):
-    """Tries each joint edit: its own crate must stay proved, and the crate above must not; says whether all did so."""
-    good = bad = 0
+def rounds_of(crates):
+    """The joint edits of these crates in rounds: one edit of a crate in each, and one crate above."""
+    rounds = {}
     for edit in sorted(edit for crate in crates for edit in (MUTANTS / crate).glob('*.edit') if above_of(edit)):
-        own, above, name = edit.parent.name, above_of(edit), f'{edit.parent.name}/{edit.stem}'
-        prepare([])
-        apply(edit, SCRATCH / 'crates' / own)
-        first = subprocess.run(['rt', 'check', own], cwd=SCRATCH, capture_output=True, text=True, errors='replace', check=False)
-        if first.returncode != 0:
-            bad += 1
-            print(f'NOT COUNTED  {name}: its own crate refuses it', flush=True)
-            continue
-        second = subprocess.run(['rt', 'check', above], cwd=SCRATCH, capture_output=True, text=True, errors='replace', check=False)
-        found = re.search(r'crates/(\S*?): error: (?:`([^`]*)`)?', second.stdout + second.stderr)
-        if second.returncode == 0 or not found:
-            bad += 1
-            print(f'NOT REFUSED  {name}: {what_is_wrong(edit)}', flush=True)
-        else:
-            good += 1
-            print(f'refused      {name}: {what_is_wrong(edit)} ({found[1]} {found[2] or ""})', flush=True)
-    print(f'joint edits: {good} refused above, {bad} not')
+        above, k = above_of(edit).replace('vectors', 'pages'), 0
+        while any(other.parent == edit.parent for other in rounds.get((above, k), [])):
+            k += 1
+        rounds.setdefault((above, k), []).append(edit)
+    return rounds
+
+
+def refused_in(scratch, crate):
+    """Proves a crate of the copy; gives the statements, as `CRATE/FILE LEMMA`, and the functions that are refused, or none if it is
+    proved."""
+    run = subprocess.run(['rt', 'check', crate], cwd=scratch, capture_output=True, text=True, errors='replace', check=False)
+    found = re.findall(r'crates/(\w+)/(?:proofs|specs)/(\S+?)\.antt:\S* error: `([^`]*)`([^\n]*)', run.stdout + run.stderr)
+    first = [f'{own}/{file} {lemma}' for own, file, lemma, rest in found if 'was not admitted' not in rest]
+    first += [f'function {name}' for name in re.findall(r'^fn (\S+): (?:not proved|no proof)', run.stdout, re.M)]
+    return [] if run.returncode == 0 else first or ['no line named']
+
+
+def try_round(above, k, edits):
+    """Tries the edits of a round together: each one's own crate must stay proved, and the crate above refuse the statements that they
+    name. Where the statement is in the own crate, only statements may be refused in it, so that every function is proved. Says how many
+    didn't do so."""
+    scratch = ROOT / 'target' / 'joint' / f'{above}-{k}'
+    prepare([], scratch)
+    for edit in edits:
+        apply(edit, scratch / 'crates' / edit.parent.name)
+    for edit in edits:
+        errors = refused_in(scratch, edit.parent.name) if edit.parent.name != above else []
+        if errors:
+            print(f'NOT COUNTED  {edit.parent.name}/{edit.stem}: its own crate refuses it ({errors[0]})', flush=True)
+            return len(edits)
+    bad, errors = 0, refused_in(scratch, above)
+    functions = [error for error in errors if '/Proof ' in error or error.startswith('function ')]
+    for edit in edits:
+        statement = f'{above}/{line_of(edit, "refused")}'
+        good = not errors if above_of(edit) == 'vectors' else statement in errors and not functions
+        by = 'vectors alone' if above_of(edit) == 'vectors' else statement
+        verdict = 'refused    ' if good else 'NOT REFUSED'
+        bad += not good
+        print(f'{verdict}  {edit.parent.name}/{edit.stem}: {what_is_wrong(edit)} ({by if good else errors})', flush=True)
+    return bad
+
+
+def try_joint(crates):
+    """Tries the joint edits, round after round; says whether each was refused as it says."""
+    rounds = rounds_of(crates)
+    # the rounds that prove most anew come last
+    bad = sum(try_round(*key, rounds[key]) for key in sorted(rounds, key=lambda key: (('line', 'pages').count(key[0]), key)))
+    print(f'joint edits: {sum(map(len, rounds.values())) - bad} refused as they say, {bad} not')
     return not bad
 
 
@@ -106,16 +143,17 @@ def check_edits():
     return not bad
 
 
-def prepare(crates):
-    """A copy of the repository's crates as they are proved, with mutants in the place of must-fail edits."""
-    shutil.rmtree(SCRATCH, ignore_errors=True)
-    SCRATCH.mkdir(parents=True)
-    shutil.copy(ROOT / 'crates.txt', SCRATCH)
-    shutil.copytree(ROOT / 'crates', SCRATCH / 'crates', ignore=shutil.ignore_patterns('must-fail'))
+def prepare(crates, scratch):
+    """A copy of the repository's crates as they are proved, with mutants in the place of must-fail edits. What the copy proved in an
+    earlier run stays: rt proves anew what changed since."""
+    shutil.rmtree(scratch / 'crates', ignore_errors=True)
+    shutil.copytree(ROOT / 'crates', scratch / 'crates', ignore=shutil.ignore_patterns('must-fail'))
+    shutil.copy(ROOT / 'crates.txt', scratch)
     for part in ('rlib', 'stamp'):
-        shutil.copytree(ROOT / 'target' / part, SCRATCH / 'target' / part)
+        if not (scratch / 'target' / part).is_dir():
+            shutil.copytree(ROOT / 'target' / part, scratch / 'target' / part)
     for crate in crates:
-        place = SCRATCH / 'crates' / crate / 'must-fail'
+        place = scratch / 'crates' / crate / 'must-fail'
         place.mkdir()
         for edit in (MUTANTS / crate).glob('*.edit'):
             if not above_of(edit):
@@ -159,7 +197,7 @@ def main():
     if sys.argv[1:] == ['--applies']:
         return check_edits()
     joint = sys.argv[1:2] == ['--joint']
-    with_mutants = sorted(folder.name for folder in MUTANTS.iterdir() if any(bool(above_of(edit)) == joint for edit in folder.glob('*.edit')))
+    with_mutants = sorted({edit.parent.name for edit in MUTANTS.glob('*/*.edit') if bool(above_of(edit)) == joint})
     crates = sys.argv[2 if joint else 1:] or with_mutants
     for crate in crates:
         if crate not in with_mutants:
@@ -171,13 +209,15 @@ def main():
     if not check_edits():
         return False
     # What is changed must be proved as it is: rt proves what isn't yet.
-    prove = [sys.executable, ROOT / 'tools' / 'native.py', 'rt', 'check', *crates]
+    proves = {*crates, *(above for above, _ in rounds_of(crates))} if joint else crates
+    prove = [sys.executable, ROOT / 'tools' / 'native.py', 'rt', 'check', *sorted(proves)]
     if subprocess.run(prove, cwd=ROOT, stdout=subprocess.DEVNULL, check=False).returncode != 0:
         print('mutants: a crate is not proved as it stands; see `rt check`', file=sys.stderr)
         return False
     if joint:
         return try_joint(crates)
-    prepare(crates)
+    shutil.rmtree(SCRATCH, ignore_errors=True)
+    prepare(crates, SCRATCH)
     return try_mutants(crates)
 
 

@@ -34,19 +34,23 @@ import enum
 import mmap
 import os
 import pathlib
+from array import array
 from ctypes import POINTER, c_bool, c_char_p, c_int, c_size_t, c_ssize_t, c_uint, c_uint8, c_uint32, c_uint64, c_void_p
-from typing import Any, Iterator, NamedTuple, Sequence
+from typing import IO, Any, Iterator, NamedTuple, Protocol, Sequence
 
 __all__ = [
-    "VERSION", "Anything", "Block", "Deed", "Entry", "Figures", "Fit", "Format", "Frame", "Handed", "Log", "Mark", "Pair",
-    "Receiver", "Record", "Refused", "Salvaged", "Sender", "Setup", "Sheet", "Status", "Units", "Verdict", "Walked",
-    "Writer", "anything", "check_character", "check_plan", "controller", "equipment", "export_frame", "export_units",
-    "import_frame", "listing", "plan", "port_packing", "port_settings", "read_unit", "salvage", "sheet", "words",
+    "VERSION", "Anything", "Batch", "Block", "Deed", "Entry", "Figures", "Fit", "Format", "Frame", "Handed", "Log", "Mark",
+    "Pair", "Reader", "Received", "Receiver", "Record", "Refused", "Salvaged", "Sender", "Setup", "Sheet", "Slip", "Status",
+    "Told", "Units", "Verdict", "Walked", "Watch", "Writer", "anything", "anything_from", "check_character", "check_plan",
+    "controller", "equipment", "export_frame", "export_units", "figures_from", "import_frame", "lines", "listing", "plan",
+    "port_packing", "port_settings", "read_unit", "received", "salvage", "salvage_from", "sheet", "words",
 ]
 
 _RUN8, _RUN32, _RUN64 = ([POINTER(kind), c_size_t] for kind in (c_uint8, c_uint32, c_uint64))
 _SETTINGS = [c_uint32, c_uint32, c_uint32]
 _SENDER, _RECEIVER, _REPORT, _STATUS = (POINTER(c_uint8 * octets) for octets in (7, 9, 4, 25))
+_LIST, _SALVAGE, _ANYTHING, _FIGURES = (POINTER(c_uint64 * numbers) for numbers in (15, 16, 14, 20))
+_HELD = POINTER(c_uint8 * 49)
 _ARGUMENTS: dict[str, list[Any]] = {
     "rime_format": [c_uint32, POINTER(c_uint32 * 4)],
     "rime_sender_open": [*_SETTINGS, c_uint32, c_bool, c_uint32, _SENDER],
@@ -54,18 +58,33 @@ _ARGUMENTS: dict[str, list[Any]] = {
     "rime_receiver_open": [*_SETTINGS, _RECEIVER],
     "rime_receive": [_RECEIVER, *_RUN8, c_bool, *_RUN64, *_RUN8, *_RUN8, _REPORT],
     "rime_receiver_placed": [_RECEIVER],
+    "rime_slip": [POINTER(c_uint8 * 7), _REPORT, POINTER(c_uint8 * 2)],
     "rime_status_step": [_STATUS, c_uint8, c_uint8, _STATUS],
     "rime_status_run": [_STATUS, *_RUN8, *_RUN8, c_uint64, c_uint64, _STATUS, POINTER(c_uint64)],
     "rime_check_character": [POINTER(c_uint8 * 24)],
     "rime_log_header": [*_RUN8, POINTER(c_uint32 * 4)],
     "rime_log_record": [*_RUN8, c_size_t, POINTER(c_uint64 * 4)],
     "rime_judge_log": [_RECEIVER, *_RUN8, c_size_t, *_RUN8, POINTER(c_uint64 * 3)],
+    "rime_send_log": [_SENDER, c_bool, *_RUN64, *_RUN8, *_RUN8, c_size_t, POINTER(c_uint64 * 4)],
+    "rime_receive_log": [_RECEIVER, *_RUN8, c_size_t, *_RUN64, *_RUN8, *_RUN8, POINTER(c_uint64 * 9)],
     "rime_log_put_header": [*_RUN8, *_SETTINGS, POINTER(c_uint64)],
     "rime_log_put_record": [*_RUN8, c_size_t, *_RUN8, c_bool, POINTER(c_uint64)],
     "rime_log_list": [*_RUN8, *_RUN8, POINTER(c_uint64 * 2)],
     "rime_anything": [*_RUN8, POINTER(c_uint64 * 2)],
     "rime_salvage": [*_RUN8, *_RUN8, *_RUN64, POINTER(c_uint64 * 3)],
     "rime_sheet": [*_RUN8, *_RUN64, *_RUN32, POINTER(c_uint32 * 10)],
+    "rime_list_start": [_LIST, _HELD],
+    "rime_list_take": [_LIST, _HELD, *_RUN8, *_RUN8, POINTER(c_uint64)],
+    "rime_list_end": [_LIST, _HELD, *_RUN8, POINTER(c_uint64)],
+    "rime_salvage_start": [_SALVAGE, _HELD],
+    "rime_salvage_take": [_SALVAGE, _HELD, *_RUN8, *_RUN8, *_RUN8, POINTER(c_uint64 * 2)],
+    "rime_salvage_end": [_SALVAGE, _HELD, *_RUN8, POINTER(c_uint64)],
+    "rime_anything_start": [_ANYTHING, _HELD],
+    "rime_anything_take": [_ANYTHING, _HELD, *_RUN8, POINTER(c_uint64)],
+    "rime_anything_end": [_ANYTHING, _HELD, POINTER(c_uint64 * 2)],
+    "rime_figures_start": [_FIGURES, _HELD],
+    "rime_figures_take": [_FIGURES, _HELD, *_RUN8],
+    "rime_figures_end": [_FIGURES, POINTER(c_uint32 * 10)],
     "rime_aes3_import": [POINTER(kind * 2) for kind in (c_uint8, c_uint32, c_uint64, c_uint8)],
     "rime_aes3_export": [POINTER(kind * 2) for kind in (c_uint64, c_uint8, c_uint8, c_uint32)],
     "rime_units_export": [c_uint32, c_uint32, c_size_t, *_RUN64, *_RUN8, *_RUN8, POINTER(c_uint64 * 3)],
@@ -173,8 +192,8 @@ class _Over(_Lent):
         self._held: _Buffer | None = None
         view = memoryview(buffer)
         width = ctypes.sizeof(kind)
-        if not view.c_contiguous or view.itemsize != width:
-            raise TypeError(f"a run here is numbers of {width} octets, one behind the other")
+        if not view.c_contiguous or view.itemsize != width or view.format.lstrip("@=<>!") not in tuple("?cbBlLqQ"):
+            raise TypeError(f"a run here is whole numbers of {width} octets, one behind the other")
         if written and view.readonly:
             raise TypeError("a run that is written into can't be read-only")
         held = _Buffer()
@@ -276,6 +295,21 @@ class Sender:
         _call("rime_send", self._state, indication, _Lent(c_uint64, samples), _Lent(c_uint8, beside), cell)
         return bytes(cell.array)
 
+    def send_log(self, samples: Any, ancillary: Any, log: Any, place: int = 0, indications: bool = False) -> SentLog:
+        """Sends cell after cell and writes each one's record into a log from a place on, up to the end of the entries or of the log,
+        or a cell with a number too large. The three are anything with the buffer protocol (array, numpy, bytearray, mmap), of numbers
+        of 8 octets, of 1 and of 1, and none of them is copied. The indication is 1 in every cell whose number is a multiple of 8 where
+        `indications` says yes. Refused 5 where the two runs aren't equally long.
+
+        >>> import array
+        >>> Sender(Setup(0x56, 2)).send_log(array.array("Q", [7] * 36), bytes(36), bytearray(100), 1)
+        SentLog(next=99, entries=24, stop=12, cells=2)
+        """
+        counts = (c_uint64 * 4)()
+        _call("rime_send_log", self._state, indications, _Over(c_uint64, samples), _Over(c_uint8, ancillary),
+              _Over(c_uint8, log, written=True), _fitting(c_size_t, [place])[0], counts)
+        return SentLog(*counts)
+
     def to_bytes(self) -> bytes:
         """The state as the library keeps it, 7 octets, to be stored and gone on with."""
         return bytes(self._state)
@@ -290,6 +324,16 @@ class Sender:
         sender = cls.__new__(cls)
         sender._state = _state(7, state)
         return sender
+
+
+class SentLog(NamedTuple):
+    """How far sending into a log went: the place to go on from, the entries taken, why it stopped (0 fewer are left than a cell takes,
+    12 no record fits any more, 6 the next cell has a number too large), and the cells."""
+
+    next: int
+    entries: int
+    stop: int
+    cells: int
 
 
 class Mark(enum.IntEnum):
@@ -372,6 +416,40 @@ class Receiver:
         walked = Walked(*counts)
         return _first(reports, 5 * walked.records), walked
 
+    def receive_log(self, log: Any, samples: Any, ancillary: Any, marks: Any, place: int = 0) -> Batch:
+        """Receives the records of a log from a place on, into runs of the caller's: each cell's entries, with those of the cells
+        missing before it, behind the last one's; what stands past them stays. A record that is refused 8, 15, 9 or 20 is passed over
+        and counted. It goes on up to a record that is broken, the log's end, or a record whose entries have no room: with 720 entries
+        in each run every call goes on. The log is anything with octets in a buffer, the runs anything that can be written, of 8, 1
+        and 1 octets an entry (`array`, numpy); nothing is copied. Refused 5, where the runs aren't equally long, and then the receiver
+        and the runs are as they were.
+
+        >>> samples, ancillary, marks = array("Q", [7] * 20), bytearray(20), bytearray(20)
+        >>> Receiver(Setup(0x08, 1)).receive_log(bytes(98), samples, ancillary, marks)[:4]
+        (49, 12, 10, 1)
+        >>> samples[11], samples[12]
+        (0, 7)
+        """
+        runs = [_Over(kind, run, written=True) for kind, run in ((c_uint64, samples), (c_uint8, ancillary), (c_uint8, marks))]
+        counts = (c_uint64 * 9)()
+        _call("rime_receive_log", self._state, _octets(log), _fitting(c_size_t, [place])[0], *runs, counts)
+        return Batch(*counts)
+
+
+class Batch(NamedTuple):
+    """How far a log was received: the place to go on from, the entries written to each run, why it stopped (0 the end, 10 no room, 11
+    or 12 a record that is broken), cells taken, cells missing before them, and records refused by 8, 9, 15 and 20."""
+
+    next: int
+    entries: int
+    stop: int
+    taken: int
+    missing: int
+    refused_8: int
+    refused_9: int
+    refused_15: int
+    refused_20: int
+
 
 class Walked(NamedTuple):
     """How far a walk through a log went: the place to go on from, the records, and why it stopped (0 the end, 10 no room, 11 or
@@ -380,6 +458,59 @@ class Walked(NamedTuple):
     next: int
     records: int
     stop: int
+
+
+class Told(enum.IntEnum):
+    """What a cell that was taken tells of those before it."""
+
+    NOTHING = 0
+    BEFORE = 1
+    ALONE = 2
+    PERHAPS = 3
+
+
+class Slip(NamedTuple):
+    """What is told, and how many cells more: BEFORE the cell that was taken before this one at least so many are missing; that cell
+    was out of step ALONE; PERHAPS so many are missing before this cell, and the next one decides."""
+
+    told: Told
+    cells: int
+
+
+class Watch:
+    """A watch over second numbers, one step for each cell that the receiver took.
+
+    >>> watch = Watch()
+    >>> [watch.step(0, number, second).cells for number, second in ((2, 5), (3, 5), (4, 13), (5, 13))]
+    [0, 0, 64, 64]
+    >>> watch.step(0, 6, 13)
+    Slip(told=<Told.NOTHING: 0>, cells=0)
+    >>> watch.step(0, 6, 13)
+    Traceback (most recent call last):
+    rimesatchel.Refused: refused 31, the report can't follow the cell before it
+    """
+
+    def __init__(self) -> None:
+        self._watch = (c_uint8 * 7)()
+
+    def step(self, missing: int, number: int, second: int) -> Slip:
+        """Takes what the receiver reported of the next cell that it took. Refused 31 where that can't follow, 4 where the watch can't
+        be."""
+        slip = (c_uint8 * 2)()
+        report = (c_uint8 * 4)(*_fitting(c_uint8, [missing, number, second]), 0)
+        _call("rime_slip", self._watch, report, slip)
+        return Slip(Told(slip[0]), slip[1])
+
+    def to_bytes(self) -> bytes:
+        """The state as the library keeps it, 7 octets, to be stored and gone on with."""
+        return bytes(self._watch)
+
+    @classmethod
+    def from_bytes(cls, state: bytes) -> Watch:
+        """A watch that goes on from a state. Any 7 octets will do: what can't be is refused when it steps."""
+        watch = cls.__new__(cls)
+        watch._watch = _state(7, state)
+        return watch
 
 
 class Fit(enum.IntEnum):
@@ -493,6 +624,39 @@ class Log:
             if what == 0:
                 return
             yield Record(indication == 1, bytes(self._octets.array[start:place]))
+
+
+class Received(NamedTuple):
+    """What was received of a log: samples (numbers of 8 octets), ancillary numbers and marks, and how far it went."""
+
+    samples: array[int]
+    ancillary: array[int]
+    marks: array[int]
+    batch: Batch
+
+
+def received(log: Any, room: int = 65536) -> Iterator[Received]:
+    """The samples of a log, block by block, of up to so many entries, 720 at least. Refused 11, 1, 2 or 3 where it can't be read, and
+    11 or 12 behind the last whole record where one is broken.
+
+    >>> writer, sender = Writer(Setup(0x56, 2)), Sender(Setup(0x56, 2))
+    >>> writer.push(sender.send([7] * 12))
+    >>> [(list(part.samples[:2]), part.batch.entries) for part in received(writer.octets)]
+    [([7, 7], 12)]
+    """
+    header, room = (c_uint32 * 4)(), max(room, 720)
+    _call("rime_log_header", _octets(log), header)
+    receiver, place, stop = Receiver(Setup(*header[1:])), header[0], 10
+    while stop == 10:
+        samples, ancillary, marks = array("Q", bytes(8 * room)), array("B", bytes(room)), array("B", bytes(room))
+        batch = receiver.receive_log(log, samples, ancillary, marks, place)
+        for run in (samples, ancillary, marks):
+            del run[batch.entries:]
+        if batch.next != place:
+            yield Received(samples, ancillary, marks, batch)
+        place, stop = batch.next, batch.stop
+    if stop != 0:
+        raise Refused(stop)
 
 
 def listing(log: bytes) -> str:
@@ -609,6 +773,102 @@ def sheet(logs: Sequence[bytes]) -> Sheet:
     rows, totals = _Lent(c_uint32, 10 * len(logs)), (c_uint32 * 10)()
     _call("rime_sheet", _octets(b"".join(logs)), _Lent(c_uint64, [len(log) for log in logs]), rows, totals)
     return Sheet([Figures(*rows.array[at:at + 10]) for at in range(0, len(rows.array), 10)], Figures(*totals))
+
+
+class Reader(Protocol):
+    """What a log in pieces is read from, as a file opened "rb": some octets at a time, none at the end."""
+
+    def read(self, most: int, /) -> bytes:
+        ...
+
+
+def _pieces(reader: Reader) -> Iterator[bytes]:
+    while piece := reader.read(65536):
+        yield piece
+
+
+def _room(first: int, each: int, piece: bytes) -> _Lent:
+    """A run that is long enough for what a piece makes, as include/rimesatchel.h has it."""
+    return _Lent(c_uint8, first + each * (len(piece) // 49 + 1))
+
+
+def _begun(name: str, numbers: int) -> tuple[Any, Any]:
+    """The state of a log in pieces before its first octet, and the octets that are held of it."""
+    state, held = (c_uint64 * numbers)(), (c_uint8 * 49)()
+    _call(f"rime_{name}_start", state, held)
+    return state, held
+
+
+def lines(reader: Reader) -> Iterator[str]:
+    """The list of a log, line by line, as it comes from a reader. A log that can't be read has a list that says so.
+
+    >>> import io
+    >>> list(lines(io.BytesIO(bytes([0x56, 2, 0]) + bytes(50))))
+    ['format 86 2 0', '0 refused 8', '1 broken 12', 'end 0 sound 0 missing 1 refused']
+    """
+    state, held = _begun("list", 15)
+    written = c_uint64()
+    for piece in _pieces(reader):
+        text = _room(216, 76, piece)
+        _call("rime_list_take", state, held, _octets(piece), text, written)
+        yield from bytes(text.array[:written.value]).decode().splitlines()
+    text = _Lent(c_uint8, 216)
+    _call("rime_list_end", state, held, text, written)
+    yield from bytes(text.array[:written.value]).decode().splitlines()
+
+
+def salvage_from(reader: Reader, out: IO[bytes], notes: IO[bytes]) -> None:
+    """Salvages a log as it comes from a reader: the new log goes to `out`, and a line for each record left out and the counts, or
+    the header's refusal, to `notes`.
+
+    >>> import io
+    >>> out, notes = io.BytesIO(), io.BytesIO()
+    >>> salvage_from(io.BytesIO(bytes([0x56, 2, 0]) + bytes(50)), out, notes)
+    >>> out.getvalue() == bytes([0x56, 2, 0]), notes.getvalue().decode().splitlines()
+    (True, ['0 refused 8', 'end 0 kept 1 left out 1 cut'])
+    """
+    state, held = _begun("salvage", 16)
+    both, last = (c_uint64 * 2)(), c_uint64()
+    for piece in _pieces(reader):
+        saved, said = _room(3, 49, piece), _room(216, 50, piece)
+        _call("rime_salvage_take", state, held, _octets(piece), saved, said, both)
+        out.write(bytes(saved.array[:both[0]]))
+        notes.write(bytes(said.array[:both[1]]))
+    said = _Lent(c_uint8, 216)
+    _call("rime_salvage_end", state, held, said, last)
+    notes.write(bytes(said.array[:last.value]))
+
+
+def anything_from(reader: Reader) -> Anything:
+    """Is there anything on a log at all? No more is read of it than the answer needs. Refused 11, 1, 2 or 3.
+
+    >>> import io
+    >>> anything_from(io.BytesIO(bytes([0x56, 2, 0]) + bytes(98)))
+    Anything(found=False, records=2)
+    """
+    state, held = _begun("anything", 14)
+    more, answer = c_uint64(), (c_uint64 * 2)()
+    for piece in _pieces(reader):
+        _call("rime_anything_take", state, held, _octets(piece), more)
+        if more.value == 0:
+            break
+    _call("rime_anything_end", state, held, answer)
+    return Anything(answer[0] == 1, answer[1])
+
+
+def figures_from(reader: Reader) -> Figures:
+    """The figures of a log as it comes from a reader, as a sheet has them. Refused 19.
+
+    >>> import io
+    >>> figures_from(io.BytesIO(bytes([0x56, 2, 0]) + bytes(98))).refused_8
+    2
+    """
+    state, held = _begun("figures", 20)
+    row = (c_uint32 * 10)()
+    for piece in _pieces(reader):
+        _call("rime_figures_take", state, held, _octets(piece))
+    _call("rime_figures_end", state, row)
+    return Figures(*row)
 
 
 class Frame(NamedTuple):

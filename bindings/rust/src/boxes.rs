@@ -74,6 +74,36 @@ impl Sender {
         unless_refused(refusal, cell)
     }
 
+    /// Sends cell after cell, each of the next C×T entries, and writes its record into `log` from a place on, up to the end of the
+    /// entries, the end of the log, or a cell with a number too large. The indication is 1 in every cell whose number is a multiple
+    /// of 8 where `indications` says yes, else in none. Refused 5 where the runs aren't equally long, and then the sender and the
+    /// log are as they were.
+    ///
+    /// ```
+    /// use rimesatchel::{Sender, SendStop, Setup};
+    ///
+    /// let mut sender = Sender::open(Setup { format: 0x56, channels: 2, order: 0 })?;
+    /// let mut log = [9; 100];
+    /// let sent = sender.send_log(&[7; 36], &[0; 36], true, &mut log, 1)?; // three cells, and room for two
+    /// assert_eq!((sent.next, sent.entries, sent.cells, sent.stop), (99, 24, 2, SendStop::NoRoom));
+    /// assert_eq!((log[0], log[1], log[50], log[99]), (9, 1, 0, 9));
+    /// # Ok::<(), rimesatchel::Refusal>(())
+    /// ```
+    pub fn send_log(
+        &mut self,
+        samples: &[u64],
+        ancillary: &[u8],
+        indications: bool,
+        log: &mut [u8],
+        place: usize,
+    ) -> Result<SentLog, Refusal> {
+        let mut counts = [0; 4];
+        let refusal = face::send_log(&mut self.0, indications, samples, ancillary, log, place, &mut counts);
+        let [next, entries, stop, cells] = counts;
+        let stop = SendStop::of(stop);
+        unless_refused(refusal, SentLog { next: next as usize, entries: entries as usize, cells: cells as usize, stop })
+    }
+
     /// The state as the library keeps it, to be stored and gone on with.
     pub fn to_bytes(&self) -> [u8; 7] {
         self.0
@@ -82,6 +112,38 @@ impl Sender {
     /// A sender that goes on from a state. Any octets will do: what can't be is refused when it sends.
     pub fn from_bytes(state: [u8; 7]) -> Sender {
         Sender(state)
+    }
+}
+
+/// How far sending into a log went.
+#[derive(Debug, Clone, Copy, PartialEq, Eq)]
+pub struct SentLog {
+    /// The place to go on from.
+    pub next: usize,
+    /// The entries that the cells took.
+    pub entries: usize,
+    pub cells: usize,
+    pub stop: SendStop,
+}
+
+/// Why sending into a log stopped.
+#[derive(Debug, Clone, Copy, PartialEq, Eq)]
+pub enum SendStop {
+    /// Fewer entries are left than a cell takes.
+    NoEntries,
+    /// No record fits into the log any more.
+    NoRoom,
+    /// The next cell has a number too large for its bits.
+    TooLarge,
+}
+
+impl SendStop {
+    fn of(number: u64) -> SendStop {
+        match number {
+            0 => SendStop::NoEntries,
+            12 => SendStop::NoRoom,
+            _ => SendStop::TooLarge,
+        }
     }
 }
 
@@ -210,6 +272,53 @@ impl Receiver {
         let stop = Stop::of(stop);
         unless_refused(refusal, Walked { next: next as usize, records: records as usize, stop })
     }
+
+    /// Receives the records of a log from a place on, into runs of the caller's: each cell's entries, with those of the cells
+    /// missing before it, behind the last one's; what stands past them stays. A record that is refused 8, 15, 9 or 20 is passed over
+    /// and counted. It goes on up to a record that is broken, the log's end, or a record whose entries have no room. Refused 5,
+    /// where the runs aren't equally long, and then the receiver and the runs are as they were; 1 to 4 never happen to a receiver
+    /// that was opened.
+    ///
+    /// ```
+    /// use rimesatchel::{face::Runs, Receiver, Setup, Stop};
+    ///
+    /// let mut receiver = Receiver::open(Setup { format: 0x08, channels: 1, order: 0 })?;
+    /// let (mut samples, mut ancillary, mut marks) = ([7; 20], [7; 20], [7; 20]);
+    /// let runs = Runs { samples: &mut samples, ancillary: &mut ancillary, marks: &mut marks };
+    /// let batch = receiver.receive_log(&[0; 98], 0, runs)?; // two records of 12 entries, and room for one
+    /// assert_eq!((batch.next, batch.entries, batch.taken, batch.stop), (49, 12, 1, Stop::NoRoom));
+    /// assert_eq!((samples[11], samples[12]), (0, 7));
+    /// # Ok::<(), rimesatchel::Refusal>(())
+    /// ```
+    pub fn receive_log(&mut self, log: &[u8], place: usize, runs: face::Runs) -> Result<Batch, Refusal> {
+        let mut counts = [0; 9];
+        let refusal = face::receive_log(&mut self.0, log, place, runs, &mut counts);
+        let [next, entries, stop, taken, missing, refused_8, refused_9, refused_15, refused_20] = counts;
+        let stop = Stop::of(stop);
+        let [next, entries] = [next, entries].map(|number| number as usize);
+        unless_refused(
+            refusal,
+            Batch { next, entries, stop, taken, missing, refused_8, refused_9, refused_15, refused_20 },
+        )
+    }
+}
+
+/// How far a log was received.
+#[derive(Debug, Clone, Copy, PartialEq, Eq)]
+pub struct Batch {
+    /// The place to go on from.
+    pub next: usize,
+    /// How many entries were written to each run.
+    pub entries: usize,
+    pub stop: Stop,
+    /// Cells taken, and cells missing before them.
+    pub taken: u64,
+    pub missing: u64,
+    /// Records refused, by the number.
+    pub refused_8: u64,
+    pub refused_9: u64,
+    pub refused_15: u64,
+    pub refused_20: u64,
 }
 
 /// What a receiver reports of a cell that it took.

@@ -3,11 +3,22 @@
 //!
 //! A slice carries its own length and two `&mut` never overlap, which is all that the header asks of a caller.
 
+pub mod pieces;
+
 pub type SenderState = [u8; 7];
 pub type ReceiverState = [u8; 9];
 pub type Report = [u8; 4];
+pub type Watch = [u8; 7];
 pub type StatusBlock = [u8; 25];
 pub type StatusOut = [u8; 25];
+
+/// What `slip` tells in the first octet of its answer.
+pub mod slip_told {
+    pub const NOTHING: u8 = 0;
+    pub const BEFORE: u8 = 1;
+    pub const ALONE: u8 = 2;
+    pub const PERHAPS: u8 = 3;
+}
 
 /// What `status_step` answers in the first octet of `out`.
 pub mod status_answer {
@@ -18,7 +29,7 @@ pub mod status_answer {
 }
 
 mod raw {
-    use super::{ReceiverState, Report, SenderState, StatusBlock, StatusOut};
+    use super::{ReceiverState, Report, SenderState, StatusBlock, StatusOut, Watch};
 
     extern "C" {
         pub fn rime_format(format: u32, facts: *mut [u32; 4]) -> u8;
@@ -56,6 +67,7 @@ mod raw {
             marks_len: usize,
             report: *mut Report,
         ) -> u8;
+        pub fn rime_slip(watch: *mut Watch, report: *const Report, slip: *mut [u8; 2]) -> u8;
         pub fn rime_status_step(block: *mut StatusBlock, ancillary: u8, mark: u8, out: *mut StatusOut) -> u8;
         pub fn rime_status_run(
             block: *mut StatusBlock,
@@ -89,6 +101,31 @@ mod raw {
             reports: *mut u8,
             reports_len: usize,
             counts: *mut [u64; 3],
+        ) -> u8;
+        pub fn rime_send_log(
+            state: *mut SenderState,
+            indications: bool,
+            samples: *const u64,
+            samples_len: usize,
+            ancillary: *const u8,
+            ancillary_len: usize,
+            log: *mut u8,
+            log_len: usize,
+            place: usize,
+            counts: *mut [u64; 4],
+        ) -> u8;
+        pub fn rime_receive_log(
+            state: *mut ReceiverState,
+            log: *const u8,
+            log_len: usize,
+            place: usize,
+            samples: *mut u64,
+            samples_len: usize,
+            ancillary: *mut u8,
+            ancillary_len: usize,
+            marks: *mut u8,
+            marks_len: usize,
+            counts: *mut [u64; 9],
         ) -> u8;
         pub fn rime_log_put_header(
             log: *mut u8,
@@ -224,6 +261,10 @@ pub fn receive(state: &mut ReceiverState, cell: &[u8], indication: bool, runs: R
     }
 }
 
+pub fn slip(watch: &mut Watch, report: &Report, slip: &mut [u8; 2]) -> u8 {
+    unsafe { raw::rime_slip(watch, report, slip) }
+}
+
 pub fn status_step(block: &mut StatusBlock, ancillary: u8, mark: u8, out: &mut StatusOut) -> u8 {
     unsafe { raw::rime_status_step(block, ancillary, mark, out) }
 }
@@ -269,6 +310,53 @@ pub fn salvage(log: &[u8], out: &mut [u8], list: &mut [u64], counts: &mut [u64; 
 pub fn judge_log(state: &mut ReceiverState, log: &[u8], place: usize, reports: &mut [u8], counts: &mut [u64; 3]) -> u8 {
     let (reports, reports_len) = (reports.as_mut_ptr(), reports.len());
     unsafe { raw::rime_judge_log(state, log.as_ptr(), log.len(), place, reports, reports_len, counts) }
+}
+
+pub fn send_log(
+    state: &mut SenderState,
+    indications: bool,
+    samples: &[u64],
+    ancillary: &[u8],
+    log: &mut [u8],
+    place: usize,
+    counts: &mut [u64; 4],
+) -> u8 {
+    let (samples, samples_len) = (samples.as_ptr(), samples.len());
+    let (ancillary, ancillary_len) = (ancillary.as_ptr(), ancillary.len());
+    let (log, log_len) = (log.as_mut_ptr(), log.len());
+    unsafe {
+        raw::rime_send_log(
+            state,
+            indications,
+            samples,
+            samples_len,
+            ancillary,
+            ancillary_len,
+            log,
+            log_len,
+            place,
+            counts,
+        )
+    }
+}
+
+pub fn receive_log(state: &mut ReceiverState, log: &[u8], place: usize, runs: Runs, counts: &mut [u64; 9]) -> u8 {
+    let Runs { samples, ancillary, marks } = runs;
+    unsafe {
+        raw::rime_receive_log(
+            state,
+            log.as_ptr(),
+            log.len(),
+            place,
+            samples.as_mut_ptr(),
+            samples.len(),
+            ancillary.as_mut_ptr(),
+            ancillary.len(),
+            marks.as_mut_ptr(),
+            marks.len(),
+            counts,
+        )
+    }
 }
 
 pub fn log_put_header(log: &mut [u8], [format, channels, order]: [u32; 3], next: &mut u64) -> u8 {

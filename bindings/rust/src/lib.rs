@@ -37,15 +37,19 @@ mod archive;
 mod boxes;
 mod cable;
 mod network;
+mod pieces;
 mod plans;
+mod slips;
 mod status;
 mod tools;
 
 pub use archive::{list, Log, Record, Records, Writer};
-pub use boxes::{Entry, Format, Handed, Mark, Receiver, Report, Sender, Setup, Stop, Walked};
+pub use boxes::{Batch, Entry, Format, Handed, Mark, Receiver, Report, SendStop, Sender, SentLog, Setup, Stop, Walked};
 pub use cable::{export_frame, import_frame, Frame, Pair};
 pub use network::{export_units, read_unit, Units};
+pub use pieces::{anything_from, figures_from, lines, salvage_from, Lines};
 pub use plans::{check_plan, plan, Verdict};
+pub use slips::{Slip, Watch};
 pub use status::{check_character, Block, Fit, Status};
 pub use tools::{anything, salvage, sheet, Anything, Figures, Salvaged, Sheet};
 

@@ -11,6 +11,16 @@ pub enum Anything {
     No(u64),
 }
 
+impl Anything {
+    pub(crate) fn of([found, number]: [u64; 2]) -> Anything {
+        if found == 1 {
+            Anything::Yes(number)
+        } else {
+            Anything::No(number)
+        }
+    }
+}
+
 /// Is there anything on a log at all? Refused 11, 1, 2 or 3.
 ///
 /// ```
@@ -27,7 +37,7 @@ pub enum Anything {
 pub fn anything(log: &[u8]) -> Result<Anything, Refusal> {
     let mut answer = [0; 2];
     let refusal = face::anything(log, &mut answer);
-    unless_refused(refusal, if answer[0] == 1 { Anything::Yes(answer[1]) } else { Anything::No(answer[1]) })
+    unless_refused(refusal, Anything::of(answer))
 }
 
 /// What was saved of a log.
@@ -84,7 +94,7 @@ pub struct Figures {
 }
 
 impl Figures {
-    fn of([sound, missing, a, b, c, d, x, y, z, missing_per_million]: [u32; 10]) -> Figures {
+    pub(crate) fn of([sound, missing, a, b, c, d, x, y, z, missing_per_million]: [u32; 10]) -> Figures {
         Figures { sound, missing, refused: [a, b, c, d], marked: [x, y, z], missing_per_million }
     }
 }

@@ -81,15 +81,14 @@ added-totals rows logs =
     ∙ ap capped (plus-none (totalsOf logs))
 
 -- so the row of all together, or 19, is the sheet's
+-- the row of counts, and 19, are those of the counts with no end
+pub closed-capped : (c : Counts) → closedOf (capped c) ≡ closedOf c
+unfolding closedOf
+closed-capped c = split (tooMany c) (λ e. rw (capped-many c, e) refl) (λ e. ap closedOf (capped-small c (few c e)))
+
 pub added-closed : (rows : List ℕ) (logs : List (List ℕ))
     → closedOf (addedOver noCounts rows 0 logs .totals) ≡ closedOf (totalsOf logs)
-unfolding closedOf
-added-closed rows logs =
-    let all : Counts = totalsOf logs in
-    ap closedOf (added-totals rows logs)
-    ∙ split (tooMany all)
-    (λ e. rw (capped-many all, e) refl)
-    (λ e. ap closedOf (capped-small all (few all e)))
+added-closed rows logs = ap closedOf (added-totals rows logs) ∙ closed-capped (totalsOf logs)
 
 capped-twice : (c : Counts) → capped (capped c) ≡ capped c
 capped-twice c =

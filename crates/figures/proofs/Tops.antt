@@ -13,7 +13,7 @@ use lib.Pow.{shr-shr}
 use Rattle.runs.proofs.Laws.{split}
 use Rattle.formats.specs.declared.Format.{Format}
 use Rattle.formats.specs.Sound.{Sound}
-use Rattle.guards.specs.Guards.{nineOf, protectedBits, withV, vOf, tenGuard, guardOf}
+use Rattle.guards.specs.Guards.{nineOf, protectedBits, vIn, vOf, tenGuard, guardOf}
 use Rattle.guards.proofs.Laws.{nine-down, v-none, v-some}
 use Rattle.cells.specs.Cells.{subframeAt, sampleIn, ancillaryIn, markIn}
 use Rattle.cells.proofs.Subframes.{slot-room, four-ancillary}
@@ -203,7 +203,7 @@ module _ {f : Format} (s : Sound f) (overhead : f .«overhead_bits» ≡ 4) (cel
         (λ e. none (eqb-true (f .«ancillary_bits») 0 e))
         (λ e. any (eqb-false (f .«ancillary_bits») 0 e))
 
-    protected-is : protectedBits key (withV (five / 16))
+    protected-is : protectedBits key (vIn (five / 16))
         ≡ protectedBits (nineOf (f .«sample_bits») (sampleIn f sub)) (vOf (f .«ancillary_bits») (ancillaryIn f sub))
     unfolding protectedBits
     protected-is =
@@ -215,7 +215,7 @@ module _ {f : Format} (s : Sound f) (overhead : f .«overhead_bits» ≡ 4) (cel
     low-bits =
         either (λ bare. omega (arith, bare-five bare, last-is)) (λ any. omega (arith, v-five any, last-is))
 
-    pub mark-is : markBit key (withV (five / 16)) five ≡ markIn f sub
+    pub mark-is : markBit key (vIn (five / 16)) five ≡ markIn f sub
     unfolding markBit markIn guardOf
     mark-is =
         ap₂ (λ (n p : ℕ). cond (eqb n (tenGuard p)) 0 1) low-bits protected-is
@@ -227,7 +227,7 @@ module _ {f : Format} (s : Sound f) (overhead : f .«overhead_bits» ≡ 4) (cel
     mark-by {k} {bits} {n} key-is small marks five-is few =
         let same : k % 512 ≡ key = mod-eq-of-lt small ∙ key-is in (
           marks .0 n few
-              ∙ ap₂ (λ (a b : ℕ). markBit a (withV (b / 16)) b) same five-is
+              ∙ ap₂ (λ (a b : ℕ). markBit a (vIn (b / 16)) b) same five-is
               ∙ mark-is,
           omega arith,
         )

@@ -15,7 +15,7 @@ use Rattle.runs.specs.Division.{coefficients, divided, takenDown, remainder}
 use Rattle.runs.specs.Runs.{tab}
 use Rattle.runs.specs.Test.{every}
 use Rattle.runs.proofs.Laws.{every-at, split, getD-tab}
-use Rattle.guards.specs.Guards.{VOrNone, noV, withV, vOf, nineOf, protectedBits, tenGuard, guardOf}
+use Rattle.guards.specs.Guards.{VOrNone, noV, vIn, vOf, nineOf, protectedBits, tenGuard, guardOf}
 use Rattle.guards.specs.Code.{sevenGuards}
 
 pub nine-lt : (bits sample : ℕ) → nineOf bits sample < 512
@@ -27,7 +27,7 @@ pub v-none : {bits : ℕ} (ancillary : ℕ) → bits ≡ 0 → vOf bits ancillar
 unfolding vOf
 v-none ancillary bare = rw (eq-eqb _ _ bare)
 
-pub v-some : {bits : ℕ} (ancillary : ℕ) → (bits ≡ 0 → ⊥) → vOf bits ancillary ≡ withV ancillary
+pub v-some : {bits : ℕ} (ancillary : ℕ) → (bits ≡ 0 → ⊥) → vOf bits ancillary ≡ vIn ancillary
 unfolding vOf
 v-some ancillary any = rw (ne-eqb _ _ any)
 
@@ -35,7 +35,7 @@ v-some ancillary any = rw (ne-eqb _ _ any)
 -- the division (modulo 2) by the generator polynomial x3 + x + 1 of the sum of the product x4 multiplied by the most significant nine
 -- bits of the audio sample and the product x3 multiplied by the V-bit."
 pub first-sentence : (bits sample v : ℕ)
-    → guardOf bits sample (withV v) ≡ 7 - remainder 3 0b1011 13 (nineOf bits sample * 2 ^ 4 + v % 2 * 2 ^ 3)
+    → guardOf bits sample (vIn v) ≡ 7 - remainder 3 0b1011 13 (nineOf bits sample * 2 ^ 4 + v % 2 * 2 ^ 3)
 unfolding guardOf protectedBits tenGuard
 first-sentence bits sample v =
     ap (λ (p : ℕ). 7 - remainder 3 0b1011 13 p)
@@ -118,7 +118,7 @@ nine-itself : {sample : ℕ} → sample < 512 → nineOf 9 sample ≡ sample
 unfolding every nineOf
 nine-itself {sample} h = eqb→eq _ _ (every-at (λ k. eqb (nineOf 9 k) k) 512 tt sample h)
 
-pub seven-with-v : (sample v : ℕ) → sample < 64 → v < 2 → getD sevenGuards (sample * 2 + v) 0 ≡ guardOf 9 sample (withV v)
+pub seven-with-v : (sample v : ℕ) → sample < 64 → v < 2 → getD sevenGuards (sample * 2 + v) 0 ≡ guardOf 9 sample (vIn v)
 unfolding guardOf protectedBits
 seven-with-v sample v h small =
     let bits : nineOf 9 (sample * 2 + v) ≡ sample * 2 + v = nine-itself (omega arith) in
@@ -128,7 +128,7 @@ seven-with-v sample v h small =
 
 -- what V adds to the bits of nine sample bits
 pub with-v : {nine : ℕ} (v : ℕ) → nine < 512
-    → bitXor (tenGuard (protectedBits nine (withV 0))) (v % 2 * 3) ≡ tenGuard (protectedBits nine (withV v))
+    → bitXor (tenGuard (protectedBits nine (vIn 0))) (v % 2 * 3) ≡ tenGuard (protectedBits nine (vIn v))
 unfolding protectedBits every tenGuard coefficients divided takenDown
 with-v {nine} v h =
     let ten : ℕ = nine * 2 + v % 2 in
@@ -143,7 +143,7 @@ abbrev pub guardsWithoutV : List ℕ
 guardsWithoutV = 1 ∷ 4 ∷ 0 ∷ 5 ∷ 3 ∷ 6 ∷ 2 ∷ 7 ∷ []
 
 pub without-v : {nine : ℕ} → nine < 512
-    → getD guardsWithoutV (tenGuard (protectedBits nine (withV 0))) 0 ≡ tenGuard (protectedBits nine noV)
+    → getD guardsWithoutV (tenGuard (protectedBits nine (vIn 0))) 0 ≡ tenGuard (protectedBits nine noV)
 unfolding protectedBits every tenGuard coefficients divided takenDown
 without-v {nine} h =
     eqb→eq _ _ (every-at (λ k. eqb (getD guardsWithoutV (tenGuard (k * 2 + 0)) 0) (tenGuard k)) 512 tt nine h)

@@ -1,5 +1,11 @@
+pub mod Asked
+pub mod Called
+pub mod GoesOn
 pub mod One
 pub mod Onward
-pub mod States
+pub mod Past
+pub mod ReceivingWrong
+pub mod Stands
+pub mod Takes
 pub mod Walks
 pub mod Wrong

@@ -18,7 +18,7 @@ use Rattle.hearing.specs.declared.judging.Judged.{Judged}
 use Rattle.hearing.specs.Judging.{allFrom, judgedIn, judgedTo, Judges}
 
 -- the records of a list of them, and all that come behind it
-abbrev Splits : Receiver → List ℕ → ℕ → ℕ → List Heard → Type 0
+abbrev pub Splits : Receiver → List ℕ → ℕ → ℕ → List Heard → Type 0
 Splits st log place n all = all ≡ take n all ++ allFrom (endOf st (take n all)) log (place + 49 * length (take n all))
 
 none-behind : (st : Receiver) (log : List ℕ) (place : ℕ) → allFrom st log place ≡ allFrom (endOf st []) log (place + 49 * length {A = Heard} [])
@@ -26,7 +26,7 @@ unfolding endBy
 none-behind st log place = let same : place ≡ place + 49 * 0 = omega arith in ap (allFrom st log) same
 
 -- so many records, and what comes from the state and the place behind them
-splits : (n : ℕ) (st : Receiver) (log : List ℕ) (place : ℕ) → Splits st log place n (allFrom st log place)
+pub splits : (n : ℕ) (st : Receiver) (log : List ℕ) (place : ℕ) → Splits st log place n (allFrom st log place)
 unfolding heardBy endBy
 splits zero st log place = none-behind st log place
 splits (suc n) st log place =

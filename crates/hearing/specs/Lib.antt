@@ -1,2 +1,4 @@
 pub mod Code
 pub mod Judging
+pub mod Receiving
+pub mod Steps

@@ -1,4 +1,5 @@
 // A log's records judged in a row, from a place on: what the receiver says to each, with nothing unpacked.
+use crate::states;
 use log::Record;
 use receiver::Received;
 use receiver::Receiver;
@@ -7,7 +8,7 @@ ghost use Prim.Native.Nat.{_+_, _≤_};
 ghost use lib.ListN.{length};
 ghost use Rattle.runs.specs.Runs.{written};
 ghost use Rattle.hearing.specs.Judging.{yesNo, reportOf, stopOf, judgedNot, Judges, JudgesOn};
-ghost use Rattle.hearing.specs.Code.{endedAs, isOfState};
+ghost use Rattle.hearing.specs.Code.{endedAs};
 
 // The refusal of the call (0: none); the state to go on with, the next place, the records judged, and why it stopped.
 pub struct Judged {
@@ -38,7 +39,7 @@ fn put(reports: &mut [u8], place: usize, got: Received)
 }
 
 // Why a walk stops where this was found: no room for a record that is there, or what a single call would answer.
-fn stop_of(found: Record) -> u8
+pub(crate) fn stop_of(found: Record) -> u8
     ensures { λ r. ⌜ r ≡ stopOf found ⌝ }
 {
     if found.what == 1 {
@@ -95,26 +96,14 @@ fn walk(state: Receiver, log: &[u8], place: usize, reports: &mut [u8]) -> Judged
     ended(now, at, records, found)
 }
 
-// Whether a refusal is one of the state's: 1 to 4.
-fn is_of_state(refusal: u8) -> bool
-    ensures { λ r. ⌜ r ≡ isOfState refusal ⌝ }
-{
-    if refusal == 0 {
-        return false;
-    }
-    refusal < 5
-}
-
 // Judges a log's records from a place on, in the order in which they stand, and writes five octets a record into `reports`, as
 // many as have room; what stands past them stays. Refused: 1 to 4, and then the state comes back as it went in and nothing is written.
-// A state is refused where a call on it is: it is asked with a cell of zeros.
 pub fn judge(state: Receiver, log: &[u8], place: usize, reports: &mut [u8]) -> Judged
     ensures { λ r. ⌜ Judges state (now (log .entry)) place (now (reports .entry)) r (now (reports .exit)) ⌝ }
 {
-    let zeros = [0u8; 48];
-    let asked = receiver::judged(state, &zeros, false);
-    if is_of_state(asked.refusal) {
-        return refused(asked.refusal, state);
+    let refusal = states::refusal_of(state);
+    if refusal != 0 {
+        return refused(refusal, state);
     }
     walk(state, log, place, reports)
 }

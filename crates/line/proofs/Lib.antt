@@ -1,5 +1,6 @@
 pub mod Answers
 pub mod Beyond
+pub mod Blocks
 pub mod Bound
 pub mod Calls
 pub mod Cases
@@ -13,12 +14,16 @@ pub mod Frames
 pub mod Logs
 pub mod Losses
 pub mod Opened
+pub mod Pieces
+pub mod Placed
 pub mod Places
 pub mod Played
 pub mod Recounts
 pub mod Refused
 pub mod Repeats
+pub mod Rounds
 pub mod Rows
+pub mod Seconds
 pub mod Sharp
 pub mod Slips
 pub mod Steps

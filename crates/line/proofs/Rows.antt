@@ -3,10 +3,10 @@
 use mathlib.Core.Bool.{Bool, true, false, true≢false, cond, not, _&&_, _||_}
 use mathlib.Core.List.{List, [], _∷_, _++_, map, flatMap, nil≢cons, head-eq-of-cons-eq, tail-eq-of-cons-eq}
 use mathlib.Core.Path.{_≡_, refl, sym, _∙_, ap, ap₂, subst}
-use Prim.Native.Nat.{ℕ, zero, suc, _+_, _%_, _≤_}
+use Prim.Native.Nat.{ℕ, zero, suc, _+_, _*_, _%_, _≤_}
 use native.Mathlib.Nat.{suc-ne-zero}
 use native.Mathlib.Omega.{arith}
-use borrow.Author.Tests.{ne-eqb, le-ltb, eqb-true, eqb-false}
+use borrow.Author.Tests.{eq-eqb, ne-eqb, le-ltb, eqb-true, eqb-false}
 use lib.Dec.{eqb}
 use lib.ListN.{length, replicate}
 use Rattle.runs.proofs.Laws.{split}
@@ -60,8 +60,10 @@ use Rattle.line.specs.Losses.{
   refusalsAt,
   refusalsWith,
 }
-use Rattle.line.proofs.Calls.{sends-or-nothing, receives-or-nothing}
-use Rattle.line.proofs.Cells.{next-state, settings-on, state-passes, found-there}
+use Rattle.line.specs.Seconds.{tookIn}
+use Rattle.line.proofs.Calls.{sends-or-nothing, receives-or-nothing, tells}
+use Rattle.line.proofs.Cells.{next-state, settings-on, state-passes, found-there, used-in}
+use Rattle.line.proofs.Pieces.{Piece, pieceOf, pieceWith, second-said, own-places, one-taken}
 use Rattle.line.proofs.Repeats.{repeat-gets-9}
 use Rattle.line.proofs.Steps.{difference-after, number-after, spoiled-gets, round-gets, took}
 
@@ -114,6 +116,7 @@ pub record Comes (rc : Receiver) (place : ℕ) (since : Since) (ts : List Trip) 
   pub hands : handed calls ≡ flatMap placesWith (takenFrom place since ts)
   pub counts : leftBy rc calls .count ≡ rc .count + totalOf cellsWith (takenFrom place since ts)
   pub answers : refusals calls ≡ flatMap refusalsWith (storyFrom place since ts)
+  pub pieces : map pieceOf (tookIn calls) ≡ map pieceWith (takenFrom place since ts)
 
 -- calls that are all refused alike hand out nothing, and the rest goes on from the state that was there
 record Skipped (again refusal : ℕ) (rc : Receiver) (calls : List ReceiveCall) (came : List Arrival) : Type 0 where
@@ -122,13 +125,14 @@ record Skipped (again refusal : ℕ) (rc : Receiver) (calls : List ReceiveCall) 
   hands : handed calls ≡ handed rest
   leaves : leftBy rc calls ≡ leftBy rc rest
   answers : refusals calls ≡ replicate again refusal ++ refusals rest
+  takes-none : tookIn calls ≡ tookIn rest
 
 module _ {refusal : ℕ} (some : refusal ≡ 0 → ⊥) {a : Arrival} {came : List Arrival} {rc : Receiver}
     (each : (c : ReceiveCall) → MeetsReceive c → c .state ≡ rc → taken c ≡ a → WithRoom c → c .answer .refusal ≡ refusal)
   where
     skip : (again : ℕ) (calls : List ReceiveCall) → Takes rc calls (replicate again a ++ came) → Skipped again refusal rc calls came
-    unfolding Row Each flatMap leftBy
-    skip zero calls takes = record { rest = calls; takes = takes; hands = refl; leaves = refl; answers = refl }
+    unfolding Row Each flatMap leftBy those
+    skip zero calls takes = record { rest = calls; takes = takes; hands = refl; leaves = refl; answers = refl; takes-none = refl }
     skip (suc again) [] takes = absurd (nil≢cons (takes .these))
     skip (suc again) (c ∷ cs) takes =
         let is = each c (takes .meets .1) (takes .meets .0) (head-eq-of-cons-eq (takes .these)) (takes .room .0) in
@@ -143,6 +147,7 @@ module _ {refusal : ℕ} (some : refusal ≡ 0 → ⊥) {a : Arrival} {came : Li
           hands = rw (ne-eqb (c .answer .refusal) 0 refused) (later .hands);
           leaves = ap (λ (x : Receiver). leftBy x cs) stays ∙ later .leaves;
           answers = ap₂ (λ (n : ℕ) (l : List ℕ). n ∷ l) is (later .answers);
+          takes-none = rw (ne-eqb (c .answer .refusal) 0 refused) (later .takes-none);
         }
 
 and-false : (b : Bool) → b && false ≡ false
@@ -268,12 +273,13 @@ module _ (t : Trip) (ts : List Trip) (sends : MeetsSend (t .sent)) (sent : t .se
             answers =
                 answered e (skipped .answers ∙ ap (λ (l : List ℕ). l ++ refusals (skipped .rest)) (sym these)) (on .answers)
                 ∙ rw lost;
+            pieces = ap (map pieceOf) (skipped .takes-none) ∙ on .pieces ∙ rw lost;
           }
 
       trip-dropped : ComesOf dropped
       trip-dropped e calls takes =
           not-taken 0 8 e (rw (ap isLost e)) refl
-          (record { rest = calls; takes = takes; hands = refl; leaves = refl; answers = refl })
+          (record { rest = calls; takes = takes; hands = refl; leaves = refl; answers = refl; takes-none = refl })
 
       trip-spoiled : {came : List ℕ} {indication : Bool} {again : ℕ} → ComesOf (spoiled came indication again)
       trip-spoiled {came} {again = again} e calls takes =
@@ -334,6 +340,16 @@ module _ (t : Trip) (ts : List Trip) (sends : MeetsSend (t .sent)) (sent : t .se
           let on = follows (c .answer .state) (suc place) (after 0) (skipped .rest) next
           (within-next (c .answer .state .count) (c .state .count) (lostSince since) (length ts) (done .counted) bound)
           (skipped .takes) in
+          let said = tells s c sends sent (here .same) arrived (takes .meets .1) (done .refused-not) (here .with-overhead) in
+          let piece : pieceOf c ≡ pieceWith (record { trip = t; place = place; since = since })
+          = λ i. (
+            record {
+              missing = done .tells-missing i;
+              number = said .number-told i;
+              second = second-said s c said i;
+            },
+            (used-in (here .same) i, (done .hands ∙ own-places t kept (lostSince since % 16 * S.usedNow (s .state))) i),
+          ) in
           record {
             hands =
                 ap₂ (λ (x y : List Place). x ++ y) (done .hands) (skipped .hands ∙ on .hands)
@@ -347,6 +363,10 @@ module _ (t : Trip) (ts : List Trip) (sends : MeetsSend (t .sent)) (sent : t .se
                 answered e
                 (ap₂ (λ (n : ℕ) (l : List ℕ). n ∷ l) (done .refused-not) (skipped .answers) ∙ rw turns) (on .answers)
                 ∙ rw (kept, turns);
+            pieces =
+                ap (λ (b : Bool). map pieceOf (cond b (c ∷ tookIn cs) (tookIn cs))) (eq-eqb (c .answer .refusal) 0 (done .refused-not))
+                ∙ ap₂ (λ (x : Piece) (l : List Piece). x ∷ l) piece (ap (map pieceOf) (skipped .takes-none) ∙ on .pieces)
+                ∙ one-taken t place since ts kept turns;
           }
 
       pub trip-any : (fate : Fate) → ComesOf fate
@@ -359,7 +379,7 @@ pub comes : (ts : List Trip) (st : Sender) (rc : Receiver) (place : ℕ) (since 
     → Beside st rc since → Within rc since ts → Takes rc calls (arrivals ts) → Comes rc place since ts calls
 unfolding Row Each flatMap storyFrom those totalOf leftBy
 comes [] st rc place since [] row fair beside within takes =
-    record { hands = refl; counts = none-more (rc .count); answers = refl }
+    record { hands = refl; counts = none-more (rc .count); answers = refl; pieces = refl }
 comes [] st rc place since (c ∷ cs) row fair beside within takes = absurd (nil≢cons (sym (takes .these)))
 comes (t ∷ ts) st rc place since calls row fair beside within takes =
     trip-any t ts (row .1 .0) (row .1 .1) (fair .0)

@@ -83,6 +83,7 @@ pub record Took (s : SendCall) (c : ReceiveCall) (gap : ℕ) : Type 0 where
   pub started : c .answer .state .started ≡ true
   pub last : c .answer .state .last ≡ s .state .number
   pub counted : c .answer .state .count ≡ c .state .count + suc gap
+  pub tells-missing : c .answer .missing ≡ gap
   pub hands : handedBy c
       ≡ replicate (gap * S.usedNow (s .state)) missing ++ places (s .samples) (s .ancillary) (replicate (S.usedNow (s .state)) 0)
 
@@ -251,5 +252,6 @@ module _ (s : SendCall) (sends : MeetsSend s) (sent : s .answer .refusal ≡ 0) 
               started = ap (λ x. x .started) state-is;
               last = ap (λ x. x .last) state-is ∙ ap valueOf found-here;
               counted = ap (λ x. x .count) state-is ∙ ap (λ (n : ℕ). c .state .count + n) gap-is;
+              tells-missing = missing-is;
               hands = hands-out;
             }

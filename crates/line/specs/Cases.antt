@@ -7,7 +7,7 @@ use Prim.Native.Nat.{ℕ, _^_}
 use lib.ListN.{replicate}
 use Rattle.formats.specs.Formats.{slotsOf, timesOf}
 use Rattle.numbers.specs.Numbers.{entryOf, dividedEntry}
-use Rattle.guards.specs.Guards.{noV, withV, guardOf}
+use Rattle.guards.specs.Guards.{noV, vIn, guardOf}
 use Rattle.cells.specs.Placement.{slotOf}
 use Rattle.sender.specs.Sender.{openState, cellNow}
 use Rattle.status.specs.declared.step.Stepped.{Stepped}
@@ -29,8 +29,8 @@ unfolding sixNumbers finishedBy
 defined =
     map entryOf sixNumbers
     ∷ map dividedEntry sixNumbers
-    ∷ (guardOf 24 0 (withV 0) ∷ guardOf 24 0 (withV 1) ∷ guardOf 24 (2 ^ 15) (withV 0) ∷ guardOf 24 (2 ^ 23) (withV 0)
-    ∷ guardOf 8 1 (withV 0) ∷ [])
+    ∷ (guardOf 24 0 (vIn 0) ∷ guardOf 24 0 (vIn 1) ∷ guardOf 24 (2 ^ 15) (vIn 0) ∷ guardOf 24 (2 ^ 23) (vIn 0)
+    ∷ guardOf 8 1 (vIn 0) ∷ [])
     ∷ (guardOf 20 0 noV ∷ guardOf 20 (2 ^ 11) noV ∷ [])
     ∷ (timesOf (slotsOf 0x56) 5 ∷ slotOf false 5 2 3 1 ∷ slotOf true 5 2 3 1 ∷ [])
     ∷ cellNow (openState 0x56 2 0 0 false 0) false (replicate 12 0) (replicate 12 0)

@@ -4,5 +4,6 @@ pub mod Contracts
 pub mod Demands
 pub mod Line
 pub mod Losses
+pub mod Seconds
 pub mod Tools
 pub mod Units

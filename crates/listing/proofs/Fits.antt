@@ -1,4 +1,4 @@
--- What a piece of at most 65,536 octets makes fits a run of 131,072: so many records as it can make whole at 76 octets each, and 216.
+-- What a piece makes fits a run of `mostText`: so many records as it can make whole at 76 octets each, and 216. The end fits 216.
 -- Assumes nothing.
 use mathlib.Core.Bool.{true, false, cond, _&&_}
 use mathlib.Core.List.{List, [], _∷_, _++_}
@@ -22,7 +22,7 @@ use Rattle.listing.specs.declared.Printed.{Printed}
 use Rattle.listing.specs.declared.Tally.{Tally}
 use Rattle.listing.specs.Lines.{formatLine, brokenLine, endLine, logRefusedLine}
 use Rattle.listing.specs.List.{lineOf}
-use Rattle.listing.specs.Taking.{judgedWhole, endText, partText, textOf, tallyOf, pieceText, endOfText, Takes, Ends}
+use Rattle.listing.specs.Taking.{judgedWhole, endText, partText, textOf, tallyOf, pieceText, endOfText, mostText, Takes, Ends}
 use Rattle.text.specs.Put.{listed}
 use Rattle.text.specs.Text.{item}
 use Rattle.text.specs.Words.{words}
@@ -143,8 +143,8 @@ module _ (s : Standing) (held : List ℕ) (n : ℕ) where
     most-behind-fault b = rw (a, b)
 
 module _ (l : Listing) (held : List ℕ) where
-  pub piece-fits : (piece : List ℕ) → length piece ≤ 65536 → length (pieceText l held piece) ≤ 131072
-  piece-fits piece few =
+  pub piece-fits : (piece : List ℕ) → length (pieceText l held piece) ≤ mostText (length piece)
+  piece-fits piece =
       let short = text-short (l .tally) (takingOf (l .standing) held) piece in
       split (eqb (l .standing .stage) 0)
       (λ a. omega (arith, short, most-in-header (l .standing) held (length piece) a))
@@ -159,7 +159,7 @@ module _ (l : Listing) (held : List ℕ) where
       ))
       (λ b. omega (arith, short, most-behind-fault (l .standing) held (length piece) a b)))
 
-  pub end-fits : length (endOfText l held) ≤ 131072
+  pub end-fits : length (endOfText l held) ≤ 216
   unfolding endParts endPart takingOf textOf
   end-fits =
       split (eqb (l .standing .stage) 0)
@@ -174,9 +174,10 @@ module _ (l : Listing) (held : List ℕ) where
 
 -- so a run of that many octets holds all of it
 pub takes-whole : {l : Listing} {held piece run held-after run-after : List ℕ} {answer : Printed} → Takes l held piece run answer held-after run-after
-    → length piece ≤ 65536 → 131072 ≤ length run → (answer .listed .whole ≡ true) × (answer .listed .octets ≤ length run)
-takes-whole {l} {held} {piece} {run} takes few room = listed-whole (pieceText l held piece) run 131072 (piece-fits l held piece few) room (takes .printed)
+    → mostText (length piece) ≤ length run → (answer .listed .whole ≡ true) × (answer .listed .octets ≤ length run)
+takes-whole {l} {held} {piece} {run} takes room =
+    listed-whole (pieceText l held piece) run (mostText (length piece)) (piece-fits l held piece) room (takes .printed)
 
-pub ends-whole : {l : Listing} {held run run-after : List ℕ} {answer : Put} → Ends l held run answer run-after → 131072 ≤ length run
+pub ends-whole : {l : Listing} {held run run-after : List ℕ} {answer : Put} → Ends l held run answer run-after → 216 ≤ length run
     → (answer .whole ≡ true) × (answer .octets ≤ length run)
-ends-whole {l} {held} {run} ends room = listed-whole (endOfText l held) run 131072 (end-fits l held) room (ends .printed)
+ends-whole {l} {held} {run} ends room = listed-whole (endOfText l held) run 216 (end-fits l held) room (ends .printed)

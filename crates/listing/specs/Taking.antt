@@ -4,7 +4,7 @@
 use mathlib.Core.Bool.{cond}
 use mathlib.Core.List.{List, [], _∷_, _++_}
 use mathlib.Core.Path.{_≡_}
-use Prim.Native.Nat.{ℕ, _+_, _%_, _^_}
+use Prim.Native.Nat.{ℕ, _+_, _*_, _/_, _%_, _^_}
 use lib.Dec.{eqb}
 use lib.ListN.{length, take}
 use Rattle.runs.specs.Runs.{over}
@@ -106,6 +106,11 @@ listingAfter l held piece =
 -- what the end hands out
 abbrev pub endOfText : Listing → List ℕ → List ℕ
 endOfText l held = textOf (l .tally) (endParts (takingOf (l .standing) held))
+
+-- no text of a piece is longer, whatever the list: a line of at most 76 octets for each record that so many octets and those held
+-- can make whole; and a format line, the fault and the end line
+abbrev pub mostText : ℕ → ℕ
+mostText octets = 216 + 76 * (octets / 49 + 1)
 
 -- the whole promise of taking a piece: the answer, and what the lent array and the lent run hold afterwards
 pub record Takes (l : Listing) (held piece run : List ℕ) (answer : Printed) (held-after run-after : List ℕ) : Type 0 where

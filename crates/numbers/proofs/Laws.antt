@@ -31,6 +31,7 @@ use Rattle.numbers.specs.Numbers.{
   foundOf,
   refusalOf,
   valueOf,
+  Finds,
   wordBit,
   gathered,
   eightOf,
@@ -285,6 +286,22 @@ place-le w (x ∷ xs) = either (eqb x w) (place-le w xs)
     either : (b : Bool) → placeIn w xs ≤ length xs → cond b 0 (suc (placeIn w xs)) ≤ suc (length xs)
     either true h = omega arith
     either false h = omega arith
+
+-- what the promise of a search says is what is found, and nothing else is
+pub finds : (word : ℕ) → Finds word (foundOf word)
+unfolding foundOf refusalOf valueOf
+finds word = split (ltb (numberIn word) 16) (λ t. record { refused = rw t; number = rw t }) (λ t. record { refused = rw t; number = rw t })
+
+pub found-as : (word : ℕ) (found : Found) → Finds word found → found ≡ foundOf word
+unfolding foundOf refusalOf valueOf
+found-as word (Number n) p =
+    split (ltb (numberIn word) 16)
+    (λ t. let is : n ≡ numberIn word = rw t at (p .number) in rw t (ap Number is))
+    (λ t. absurd (let other : _≡_ {A = ℕ} 0 8 = rw t at (p .refused) in omega (arith, other)))
+found-as word Nothing p =
+    split (ltb (numberIn word) 16)
+    (λ t. absurd (let other : _≡_ {A = ℕ} 8 0 = rw t at (p .refused) in omega (arith, other)))
+    (λ t. rw t)
 
 -- what is found is the number, and nothing is found where there is none
 pub found-is : (word : ℕ) {n : ℕ} → foundOf word ≡ Number n → n ≡ numberIn word

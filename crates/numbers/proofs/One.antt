@@ -3,6 +3,7 @@
 -- Assumes nothing.
 use mathlib.Core.Path.{refl, sym, _∙_}
 use Rattle.runs.proofs.One.{One}
+use Rattle.numbers.proofs.Laws.{found-as}
 use Rattle.numbers.proofs.entry_of.Kinds as entry-of-kinds
 use Rattle.numbers.proofs.entry_of.Reads as entry-of-reads
 use Rattle.numbers.proofs.number_of.Kinds as number-of-kinds
@@ -18,7 +19,7 @@ pub entry-of-one : One entry-of-kinds.ps entry-of-kinds.r entry-of-reads.Pre ent
 entry-of-one κs a x y v w pre p q = (p ∙ sym q, refl)
 
 pub number-of-one : One number-of-kinds.ps number-of-kinds.r number-of-reads.Pre number-of-reads.Post
-number-of-one κs a x y v w pre p q = (p ∙ sym q, refl)
+number-of-one κs a x y v w pre p q = (found-as (a .0) x p ∙ sym (found-as (a .0) y q), refl)
 
 pub sequence-of-one : One sequence-of-kinds.ps sequence-of-kinds.r sequence-of-reads.Pre sequence-of-reads.Post
 sequence-of-one κs a x y v w pre p q = (p ∙ sym q, refl)

@@ -9,6 +9,7 @@ use Rattle.runs.proofs.Wrong.{Never}
 use Rattle.numbers.specs.Numbers.{tableA1, turned, placeIn, foundOf, wordBit, gathered, differenceOf, indicationRefused}
 use Rattle.numbers.specs.Code.{sequenceOf}
 use Rattle.numbers.specs.declared.Found.the-variants.{Number, Nothing}
+use Rattle.numbers.proofs.Laws.{found-as}
 use Rattle.numbers.proofs.entry_of.Kinds as entry-of-kinds
 use Rattle.numbers.proofs.entry_of.Reads as entry-of-reads
 use Rattle.numbers.proofs.number_of.Kinds as number-of-kinds
@@ -42,12 +43,12 @@ module _ (κs : Lfts 0) where
   -- a receiver that takes no number: an entry of the table answered with nothing
   pub number-not-always-refused : Never number-of-kinds.ps number-of-kinds.r number-of-reads.Post κs (0x84, tt) (λ x v. x ≡ Nothing)
   unfolding unfolded
-  number-not-always-refused x v wrong p = apart 1 (sym wrong ∙ p)
+  number-not-always-refused x v wrong p = apart 1 (sym wrong ∙ found-as 0x84 x p)
 
   -- one bit beside number 1's entry is no number, not even number 1
   pub number-not-the-nearest : (n : ℕ) → Never number-of-kinds.ps number-of-kinds.r number-of-reads.Post κs (0x85, tt) (λ x v. x ≡ Number n)
   unfolding unfolded
-  number-not-the-nearest n x v wrong p = apart n (sym p ∙ wrong)
+  number-not-the-nearest n x v wrong p = apart n (sym (found-as 0x85 x p) ∙ wrong)
 
   -- the first eight bits of number 1's cell as the octet has them, the first one worth 128
   pub sequence-not-highest-first : Never sequence-of-kinds.ps sequence-of-kinds.r sequence-of-reads.Post κs (1, (0, tt)) (λ x v. x ≡ 0x84)

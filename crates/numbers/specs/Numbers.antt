@@ -2,6 +2,7 @@
 -- Assumes nothing.
 use mathlib.Core.Bool.{Bool, cond, not, _&&_}
 use mathlib.Core.List.{List, [], _∷_}
+use mathlib.Core.Path.{_≡_}
 use Prim.Native.Nat.{ℕ, zero, suc, _+_, _*_, _/_, _%_, _-_, _^_}
 use lib.Count.{ones}
 use lib.Dec.{eqb, ltb}
@@ -55,6 +56,11 @@ refusalOf Nothing = 8
 unfoldable pub valueOf : Found → ℕ
 valueOf (Number n) = n
 valueOf Nothing = 0
+
+-- and that it is this, of eight bits
+pub record Finds (word : ℕ) (found : Found) : Type 0 where
+  pub refused : refusalOf found ≡ cond (ltb (numberIn word) 16) 0 8
+  pub number : valueOf found ≡ cond (ltb (numberIn word) 16) (numberIn word) 0
 
 -- the sequencing bit of a slot: the eight number bits, then "Bits 9 to 12: the second number, least significant first", and
 -- "Later bits are sent as zero"

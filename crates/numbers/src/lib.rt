@@ -2,7 +2,7 @@
 ghost use mathlib.Core.Path.{_≡_};
 ghost use Prim.Native.Nat.{_*_, _%_};
 ghost use Rattle.runs.specs.Division.{remainder};
-ghost use Rattle.numbers.specs.Numbers.{turned, entryOf, foundOf, differenceOf, indicationRefused};
+ghost use Rattle.numbers.specs.Numbers.{turned, entryOf, Finds, differenceOf, indicationRefused};
 ghost use Rattle.numbers.specs.Code.{sequenceOf};
 
 // The number that eight sequencing bits are, or nothing where they equal no entry of the table.
@@ -57,7 +57,7 @@ pub fn entry_of(number: u8) -> u8
 // A cell number is accepted only if all eight bits are those that belong to it. The first four are the number's own bits; it is the
 // other four that are worked out and compared.
 pub fn number_of(word: u8) -> Found
-    ensures { λ r. ⌜ r ≡ foundOf word ⌝ }
+    ensures { λ r. ⌜ Finds word r ⌝ }
 {
     let number = turned_round(word / 16);
     if first_eight(number) / 16 == turned_round(word) {

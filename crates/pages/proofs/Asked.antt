@@ -16,6 +16,8 @@ use Rattle.reading.specs.Reading.{readingOf, freshOf, behindHeader}
 use Rattle.reading.specs.Records.{recordsIn}
 use Rattle.presence.specs.Handed.{FirstIn, AllSilent}
 use Rattle.presence.specs.Presence.{presenceOf}
+use Rattle.presence.specs.Taking.{readsOn}
+use Rattle.presence.specs.declared.Search.{Search}
 use Rattle.presence.proofs.Theorems as presence
 use Rattle.saving.specs.declared.Salvaged.{Salvaged}
 use Rattle.saving.specs.Demands.{SameLine}
@@ -55,6 +57,11 @@ use Rattle.pages.specs.Papers.{
   MeetsUnitFace,
   readOfFace,
 }
+
+-- request 7: a search behind its yes
+pub anything-stops : (s : Search) → s .sought .found ≡ true → readsOn s ≡ false
+unfolding readsOn
+anything-stops s found = rw found
 
 -- request 1: a frame imported and exported again
 pub frame-back : (preambles subframes samples ancillary preambles₁ subframes₁ : List ℕ) (x y : ℕ) → Halves preambles subframes

@@ -6,7 +6,7 @@ use mathlib.Core.Bool.{cond}
 use mathlib.Core.Path.{_≡_}
 use denote.Ref.{now}
 use lib.ListN.{length, getD, replicate}
-use Rattle.formats.specs.Formats.{settingsRefusal}
+use Rattle.formats.specs.Formats.{isListed, settingsRefusal}
 use Rattle.sender.specs.Sender as S
 use Rattle.receiver.specs.Receiver as R
 use Rattle.status.specs.Step.{isRefused}
@@ -19,7 +19,19 @@ use Rattle.figures.specs.Sheets.{sheetRefusal}
 use Rattle.cable.specs.Frames.{importRefusal, exportRefusal}
 use Rattle.units.specs.Units as U
 use Rattle.circuits.specs.Circuits.{octetRefusal, checkRefusal, planRefusalOf}
+use Rattle.slips.specs.Watch.{stepRefusal}
 use Rattle.rimesatchel.specs.Boxes.{senderOf, receiverOf, countOf}
+use Rattle.rimesatchel.specs.Watches.{watchOf}
+use Rattle.rimesatchel.proofs.facts.rime_format.Kinds as format-kinds
+use Rattle.rimesatchel.proofs.facts.rime_format.Reads as format-reads
+use Rattle.hearing.specs.Receiving.{callRefusal}
+use Rattle.sender.specs.Many.{batchRefusal}
+use Rattle.rimesatchel.proofs.batches.rime_judge_log.Kinds as judge-log-kinds
+use Rattle.rimesatchel.proofs.batches.rime_judge_log.Reads as judge-log-reads
+use Rattle.rimesatchel.proofs.batches.rime_receive_log.Kinds as receive-log-kinds
+use Rattle.rimesatchel.proofs.batches.rime_receive_log.Reads as receive-log-reads
+use Rattle.rimesatchel.proofs.many.rime_send_log.Kinds as send-log-kinds
+use Rattle.rimesatchel.proofs.many.rime_send_log.Reads as send-log-reads
 use Rattle.rimesatchel.proofs.boxes.rime_sender_open.Kinds as sender-open-kinds
 use Rattle.rimesatchel.proofs.boxes.rime_sender_open.Reads as sender-open-reads
 use Rattle.rimesatchel.proofs.boxes.rime_send.Kinds as send-kinds
@@ -32,6 +44,8 @@ use Rattle.rimesatchel.proofs.boxes.rime_receiver_placed.Kinds as placed-kinds
 use Rattle.rimesatchel.proofs.boxes.rime_receiver_placed.Reads as placed-reads
 use Rattle.rimesatchel.proofs.statuses.rime_status_step.Kinds as status-kinds
 use Rattle.rimesatchel.proofs.statuses.rime_status_step.Reads as status-reads
+use Rattle.rimesatchel.proofs.statuses.rime_status_run.Kinds as status-run-kinds
+use Rattle.rimesatchel.proofs.statuses.rime_status_run.Reads as status-run-reads
 use Rattle.rimesatchel.proofs.statuses.rime_check_character.Kinds as character-kinds
 use Rattle.rimesatchel.proofs.statuses.rime_check_character.Reads as character-reads
 use Rattle.rimesatchel.proofs.logs.rime_log_header.Kinds as header-kinds
@@ -62,14 +76,28 @@ use Rattle.rimesatchel.proofs.plans.rime_circuits_check.Kinds as check-kinds
 use Rattle.rimesatchel.proofs.plans.rime_circuits_check.Reads as check-reads
 use Rattle.rimesatchel.proofs.plans.rime_circuits_plan.Kinds as plan-kinds
 use Rattle.rimesatchel.proofs.plans.rime_circuits_plan.Reads as plan-reads
-use Rattle.management.specs.Demands.{equipmentRefusal, controllerRefusal}
+use Rattle.rimesatchel.proofs.watches.rime_slip.Kinds as slip-kinds
+use Rattle.rimesatchel.proofs.watches.rime_slip.Reads as slip-reads
+use Rattle.management.specs.Demands as M
+use Rattle.management.proofs.packing.rime_port_settings.Kinds as port-settings-kinds
+use Rattle.management.proofs.packing.rime_port_settings.Reads as port-settings-reads
+use Rattle.management.proofs.packing.rime_port_packing.Kinds as port-packing-kinds
+use Rattle.management.proofs.packing.rime_port_packing.Reads as port-packing-reads
 use Rattle.management.proofs.equipment.rime_equipment.Kinds as equipment-kinds
 use Rattle.management.proofs.equipment.rime_equipment.Reads as equipment-reads
 use Rattle.management.proofs.controller.rime_controller.Kinds as controller-kinds
 use Rattle.management.proofs.controller.rime_controller.Reads as controller-reads
 use Rattle.line.specs.Demands.{Refuses, recordTable}
 use Rattle.line.proofs.Ensures.{Ensured}
+use Rattle.pages.specs.Papers.{runRefusal}
 use Rattle.pages.proofs.Refused as Refused
+
+-- a format's facts: 1 for "an octet that is none of the fourteen"
+pub format-refuses : Ensured format-kinds.ps format-kinds.r format-reads.Post
+    (λ κs a x v.
+    let facts = v .1 .0 in
+    Refuses x (cond (isListed (a .0)) 0 1) (facts ≡ replicate 4 0))
+format-refuses κs a x v p = Refused.names-format (a .0) p
 
 -- an opening: the state is all that it answers through, and is zeros where it refuses
 pub sender-open-refuses : Ensured sender-open-kinds.ps sender-open-kinds.r sender-open-reads.Post
@@ -120,6 +148,17 @@ pub placed-answers : Ensured placed-kinds.ps placed-kinds.r placed-reads.Post (�
 unfolding receiverOf
 placed-answers κs a x v p = p
 
+-- the watch is lent, in seven octets
+pub slip-refuses : Ensured slip-kinds.ps slip-kinds.r slip-reads.Post
+    (λ κs a x v.
+    let watch = now (a .0) in
+    let report = now (a .1 .0) in
+    let watch-left = v .0 in
+    let slip = v .1 .1 .0 in
+    Refuses x (stepRefusal (watchOf watch) (getD report 0 0) (getD report 1 0) (getD report 2 0))
+    ((watch-left ≡ watch) × (slip ≡ replicate 2 0)))
+slip-refuses κs a x v p = Refused.watches p
+
 -- the block is lent, in 25 octets; what goes out is zeros
 pub status-refuses : Ensured status-kinds.ps status-kinds.r status-reads.Post
     (λ κs a x v.
@@ -129,6 +168,17 @@ pub status-refuses : Ensured status-kinds.ps status-kinds.r status-reads.Post
     Refuses x (cond (isRefused (getD block 0 0) (a .1 .0) (a .1 .1 .0)) 14 0)
     ((length block ≡ 25 → block-left ≡ block) × (out ≡ replicate 25 0)))
 status-refuses κs a x v p = Refused.steps p
+
+-- many steps: 5, then 14 at any entry that the call would use
+pub status-run-refuses : Ensured status-run-kinds.ps status-run-kinds.r status-run-reads.Post
+    (λ κs a x v.
+    let block = now (a .0) in
+    let block-left = v .0 in
+    let out = v .1 .1 .1 .1 .1 .0 in
+    let next = v .1 .1 .1 .1 .1 .1 .0 in
+    Refuses x (runRefusal block (now (a .1 .0)) (now (a .1 .1 .0)) (a .1 .1 .1 .0) (a .1 .1 .1 .1 .0))
+    ((length block ≡ 25 → block-left ≡ block) × (out ≡ replicate 25 0) × (next ≡ 0)))
+status-run-refuses κs a x v p = Refused.runs p
 
 -- it refuses nothing
 pub character-answers : Ensured character-kinds.ps character-kinds.r character-reads.Post (λ κs a x v. x ≡ checkCharacter (now (a .0)))
@@ -146,6 +196,44 @@ pub record-refuses : Ensured record-kinds.ps record-kinds.r record-reads.Post
     let answer = v .1 .1 .0 in
     Refuses x (recordTable (now (a .0)) (a .1 .0)) (answer ≡ replicate 4 0))
 record-refuses κs a x v p = Refused.reads-record (now (a .0)) (a .1 .0) p
+
+-- many records: where it stopped is no refusal, so that a state alone is refused, 1 to 4
+pub judge-log-refuses : Ensured judge-log-kinds.ps judge-log-kinds.r judge-log-reads.Post
+    (λ κs a x v.
+    let state = now (a .0) in
+    let reports = now (a .1 .1 .1 .0) in
+    let state-left = v .0 in
+    let reports-left = v .1 .1 .1 .0 in
+    let counts = v .1 .1 .1 .1 .0 in
+    Refuses x (R.stateRefusal (receiverOf state)) ((state-left ≡ state) × (reports-left ≡ reports) × (counts ≡ replicate 3 0)))
+judge-log-refuses κs a x v p = Refused.judges p
+
+pub receive-log-refuses : Ensured receive-log-kinds.ps receive-log-kinds.r receive-log-reads.Post
+    (λ κs a x v.
+    let state = now (a .0) in
+    let samples = now (a .1 .1 .1 .0) in
+    let ancillary = now (a .1 .1 .1 .1 .0) in
+    let marks = now (a .1 .1 .1 .1 .1 .0) in
+    let state-left = v .0 in
+    let samples-left = v .1 .1 .1 .0 in
+    let ancillary-left = v .1 .1 .1 .1 .0 in
+    let marks-left = v .1 .1 .1 .1 .1 .0 in
+    let counts = v .1 .1 .1 .1 .1 .1 .0 in
+    Refuses x (callRefusal (receiverOf state) (length samples) (length ancillary) (length marks))
+    ((state-left ≡ state) × (samples-left ≡ samples) × (ancillary-left ≡ ancillary) × (marks-left ≡ marks) × (counts ≡ replicate 9 0)))
+receive-log-refuses κs a x v p = Refused.receives-log p
+
+pub send-log-refuses : Ensured send-log-kinds.ps send-log-kinds.r send-log-reads.Post
+    (λ κs a x v.
+    let state = now (a .0) in
+    let samples = now (a .1 .1 .0) in
+    let ancillary = now (a .1 .1 .1 .0) in
+    let log = now (a .1 .1 .1 .1 .0) in
+    let state-left = v .0 in
+    let log-left = v .1 .1 .1 .1 .0 in
+    let counts = v .1 .1 .1 .1 .1 .1 .0 in
+    Refuses x (batchRefusal (senderOf state) samples ancillary) ((state-left ≡ state) × (log-left ≡ log) × (counts ≡ replicate 4 0)))
+send-log-refuses κs a x v p = Refused.sends-log p
 
 pub put-header-refuses : Ensured put-header-kinds.ps put-header-kinds.r put-header-reads.Post
     (λ κs a x v.
@@ -250,7 +338,7 @@ pub equipment-refuses : Ensured equipment-kinds.ps equipment-kinds.r equipment-r
     let ports-left = v .0 in
     let answer-left = v .1 .1 .0 in
     let report = v .1 .1 .1 .0 in
-    Refuses x (equipmentRefusal ports (now (a .1 .0)) (length answer))
+    Refuses x (M.equipmentRefusal ports (now (a .1 .0)) (length answer))
     ((ports-left ≡ ports) × (answer-left ≡ answer) × (report ≡ replicate 4 0)))
 equipment-refuses κs a x v p = Refused.equips (now (a .1 .0)) p
 
@@ -258,5 +346,18 @@ pub controller-refuses : Ensured controller-kinds.ps controller-kinds.r controll
     (λ κs a x v.
     let ports = now (a .0) in
     let ports-left = v .0 in
-    Refuses x (controllerRefusal (now (a .1 .0))) (ports-left ≡ ports))
+    Refuses x (M.controllerRefusal (now (a .1 .0))) (ports-left ≡ ports))
 controller-refuses κs a x v p = Refused.controls p
+
+-- a port's settings, by its record and by its packing octet: checks 1 to 3
+pub port-settings-refuses : Ensured port-settings-kinds.ps port-settings-kinds.r port-settings-reads.Post
+    (λ κs a x v.
+    let settings = v .1 .0 in
+    Refuses x (M.recordRefusal (now (a .0))) (settings ≡ replicate 3 0))
+port-settings-refuses κs a x v p = Refused.settles p
+
+pub port-packing-refuses : Ensured port-packing-kinds.ps port-packing-kinds.r port-packing-reads.Post
+    (λ κs a x v.
+    let packing = v .1 .1 .1 .0 in
+    Refuses x (settingsRefusal (a .0) (a .1 .0) (a .1 .1 .0)) (packing ≡ 0))
+port-packing-refuses κs a x v p = Refused.packs p

@@ -22,9 +22,9 @@ use Rattle.rimesatchel.specs.Kept.{ListedOctets}
 use Rattle.rimesatchel.specs.Statuses.{SteppedOctets}
 use Rattle.line.specs.Contracts.{MeetsReadCell, MeetsNextPlace}
 use Rattle.line.specs.Demands.{recordTable}
-use Rattle.pages.specs.Papers.{paper'sLog}
+use Rattle.worked.specs.Cases.{paper'sLog}
+use Rattle.worked.proofs.Characters as Characters
 use Rattle.pages.proofs.Asked as Asked
-use Rattle.pages.proofs.Characters as Characters
 use Rattle.pages.proofs.Logged as Logged
 use Rattle.pages.proofs.Printed as Printed
 

@@ -1,8 +1,8 @@
--- Demands 2 and 3 of the C calls, on one page: `rime_send` and `rime_receive` with their states of octets. Each proof is a citation.
+-- Demands 2 and 3 of the C calls, and what else document 01 says of a call of either box, on one page: `rime_send` and `rime_receive` with their states of octets. Each proof is a citation.
 -- Assumes nothing.
 use mathlib.Core.List.{List, map, flatMap}
 use mathlib.Core.Path.{_≡_, sym, _∙_, ap, ap₂}
-use Prim.Native.Nat.{ℕ, _+_, _≤_}
+use Prim.Native.Nat.{ℕ, _+_, _≤_, _<_}
 use denote.Ref.{now}
 use lib.Dec.{eqb}
 use lib.ListN.{getD}
@@ -22,6 +22,7 @@ use Rattle.line.proofs.Beyond as beyond
 use Rattle.line.proofs.Demands as line
 use Rattle.line.proofs.Ensures.{Ensured}
 use Rattle.line.proofs.Places.{Inside, demand-3-inside}
+use Rattle.pages.specs.Boxes.{GoesOn, Marks, ReadAlike, AnsweredAlike}
 use Rattle.pages.specs.Face.{
   SendFace,
   MeetsSendFace,
@@ -34,6 +35,7 @@ use Rattle.pages.specs.Face.{
   SettingsAlike,
   OverTheFace,
 }
+use Rattle.pages.proofs.Boxes as boxes
 use Rattle.pages.proofs.Face.{sends-as, receives-as, receiving-as, left-as, total-as, settings-as, opened-back, over-face}
 
 -- The two records of a call are the calls' own `ensures`: the first parameter is a .0, the second a .1 .0 and so on, and what it holds
@@ -85,6 +87,23 @@ pub demand-2-numbers : (s : SendFace) (r : ReceiveFace) → MeetsSendFace s → 
 demand-2-numbers s r sends sent alike arrived receives received with-overhead =
     line.demand-2-numbers (sendOf s) (receiveOf r) (sends-as s sends) sent (settings-as (s .state) (r .state) alike) arrived
     (receives-as r receives) received with-overhead
+
+-- "The sender packs samples into 48-octet cell payloads"; "Each cell's number is one more than the last, modulo 16", and the second number
+pub sent-octets : (s : SendFace) → MeetsSendFace s → s .refusal ≡ 0 → (i : ℕ) → getD (s .written) i 0 < 256
+sent-octets s meets = boxes.sent-octets (sendOf s) (sends-as s meets)
+
+pub goes-on : (s : SendFace) → MeetsSendFace s → s .refusal ≡ 0 → GoesOn (sendOf s)
+goes-on s meets = boxes.goes-on (sendOf s) (sends-as s meets)
+
+-- "mark 1 means that the three protection bits disagree, and the sample is still given"
+pub marks : (r : ReceiveFace) → MeetsReceiveFace r → r .refusal ≡ 0 → (channel time : ℕ) → channel < B.receiverOf (r .state) .channels
+    → time < R.timesNow (B.receiverOf (r .state)) → Marks (receiveOf r) channel time
+marks r meets = boxes.marks (receiveOf r) (receives-as r meets)
+
+-- "the receiver doesn't judge them" (unused slots); "Later bits are sent as zero and not read"
+pub read-alike : (a b : ReceiveFace) → MeetsReceiveFace a → MeetsReceiveFace b → ReadAlike (receiveOf a) (receiveOf b)
+    → AnsweredAlike (receiveOf a) (receiveOf b)
+read-alike a b first second = boxes.read-alike (receiveOf a) (receiveOf b) (receives-as a first) (receives-as b second)
 
 -- 3. "A format with overhead, cells that one sender wrote in a row, a line that drops some and spoils others .., at most fourteen in a
 -- row, a fresh receiver in the sender's settings with room": what each call left in its state of octets is lent to the next.

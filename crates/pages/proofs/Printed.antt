@@ -8,7 +8,7 @@ use Rattle.pieces.proofs.Wrong as pieces
 use Rattle.text.specs.Text.{digitsOf}
 use Rattle.text.specs.Words.{words}
 use Rattle.listing.specs.List.{lineOf, linesOf, endLines, listTo, listOf}
-use Rattle.pages.specs.Papers.{paper'sLog}
+use Rattle.worked.specs.Cases.{paper'sLog}
 
 pub prints-exactly : listOf paper'sLog ≡ words "format 86 2 0\n0 sound 0 number 0\n1 refused 9\nend 1 sound 0 missing 1 refused\n"
 unfolding receiver.unfolded pieces.unfolded heardBy given hear totalOf digitsOf lineOf linesOf endLines listTo

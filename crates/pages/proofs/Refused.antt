@@ -8,10 +8,17 @@ use native.Mathlib.Omega.{arith}
 use borrow.Author.Tests.{ne-eqb}
 use lib.Dec.{eqb}
 use lib.ListN.{length, getD, drop, replicate}
-use Rattle.formats.specs.Formats.{settingsRefusal}
+use Rattle.runs.specs.Runs.{over}
+use Rattle.runs.proofs.Laws.{split}
+use Rattle.formats.specs.Formats.{isListed, formatOf, settingsRefusal}
 use Rattle.sender.specs.Sender as S
 use Rattle.receiver.specs.Receiver as R
 use Rattle.status.specs.Step.{isRefused}
+use Rattle.status.specs.declared.run.Ran.{Ran}
+use Rattle.hearing.specs.declared.judging.Judged.{Judged}
+use Rattle.reading.specs.Heard.{Heard}
+use Rattle.hearing.specs.Receiving.{callRefusal, samplesOf, ancillaryOf, marksOf, columnGiven}
+use Rattle.sender.specs.Many.{batchRefusal}
 use Rattle.log.specs.Numbers.{numberAt}
 use Rattle.log.specs.Records.{headerRefusal, secondNumber, thirdNumber, headerOf, recordAt}
 use Rattle.log.specs.Written.{Keeps}
@@ -21,6 +28,10 @@ use Rattle.figures.specs.Sheets.{sheetRefusal}
 use Rattle.cable.specs.Frames.{importRefusal, exportRefusal}
 use Rattle.units.specs.Units as U
 use Rattle.circuits.specs.Circuits.{octetRefusal, checkRefusal, planRefusalOf, Plans}
+use Rattle.slips.specs.Watch.{stepRefusal}
+use Rattle.slips.proofs.Demand1 as slips
+use Rattle.rimesatchel.specs.Batches.{judgedNumbers, JudgedOctets, batchNumbers, ReceivedLogOctets}
+use Rattle.rimesatchel.specs.Many as Many
 use Rattle.rimesatchel.specs.Boxes.{
   yesNo,
   senderOf,
@@ -35,6 +46,7 @@ use Rattle.rimesatchel.specs.Boxes.{
   ReceivedOctets,
 }
 use Rattle.rimesatchel.specs.Contents.{presenceNumbers}
+use Rattle.rimesatchel.specs.Facts.{formatNumbers, formatRefusal}
 use Rattle.rimesatchel.specs.Frames.{ImportedFrame, ExportedFrame}
 use Rattle.rimesatchel.specs.Kept.{keptAs}
 use Rattle.rimesatchel.specs.Logs.{headerNumbers, recordNumbers}
@@ -42,15 +54,31 @@ use Rattle.rimesatchel.specs.Network.{ExportedUnits, ReadUnit}
 use Rattle.rimesatchel.specs.Plans.{CheckedPlan}
 use Rattle.rimesatchel.specs.Salvages.{SalvagedLog}
 use Rattle.rimesatchel.specs.Sheets.{DrawsUp}
-use Rattle.rimesatchel.specs.Statuses.{SteppedOctets}
+use Rattle.rimesatchel.specs.Statuses.{blockOf, SteppedOctets, RanOctets}
+use Rattle.rimesatchel.specs.Watches.{watchOf, slippedOf, SlippedOctets}
 use Rattle.management.specs.Controller.{Takes}
-use Rattle.management.specs.Demands.{equipmentRefusal, controllerRefusal}
+use Rattle.management.specs.Demands.{recordRefusal, equipmentRefusal, controllerRefusal}
 use Rattle.management.specs.Equipment.{Leaves, equipmentOf}
+use Rattle.management.specs.Packing.{Sets, Packs}
 use Rattle.management.proofs.Demands as management
 use Rattle.line.specs.Contracts.{SendCall, ReceiveCall}
 use Rattle.line.specs.Demands.{Refuses, recordTable}
 use Rattle.line.proofs.Demands as line
 use Rattle.line.proofs.Refused as laws
+use Rattle.pages.specs.Papers.{runRefusal}
+use Rattle.pages.proofs.Ran.{
+  run-refusal,
+  run-refused,
+  judge-refusal,
+  judge-refused,
+  none-reported,
+  receive-log-refusal,
+  receive-log-refused,
+  none-received,
+  send-log-refusal,
+  send-log-refused,
+  none-sent,
+}
 
 -- a refusal that is another one's, and leaves nothing where the other does
 as-said : {refusal said table : ℕ} {Said Nothing : Type 0} → refusal ≡ said → Refuses said table Said
@@ -144,6 +172,91 @@ steps {block} {ancillary} {mark} p =
       λ long. p .leaves ∙ (λ i. none .block-as-lent i .bits ∷ none .block-as-lent i .octets) ∙ first-rest block (λ none. omega (arith, long, none)),
       p .hands ∙ ap₂ (λ (answer : ℕ) (octets : List ℕ). answer ∷ octets) (none .neither) (none .zeros-out),
     ))
+
+pub runs : {block ancillary marks : List ℕ} {from step refusal : ℕ} {left out : List ℕ} {next : ℕ}
+    → RanOctets block ancillary marks from step refusal left out next
+    → Refuses refusal (runRefusal block ancillary marks from step) ((length block ≡ 25 → left ≡ block) × (out ≡ replicate 25 0) × (next ≡ 0))
+runs {block} {ancillary} {marks} {from} {step} p =
+    record {
+      by-the-table = p .refused ∙ run-refusal block ancillary marks from step;
+      then-nothing =
+          λ some.
+          let is = run-refused (blockOf block) ancillary marks from step (λ none. some (p .refused ∙ none)) in (
+            λ long.
+                p .leaves ∙ ap (λ (r : Ran). r .stepped .block .bits ∷ r .stepped .block .octets) is ∙ first-rest block (λ none. omega (arith, long, none)),
+            p .hands ∙ ap (λ (r : Ran). r .stepped .handed .answer ∷ r .stepped .handed .octets) is,
+            p .goes-on ∙ ap (λ (r : Ran). r .next) is,
+          );
+    }
+
+pub names-format : (octet : ℕ) {refusal : ℕ} {facts : List ℕ}
+    → (refusal ≡ formatRefusal octet) × (facts ≡ formatNumbers (formatOf octet))
+    → Refuses refusal (cond (isListed octet) 0 1) (facts ≡ replicate 4 0)
+unfolding formatOf
+names-format octet p =
+    record {
+      by-the-table = p .0;
+      then-nothing = λ some. split (isListed octet) (λ e. absurd (some (p .0 ∙ rw e))) (λ e. p .1 ∙ rw e);
+    }
+
+pub judges : {state log : List ℕ} {place : ℕ} {reports : List ℕ} {refusal : ℕ} {left reports₁ counts : List ℕ}
+    → JudgedOctets state log place reports refusal left reports₁ counts
+    → Refuses refusal (R.stateRefusal (receiverOf state)) ((left ≡ state) × (reports₁ ≡ reports) × (counts ≡ replicate 3 0))
+unfolding over
+judges {state} {log} {place} {reports} p =
+    let st = receiverOf state in
+    let by = p .refused ∙ judge-refusal st log place (length reports) in
+    record {
+      by-the-table = by;
+      then-nothing =
+          λ some.
+          let refused : R.stateRefusal st ≡ 0 → ⊥ = λ none. some (by ∙ none) in (
+            stays _ _ (λ none. some (p .refused ∙ none)) (p .leaves),
+            p .judges .reports-after ∙ ap (λ (given : List ℕ). over given reports) (none-reported st log place (length reports) refused),
+            p .counted ∙ ap judgedNumbers (judge-refused st log place (length reports) refused),
+          );
+    }
+
+pub receives-log : {state log : List ℕ} {place : ℕ} {samples ancillary marks : List ℕ} {refusal : ℕ}
+    {left samples₁ ancillary₁ marks₁ counts : List ℕ}
+    → ReceivedLogOctets state log place samples ancillary marks refusal left samples₁ ancillary₁ marks₁ counts
+    → Refuses refusal (callRefusal (receiverOf state) (length samples) (length ancillary) (length marks))
+    ((left ≡ state) × (samples₁ ≡ samples) × (ancillary₁ ≡ ancillary) × (marks₁ ≡ marks) × (counts ≡ replicate 9 0))
+unfolding over
+receives-log {state} {log} {place} {samples} {ancillary} {marks} p =
+    let st = receiverOf state in
+    let by = p .refused ∙ receive-log-refusal st log place (length samples) (length ancillary) (length marks) in
+    record {
+      by-the-table = by;
+      then-nothing =
+          λ some.
+          let refused : callRefusal st (length samples) (length ancillary) (length marks) ≡ 0 → ⊥ = λ none. some (by ∙ none) in
+          let nothing : (column : List Heard → List ℕ) → columnGiven column st log place (length samples) (length ancillary) (length marks) ≡ []
+          = λ column. none-received st log place (length samples) (length ancillary) (length marks) column refused in (
+            stays _ _ (λ none. some (p .refused ∙ none)) (p .leaves),
+            p .receives .samples-after ∙ ap (λ (given : List ℕ). over given samples) (nothing samplesOf),
+            p .receives .ancillary-after ∙ ap (λ (given : List ℕ). over given ancillary) (nothing ancillaryOf),
+            p .receives .marks-after ∙ ap (λ (given : List ℕ). over given marks) (nothing marksOf),
+            p .counted ∙ ap batchNumbers (receive-log-refused st log place (length samples) (length ancillary) (length marks) refused),
+          );
+    }
+
+pub sends-log : {state : List ℕ} {indications : Bool} {samples ancillary log : List ℕ} {place refusal : ℕ} {left log₁ counts : List ℕ}
+    → Many.SentManyOctets state indications samples ancillary log place refusal left log₁ counts
+    → Refuses refusal (batchRefusal (senderOf state) samples ancillary) ((left ≡ state) × (log₁ ≡ log) × (counts ≡ replicate 4 0))
+sends-log {state} {indications} {samples} {ancillary} {log} {place} p =
+    let st = senderOf state in
+    let by = p .refused ∙ send-log-refusal indications st samples ancillary log place in
+    record {
+      by-the-table = by;
+      then-nothing =
+          λ some.
+          let refused : batchRefusal st samples ancillary ≡ 0 → ⊥ = λ none. some (by ∙ none) in (
+            stays _ _ (λ none. some (p .refused ∙ none)) (p .leaves),
+            p .writes ∙ none-sent indications st samples ancillary log place refused,
+            p .counted ∙ ap Many.batchNumbers (send-log-refused indications st samples ancillary log place refused),
+          );
+    }
 
 pub reads-header : (log : List ℕ) {refusal : ℕ} {header : List ℕ}
     → (refusal ≡ headerOf log .refusal) × (header ≡ headerNumbers (headerOf log))
@@ -270,4 +383,32 @@ pub controls : {ports message : List ℕ} {refusal : ℕ} {ports₁ : List ℕ} 
     → Refuses refusal (controllerRefusal message) (ports₁ ≡ ports)
 controls {ports} {message} {refusal} {ports₁} p =
     let one = management.demand-1-controller (record { ports = ports; message = message; refusal = refusal; portsAfter = ports₁ }) p in
+    record { by-the-table = one .0; then-nothing = one .1 }
+
+pub watches : {watch report : List ℕ} {refusal : ℕ} {left slip : List ℕ} → SlippedOctets watch report refusal left slip
+    → Refuses refusal (stepRefusal (watchOf watch) (getD report 0 0) (getD report 1 0) (getD report 2 0)) ((left ≡ watch) × (slip ≡ replicate 2 0))
+watches {watch} {report} p =
+    let said = slips.demand-1-step (watchOf watch) (getD report 0 0) (getD report 1 0) (getD report 2 0) (slippedOf watch report) refl in
+    record {
+      by-the-table = p .refused ∙ said .0;
+      then-nothing =
+          λ some.
+          let so : slippedOf watch report .refusal ≡ 0 → ⊥ = λ none. some (p .refused ∙ none) in
+          let nothing = said .1 so in (
+            stays _ _ so (p .leaves),
+            p .tells ∙ ap₂ (λ (a b : ℕ). a ∷ b ∷ []) (nothing .nothing-told) (nothing .no-cells),
+          );
+    }
+
+pub settles : {port : List ℕ} {refusal : ℕ} {settings : List ℕ} → Sets port refusal settings
+    → Refuses refusal (recordRefusal port) (settings ≡ replicate 3 0)
+settles {port} {refusal} {settings} p =
+    let one = management.demand-1-port-settings (record { port = port; refusal = refusal; settings = settings }) p in
+    record { by-the-table = one .0; then-nothing = one .1 }
+
+pub packs : {format channels order refusal packing : ℕ} → Packs format channels order refusal packing
+    → Refuses refusal (settingsRefusal format channels order) (packing ≡ 0)
+packs {format} {channels} {order} {refusal} {packing} p =
+    let one = management.demand-1-port-packing
+    (record { format = format; channels = channels; order = order; refusal = refusal; packing = packing }) p in
     record { by-the-table = one .0; then-nothing = one .1 }

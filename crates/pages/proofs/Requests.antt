@@ -1,6 +1,7 @@
 -- Requests 1, 3, 6, 7, 9, 11, 12, 13 and 14 of document 02, on one page: each sentence beside its theorem, of the C calls where there is
 -- one, each proof a citation. What a C call promises is the record that its `ensures` names.
 -- Assumes nothing.
+use mathlib.Core.Bool.{true, false}
 use mathlib.Core.List.{List, _∷_, _++_}
 use mathlib.Core.Path.{_≡_, ap}
 use Prim.Native.Nat.{ℕ, _+_, _*_, _≤_, _<_}
@@ -20,7 +21,9 @@ use Rattle.listing.proofs.Whole as listing
 use Rattle.presence.specs.Handed.{FirstIn, AllSilent}
 use Rattle.presence.specs.Presence.{presenceOf}
 use Rattle.presence.specs.Taking as P
+use Rattle.presence.specs.declared.Search.{Search}
 use Rattle.presence.proofs.Going as presence
+use Rattle.presence.proofs.Stops as stops
 use Rattle.saving.specs.Demands.{SameLine}
 use Rattle.salvaging.specs.Lines.{endLine}
 use Rattle.salvaging.specs.Said as Said
@@ -39,11 +42,15 @@ use Rattle.rimesatchel.specs.Salvages.{SalvagedLog}
 use Rattle.rimesatchel.specs.Sheets.{DrawsUp}
 use Rattle.rimesatchel.specs.Statuses.{SteppedOctets}
 use Rattle.rimesatchel.proofs.SheetsAdd.{rime-sheets-add-up}
-use Rattle.management.specs.Demands.{Equips, Controls}
+use Rattle.management.specs.Demands.{Equips, Controls, Settles, Codes}
 use Rattle.management.proofs.equipment.rime_equipment.Kinds as equipment-kinds
 use Rattle.management.proofs.equipment.rime_equipment.Reads as equipment-reads
 use Rattle.management.proofs.controller.rime_controller.Kinds as controller-kinds
 use Rattle.management.proofs.controller.rime_controller.Reads as controller-reads
+use Rattle.management.proofs.packing.rime_port_settings.Kinds as port-settings-kinds
+use Rattle.management.proofs.packing.rime_port_settings.Reads as port-settings-reads
+use Rattle.management.proofs.packing.rime_port_packing.Kinds as port-packing-kinds
+use Rattle.management.proofs.packing.rime_port_packing.Reads as port-packing-reads
 use Rattle.line.proofs.Ensures.{Ensured}
 use Rattle.pages.specs.Papers.{
   AnswersFit,
@@ -111,6 +118,13 @@ module _ (log : List ℕ) (refusal : ℕ) (answer : List ℕ) (said : (refusal �
       → (getD answer 1 0 ≡ length (recordsIn (behindHeader log))) × AllSilent (freshOf (headerOf log)) (recordsIn (behindHeader log))
   anything-no = Asked.anything-no log refusal answer said
 
+-- "It should stop at the first one": behind a yes the program asks for no octet more, and whatever follows, the answer stays
+pub anything-stops : (s : Search) → s .sought .found ≡ true → P.readsOn s ≡ false
+anything-stops = Asked.anything-stops
+
+pub anything-settled : (log more : List ℕ) → presenceOf log .found ≡ true → presenceOf (log ++ more) ≡ presenceOf log
+anything-settled = stops.yes-whatever-follows
+
 -- "Tickets 3, 7 and 9 may use it and their answers stay as they are"
 pub anything-in-pieces : (held : List ℕ) (pieces : List (List ℕ)) → length held ≡ 49 → length (joinedOf pieces) ≤ 18446744073709551615
     → P.answerOver P.searchStart held pieces ≡ presenceOf (joinedOf pieces)
@@ -152,7 +166,8 @@ pub checks : (octet channels frequency : ℕ) (shares allowances : List ℕ) (re
     → Checks octet channels frequency shares allowances answer
 checks = Asked.checks
 
--- 12. The theorems on the management port stand on management/Demands, over `Equips` and `Controls`: these are the calls' own `ensures`.
+-- 12. The theorems on the management port stand on management/Demands, over `Equips`, `Controls`, `Settles` and `Codes`: these are the calls'
+-- own `ensures`.
 pub equipment-ensures : Ensured equipment-kinds.ps equipment-kinds.r equipment-reads.Post
     (λ κs a x v. Equips (record {
       ports = now (a .0);
@@ -168,6 +183,14 @@ equipment-ensures κs a x v p = p
 pub controller-ensures : Ensured controller-kinds.ps controller-kinds.r controller-reads.Post
     (λ κs a x v. Controls (record { ports = now (a .0); message = now (a .1 .0); refusal = x; portsAfter = v .0 }))
 controller-ensures κs a x v p = p
+
+pub port-settings-ensures : Ensured port-settings-kinds.ps port-settings-kinds.r port-settings-reads.Post
+    (λ κs a x v. Settles (record { port = now (a .0); refusal = x; settings = v .1 .0 }))
+port-settings-ensures κs a x v p = p
+
+pub port-packing-ensures : Ensured port-packing-kinds.ps port-packing-kinds.r port-packing-reads.Post
+    (λ κs a x v. Codes (record { format = a .0; channels = a .1 .0; order = a .1 .1 .0; refusal = x; packing = v .1 .1 .1 .0 }))
+port-packing-ensures κs a x v p = p
 
 -- 13. "a data unit holds whole frames, as many as fit a stated size, the last one perhaps fewer", of `rime_units_export`; "Reading the
 -- units back gives every sample and ancillary bit", of `rime_unit_read`.

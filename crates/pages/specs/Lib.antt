@@ -1,5 +1,5 @@
 pub mod Boxes
-pub mod Cases
 pub mod Face
 pub mod Papers
 pub mod Rows
+pub mod Shut

@@ -1,8 +1,10 @@
 -- Words of the pages on channel status, the log, its list and the requests, of the C calls where there is one.
 -- Assumes nothing.
+use mathlib.Core.Bool.{cond, not, _||_}
 use mathlib.Core.List.{List, [], _∷_}
 use mathlib.Core.Path.{_≡_}
-use Prim.Native.Nat.{ℕ}
+use Prim.Native.Nat.{ℕ, zero, suc, _+_}
+use lib.Dec.{eqb, ltb}
 use lib.ListN.{length, getD}
 use Rattle.log.specs.Records.{headerOf}
 use Rattle.reading.specs.Heard.{endOf, soundIn, missingIn, refusedIn}
@@ -11,10 +13,13 @@ use Rattle.listing.specs.declared.Tally.{Tally}
 use Rattle.listing.specs.List.{heardTo}
 use Rattle.status.specs.Bits.{bitOf}
 use Rattle.status.specs.Check.{checkCharacter}
+use Rattle.status.specs.Step.{stepOf, isRefused}
+use Rattle.status.specs.declared.step.Block.{Block}
 use Rattle.circuits.specs.Circuits.{slotsOf}
 use Rattle.circuits.specs.Plans.{Good, ShareFault, AllowanceFault, SumFault}
 use Rattle.units.specs.Back.{ExportCall, ReadCall}
 use Rattle.rimesatchel.specs.Network.{ExportedUnits, ReadUnit}
+use Rattle.rimesatchel.specs.Statuses.{blockOf}
 
 -- request 6, of a block that was handed out: "The answer becomes one of three: fits, doesn't fit, none carried. The third is given exactly
 -- where that bit is 0" ("bit 0 of octet 0"): 3 none carried, 2 fits, 1 doesn't fit
@@ -23,6 +28,24 @@ pub record AnswersFit (octets : List ℕ) (answer : ℕ) : Type 0 where
   pub only-there : answer ≡ 3 → bitOf octets 0 ≡ 0
   pub fits : (bitOf octets 0 ≡ 0 → ⊥) → getD octets 23 0 ≡ checkCharacter octets → answer ≡ 2
   pub doesn't-fit : (bitOf octets 0 ≡ 0 → ⊥) → (getD octets 23 0 ≡ checkCharacter octets → ⊥) → answer ≡ 1
+
+-- `rime_status_run`: "14, as for rime_status_step, at any entry that the call would use", which are those up to the first that hands out a
+-- block; at most so many
+module _ (step : ℕ) (ancillary marks : List ℕ) where
+  unfoldable pub refusedFrom : ℕ → Block → ℕ → ℕ
+  refusedFrom zero block at = 0
+  refusedFrom (suc n) block at =
+      let stepped = stepOf block (getD ancillary at 0) (getD marks at 0) in
+      cond (ltb at (length ancillary))
+      (cond (isRefused (block .bits) (getD ancillary at 0) (getD marks at 0)) 14
+      (cond (eqb (stepped .handed .answer) 0) (refusedFrom n (stepped .block) (at + step)) 0))
+      0
+
+-- "5, the runs aren't equally long or `step` is 0", then 14
+abbrev pub runRefusal : List ℕ → List ℕ → List ℕ → ℕ → ℕ → ℕ
+runRefusal block ancillary marks from step =
+    cond (not (eqb (length ancillary) (length marks)) || eqb step 0) 5
+    (refusedFrom step ancillary marks (length ancillary) (blockOf block) from)
 
 -- request 14, "the state at the end": the receiver and the counts behind all records within the limit
 pub record EndsAs (limit : ℕ) (log : List ℕ) (tally : Tally) : Type 0 where
@@ -96,13 +119,3 @@ readOfFace c =
       samples-after = c .samples-after;
       ancillary-after = c .ancillary-after;
     }
-
--- document 01: "For 56 02 00, then twice 00 and the zero cell": 00 00 00 07 four times, 00 00 00 0F four times, 00 00 00 07 four times
-abbrev pub fourSlots : ℕ → List ℕ → List ℕ
-fourSlots low rest = 0 ∷ 0 ∷ 0 ∷ low ∷ 0 ∷ 0 ∷ 0 ∷ low ∷ 0 ∷ 0 ∷ 0 ∷ low ∷ 0 ∷ 0 ∷ 0 ∷ low ∷ rest
-
-abbrev pub zeroRecord : List ℕ → List ℕ
-zeroRecord rest = 0 ∷ fourSlots 7 (fourSlots 15 (fourSlots 7 rest))
-
-abbrev pub paper'sLog : List ℕ
-paper'sLog = 0x56 ∷ 2 ∷ 0 ∷ zeroRecord (zeroRecord [])

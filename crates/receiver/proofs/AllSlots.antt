@@ -134,8 +134,14 @@ module _ (st : Receiver) {set : Settled} (settled : set ≡ settingsOf 0x56 (con
   pub usual-sound : Sound (set .format)
   usual-sound = usual-is (st .channels) settled (λ (x : Settled). Sound (x .format)) sound-usual sound-usual
 
-  usual-used : usedIn set ≡ 12
+  pub usual-used : usedIn set ≡ 12
   usual-used = usual-is (st .channels) settled (λ (x : Settled). usedIn x ≡ 12) refl refl
+
+  -- the entries of all slots are those of one channel and of two
+  pub usual-own : (cell : List ℕ) (read : Format → ℕ → ℕ) → ownEntries (read fours) straight cell ≡ ownEntries (read (set .format)) set cell
+  usual-own cell read =
+      usual-is (st .channels) settled (λ (x : Settled). ownEntries (read fours) straight cell ≡ ownEntries (read (x .format)) x cell)
+      (own-one (read fours) cell) (own-two (read fours) cell)
 
   abbrev found-by : List ℕ → Format → Found
   found-by cell f = cond (eqb (f .«overhead_bits») 0) (Number 0) (foundOf (eightIn f cell))

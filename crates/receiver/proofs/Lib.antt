@@ -7,5 +7,7 @@ pub mod One
 pub mod Onward
 pub mod Reading
 pub mod Room
+pub mod Spread
+pub mod Unpacked
 pub mod Unpacking
 pub mod Wrong

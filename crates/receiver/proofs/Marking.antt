@@ -9,7 +9,7 @@ use borrow.Author.Tests.{ne-eqb}
 use lib.Arith.{mod-mul, digits-div}
 use lib.Dec.{eqb}
 use Rattle.formats.specs.declared.Format.{Format}
-use Rattle.guards.specs.Guards.{VOrNone, noV, withV, nineOf, protectedBits, tenGuard, guardOf}
+use Rattle.guards.specs.Guards.{VOrNone, noV, vIn, nineOf, protectedBits, tenGuard, guardOf}
 use Rattle.guards.proofs.Laws.{v-none, v-some, nine-shifted, nine-down}
 use Rattle.cells.specs.Cells.{guardIn, sampleIn, ancillaryIn, markIn}
 use Rattle.tables.specs.Marks.{markBit, MarksBy, MarksOf, MarksWithoutV}
@@ -47,7 +47,7 @@ module _ (f : Format) (overhead-four : f .«overhead_bits» ≡ 4) (subframe : �
     unfolding ancillaryIn
     ancillary-over = rw (ancillary-four, overhead-four)
 
-    guards-over : tenGuard (protectedBits (nineOf (f .«sample_bits») (subframe / 256)) (withV (subframe % 32 / 16)))
+    guards-over : tenGuard (protectedBits (nineOf (f .«sample_bits») (subframe / 256)) (vIn (subframe % 32 / 16)))
         ≡ guardIn f (sampleIn f subframe) (ancillaryIn f subframe)
     unfolding guardOf protectedBits
     guards-over =
@@ -60,7 +60,7 @@ module _ (f : Format) (overhead-four : f .«overhead_bits» ≡ 4) (subframe : �
     pub mark-on-top : (n top : ℕ) → f .«sample_bits» ≡ n → 8 ≤ n → top % 512 ≡ subframe / 256 * 2 / 2 ^ (n - 8) % 512 → (bits : ℕ)
         → MarksOf (top % 512) bits → bits / 2 ^ (subframe % 32) % 2 ≡ markIn f subframe
     mark-on-top n top length-is from top-is bits marks =
-        mark-from (λ low. withV (low / 16)) (nineOf (f .«sample_bits») (subframe / 256)) bits
+        mark-from (λ low. vIn (low / 16)) (nineOf (f .«sample_bits») (subframe / 256)) bits
         (rw (top-is ∙ nine-shifted n (subframe / 256) from ∙ ap (λ (k : ℕ). nineOf k (subframe / 256)) (sym length-is)) at marks)
         guards-over
 

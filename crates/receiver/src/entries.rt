@@ -87,7 +87,7 @@ fn blank_end(format: Format, missing: usize, used: usize) -> usize
 
 // Writes `missing` entries of zero with mark 2 to the three runs. Where the format has no ancillary bits, the ancillary run's zeros
 // go on for the cell's own entries: one long fill takes fewer instructions than two.
-fn cleared(
+pub(crate) fn cleared(
     format: Format,
     missing: usize,
     used: usize,
@@ -271,7 +271,7 @@ fn parts(
 
 // Writes the cell's own entries to the three runs from `at` on. Where the format has no ancillary bits, the ancillary run is zero
 // there already.
-fn own_entries(
+pub(crate) fn own_entries(
     set: Settled,
     cell: &[u8],
     at: usize,

@@ -5,6 +5,7 @@ ghost use Rattle.receiver.specs.Receiver.{openedOf, judgedOf, Receives};
 mod bits;
 mod entries;
 mod judge;
+pub mod many; // many.rt: the cells of many records, unpacked
 mod octets;
 mod usual;
 

@@ -44,7 +44,13 @@ fn enter(
 }
 
 // Writes the cell's own entries, which are those of all slots, to the three runs from `at` on.
-fn own_entries(cell: &[u8], at: usize, samples: &mut [u64], ancillary: &mut [u8], marks: &mut [u8])
+pub(crate) fn own_entries(
+    cell: &[u8],
+    at: usize,
+    samples: &mut [u64],
+    ancillary: &mut [u8],
+    marks: &mut [u8],
+)
     requires { ⌜ (length (now cell) ≡ 48) × Room at 12 (now samples) (now ancillary) (now marks) ⌝ }
     ensures { λ r. ⌜ Unpacks straight (now (cell .entry)) at (now (samples .entry)) (now (ancillary .entry)) (now (marks .entry)) (now (samples .exit)) (now (ancillary .exit)) (now (marks .exit)) ⌝ }
 {

@@ -7,7 +7,9 @@ use borrow.Author.Tests.{ne-eqb, eq-eqb}
 use Rattle.receiver.specs.declared.Receiver.{Receiver}
 use Rattle.hearing.specs.declared.judging.Judged.{Judged}
 use Rattle.hearing.specs.Judging.{Judges}
-use Rattle.rimesatchel.specs.Batches.{judgedHere, judgedNumbers, JudgedOctets}
+use Rattle.hearing.specs.declared.receiving.Batch.{Batch}
+use Rattle.hearing.specs.Receiving.{ReceivesLog}
+use Rattle.rimesatchel.specs.Batches.{judgedHere, judgedNumbers, JudgedOctets, receivedLogHere, batchNumbers, ReceivedLogOctets}
 use Rattle.rimesatchel.specs.Boxes.{receiverOf, receiverOctets, stateAfter}
 
 module _ (state log : List ℕ) (place : ℕ) (reports : List ℕ) {st : Receiver} {answer : Judged} {reports₁ : List ℕ} (is : st ≡ receiverOf state)
@@ -40,3 +42,38 @@ module _ (state log : List ℕ) (place : ℕ) (reports : List ℕ) {st : Receive
         → JudgedOctets state log place reports 0 left reports₁ (judgedNumbers answer)
     judged-taken none l =
         octets-are (sym none) (rw (sym refusal-is ∙ none) (l ∙ ap (λ (a : Judged). receiverOctets (a .state)) answer-is))
+
+module _ (state log : List ℕ) (place : ℕ) (samples ancillary marks : List ℕ) {st : Receiver} {answer : Batch} {samples₁ ancillary₁ marks₁ : List ℕ}
+    (is : st ≡ receiverOf state) (receives : ReceivesLog st log place samples ancillary marks answer samples₁ ancillary₁ marks₁)
+  where
+    there : ReceivesLog (receiverOf state) log place samples ancillary marks answer samples₁ ancillary₁ marks₁
+    there = subst (λ (x : Receiver). ReceivesLog x log place samples ancillary marks answer samples₁ ancillary₁ marks₁) is receives
+
+    batch-is : answer ≡ receivedLogHere state log place samples ancillary marks
+    batch-is = there .answered
+
+    batch-refusal : answer .refusal ≡ receivedLogHere state log place samples ancillary marks .refusal
+    batch-refusal = ap (λ (a : Batch). a .refusal) batch-is
+
+    batch-octets : {refusal : ℕ} {left : List ℕ} → refusal ≡ answer .refusal
+        → left
+        ≡ stateAfter (receivedLogHere state log place samples ancillary marks .refusal)
+        (receiverOctets (receivedLogHere state log place samples ancillary marks .state)) state
+        → ReceivedLogOctets state log place samples ancillary marks refusal left samples₁ ancillary₁ marks₁ (batchNumbers answer)
+    batch-octets e l =
+        record {
+          refused = e ∙ batch-refusal;
+          leaves = l;
+          counted = ap batchNumbers batch-is;
+          receives =
+              subst (λ (a : Batch). ReceivesLog (receiverOf state) log place samples ancillary marks a samples₁ ancillary₁ marks₁) batch-is there;
+        }
+
+    pub batch-refused : (answer .refusal ≡ 0 → ⊥)
+        → ReceivedLogOctets state log place samples ancillary marks (answer .refusal) state samples₁ ancillary₁ marks₁ (batchNumbers answer)
+    batch-refused some = batch-octets refl (rw (ne-eqb _ 0 (λ e. some (batch-refusal ∙ e))))
+
+    pub batch-taken : answer .refusal ≡ 0 → {left : List ℕ} → left ≡ receiverOctets (answer .state)
+        → ReceivedLogOctets state log place samples ancillary marks 0 left samples₁ ancillary₁ marks₁ (batchNumbers answer)
+    batch-taken none l =
+        batch-octets (sym none) (rw (sym batch-refusal ∙ none) (l ∙ ap (λ (a : Batch). receiverOctets (a .state)) batch-is))

@@ -15,6 +15,9 @@ pub mod KeptOne
 pub mod KeptWrong
 pub mod Leaves
 pub mod LogsOne
+pub mod ManyLaws
+pub mod ManyOne
+pub mod ManyWrong
 pub mod NetworkLeaves
 pub mod NetworkOne
 pub mod NetworkWrong
@@ -25,5 +28,16 @@ pub mod SalvagesWrong
 pub mod SheetsAdd
 pub mod SheetsOne
 pub mod SheetsWrong
+pub mod StatesLaws
 pub mod StatusesOne
+pub mod TakenDemand1
+pub mod TakenFiguresLaws
+pub mod TakenListsLaws
+pub mod TakenOne
+pub mod TakenSalvagesLaws
+pub mod TakenSearchesLaws
+pub mod TakenWrong
+pub mod WatchesLaws
+pub mod WatchesOne
+pub mod WatchesWrong
 pub mod Wrong

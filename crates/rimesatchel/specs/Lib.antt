@@ -5,8 +5,15 @@ pub mod Facts
 pub mod Frames
 pub mod Kept
 pub mod Logs
+pub mod Many
 pub mod Network
 pub mod Plans
 pub mod Salvages
 pub mod Sheets
+pub mod States
 pub mod Statuses
+pub mod TakenFigures
+pub mod TakenLists
+pub mod TakenSalvages
+pub mod TakenSearches
+pub mod Watches

@@ -23,7 +23,7 @@ fn yes_no(said: bool) -> u8
     if said { 1 } else { 0 }
 }
 
-fn sender_of(state: [u8; 7]) -> Sender
+pub(crate) fn sender_of(state: [u8; 7]) -> Sender
     ensures { λ r. ⌜ r ≡ senderOf state ⌝ }
 {
     Sender {
@@ -37,7 +37,7 @@ fn sender_of(state: [u8; 7]) -> Sender
     }
 }
 
-fn sender_octets(state: Sender) -> [u8; 7]
+pub(crate) fn sender_octets(state: Sender) -> [u8; 7]
     ensures { λ r. ⌜ r ≡ senderOctets state ⌝ }
 {
     let wanted = yes_no(state.wanted);

@@ -1,5 +1,5 @@
--- What a piece of at most 65,536 octets makes fits two runs of 131,072: 49 octets or a line of at most 50 for each record that it can
--- make whole, and the header.
+-- What a piece makes fits two runs of `mostOut` and `mostNotes`: 49 octets or a line of at most 50 for each record that it can make
+-- whole, and the header. The last line fits 216.
 -- Assumes nothing.
 use mathlib.Core.Bool.{true, cond, _&&_}
 use mathlib.Core.List.{List, [], _∷_, _++_}
@@ -34,6 +34,8 @@ use Rattle.salvaging.specs.Taking.{
   tallyBy,
   pieceOctets,
   pieceText,
+  mostOut,
+  mostNotes,
   lastText,
   endTally,
   endOfText,
@@ -126,18 +128,20 @@ both-short t k (x ∷ octets) =
     (omega (arith, octet-both t k x (length octets), both-short (tallyBy t here) (one k x .taking) octets))
 
 -- at most 48 octets are held of a record
-most-fits : (each first : ℕ) (s : Standing) (held : List ℕ) (n : ℕ) → each ≤ 50 → first ≤ 3 → n ≤ 65536 → most each first (takingOf s held) n ≤ 131072
+most-fits : (each first : ℕ) (s : Standing) (held : List ℕ) (n : ℕ) → most each first (takingOf s held) n ≤ first + each * (n / 49 + 1)
 unfolding most takingOf heldCount
-most-fits each first s held n a b few =
+most-fits each first s held n =
     split (eqb (s .stage) 0)
-    (λ z. rw z (omega (arith, mul-le-mul-right (n / 49) a)))
+    (λ z. rw z (omega arith))
     (λ z.
     split (eqb (s .stage) 1)
-    (λ o. rw (z, o) (omega (arith, mul-le-mul-right ((length (take (s .count % 49) held) + n) / 49) a, take-to (s .count % 49) held)))
+    (λ o.
+    let more : (length (take (s .count % 49) held) + n) / 49 ≤ n / 49 + 1 = omega (arith, take-to (s .count % 49) held) in
+    rw (z, o) (omega (arith, mul-le-mul-right each more)))
     (λ o. rw (z, o) (omega arith)))
 
 -- what is said last
-last-short : (octets : ℕ) (t : Tally) → length (lastText octets t) ≤ 131072
+last-short : (octets : ℕ) (t : Tally) → length (lastText octets t) ≤ 216
 unfolding lastText
 last-short octets t =
     split (eqb (t .refusal) 0)
@@ -154,21 +158,33 @@ last-short octets t =
     )))
 
 -- so runs of that many octets hold all of it
+module _ (s : Salvaging) (held piece : List ℕ) where
+  pub out-fits : length (pieceOctets s held piece) ≤ mostOut (length piece)
+  out-fits = omega (
+    arith,
+    both-short (s .tally) (takingOf (s .standing) held) piece .0,
+    most-fits 49 3 (s .standing) held (length piece),
+  )
+
+  pub notes-fit : length (pieceText s held piece) ≤ mostNotes (length piece)
+  notes-fit = omega (
+    arith,
+    both-short (s .tally) (takingOf (s .standing) held) piece .1,
+    most-fits 50 0 (s .standing) held (length piece),
+  )
+
+pub end-fits : (s : Salvaging) (held : List ℕ) → length (endOfText s held) ≤ 216
+end-fits s held = last-short (s .octets) (endTally s held)
+
 pub takes-whole : {s : Salvaging} {held piece out notes held-after out-after notes-after : List ℕ} {answer : Wrote}
-    → Takes s held piece out notes answer held-after out-after notes-after → length piece ≤ 65536 → 131072 ≤ length out → 131072 ≤ length notes
+    → Takes s held piece out notes answer held-after out-after notes-after → mostOut (length piece) ≤ length out → mostNotes (length piece) ≤ length notes
     → ((answer .saved .whole ≡ true) × (answer .saved .octets ≤ length out)) ×
     ((answer .noted .whole ≡ true) × (answer .noted .octets ≤ length notes))
-takes-whole {s} {held} {piece} {out} {notes} takes few room room-too =
-    let short = both-short (s .tally) (takingOf (s .standing) held) piece in (
-      listed-whole (pieceOctets s held piece) out 131072
-          (omega (arith, short .0, most-fits 49 3 (s .standing) held (length piece) (omega arith) (omega arith) few))
-          room (takes .saved),
-      listed-whole (pieceText s held piece) notes 131072
-          (omega (arith, short .1, most-fits 50 0 (s .standing) held (length piece) (omega arith) (omega arith) few))
-          room-too (takes .noted),
-    )
+takes-whole {s} {held} {piece} {out} {notes} takes room room-too = (
+  listed-whole (pieceOctets s held piece) out (mostOut (length piece)) (out-fits s held piece) room (takes .saved),
+  listed-whole (pieceText s held piece) notes (mostNotes (length piece)) (notes-fit s held piece) room-too (takes .noted),
+)
 
-pub ends-whole : {s : Salvaging} {held notes notes-after : List ℕ} {answer : Put} → Ends s held notes answer notes-after → 131072 ≤ length notes
+pub ends-whole : {s : Salvaging} {held notes notes-after : List ℕ} {answer : Put} → Ends s held notes answer notes-after → 216 ≤ length notes
     → (answer .whole ≡ true) × (answer .octets ≤ length notes)
-ends-whole {s} {held} {notes} ends room =
-    listed-whole (endOfText s held) notes 131072 (last-short (s .octets) (endTally s held)) room (ends .noted)
+ends-whole {s} {held} {notes} ends room = listed-whole (endOfText s held) notes 216 (end-fits s held) room (ends .noted)

@@ -3,7 +3,7 @@
 use mathlib.Core.Bool.{cond}
 use mathlib.Core.List.{List, [], _∷_, _++_}
 use mathlib.Core.Path.{_≡_}
-use Prim.Native.Nat.{ℕ, _+_, _-_, _%_, _^_}
+use Prim.Native.Nat.{ℕ, _+_, _*_, _/_, _-_, _%_, _^_}
 use lib.Dec.{eqb}
 use lib.ListN.{length, take}
 use Rattle.runs.specs.Runs.{over}
@@ -152,6 +152,14 @@ lastText octets t =
 
 abbrev pub endOfText : Salvaging → List ℕ → List ℕ
 endOfText s held = lastText (s .octets) (endTally s held)
+
+-- no more of the new log and of the notes comes of a piece, whatever the salvage: 49 octets or a line of at most 50 for each record
+-- that so many octets and those held can make whole; and the header, or the last line
+abbrev pub mostOut : ℕ → ℕ
+mostOut octets = 3 + 49 * (octets / 49 + 1)
+
+abbrev pub mostNotes : ℕ → ℕ
+mostNotes octets = 216 + 50 * (octets / 49 + 1)
 
 -- the whole promise of taking a piece: the answer, and what the lent array and the lent runs hold afterwards
 pub record Takes (s : Salvaging) (held piece out notes : List ℕ) (answer : Wrote) (held-after out-after notes-after : List ℕ) : Type 0 where

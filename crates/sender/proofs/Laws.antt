@@ -271,7 +271,7 @@ module _ (st : Sender) (indication : Bool) (samples ancillary : List ℕ) (room 
           few = below-each (2 ^ f .«ancillary_bits») ancillary (pow-pos (f .«ancillary_bits»)) (not-false _ (values .1));
         }
 
-second-lt : (st : Sender) (indication : Bool) → st .second ≤ 15 → secondNow st indication < 16
+pub second-lt : (st : Sender) (indication : Bool) → st .second ≤ 15 → secondNow st indication < 16
 unfolding secondNow
 second-lt st indication to = either (st .wanted && (indication && st .sent))
   where

@@ -1,25 +1,29 @@
 -- Laws of packing: a cell all of whose slots are filled is the cell of its settings, its number and its second number.
 -- Assumes nothing.
-use mathlib.Core.Bool.{false, cond}
+use mathlib.Core.Bool.{true, false, cond}
 use mathlib.Core.List.{List, _++_}
 use mathlib.Core.Path.{_≡_, refl, sym, _∙_, ap, ap₂}
 use Prim.Native.Nat.{ℕ, zero, suc, _+_, _*_, _/_, _%_, _^_, _≤_, _<_}
 use native.Mathlib.Nat.{le-step, le-refl}
 use native.Mathlib.Omega.{arith}
+use borrow.Author.Tests.{eqb-true}
 use lib.Dec.{eqb}
 use lib.ListN.{length, drop}
 use lib.Seq.{drop-at}
 use Rattle.runs.specs.Runs.{joined, octetsOf}
 use Rattle.runs.proofs.Filling.{filled}
-use Rattle.runs.proofs.Laws.{length-joined, length-octets}
+use Rattle.runs.proofs.Laws.{split, length-joined, length-octets}
 use Rattle.formats.specs.declared.Settled.{Settled}
+use Rattle.formats.specs.Code.{isUsual}
 use Rattle.formats.specs.Settings.{settingsOf}
 use Rattle.formats.proofs.Laws.{usual-is, usual-set}
 use Rattle.numbers.specs.Code.{sequenceOf}
+use Rattle.numbers.specs.Numbers.{entryOf}
 use Rattle.numbers.proofs.Laws.{sequence-bit}
 use Rattle.cells.specs.Cells.{overheadOf, subframeOf, slotOctets, cellOf}
 use Rattle.cells.specs.Placement.{carried}
 use Rattle.sender.specs.declared.Sender.{Sender}
+use Rattle.sender.specs.ManyCode.{sequenceIn}
 use Rattle.sender.specs.Packing.{packed, Packable, Named, slotBy, filledTo, filledCell, Usual}
 
 -- parts that agree at each place are joined to one
@@ -39,6 +43,20 @@ module _ (set : Settled) (samples ancillary : List ℕ) where
       e
       ∙ ap (λ (part : List ℕ). part ++ drop (length samples * set .format .width) cell)
       (joined-same (slotBy set sequence samples ancillary) (slotBy set other samples ancillary) (length samples) (λ k less. rw none))
+
+  -- so a cell may be filled by any, or by 0
+  pub bits-in : (number second : ℕ) {sequence : ℕ} {cell : List ℕ} → sequence ≡ sequenceIn (set .format) number second
+      → cell ≡ filledCell set sequence samples ancillary
+      → cell ≡ filledCell set (sequenceOf (entryOf (number % 16)) second) samples ancillary
+  unfolding slotBy subframeOf overheadOf
+  bits-in number second {sequence} is e =
+      let bits = sequenceOf (entryOf (number % 16)) second in
+      e
+      ∙ split (eqb (set .format .«overhead_bits») 0)
+      (λ t.
+      let none : set .format .«overhead_bits» ≡ 0 = eqb-true (set .format .«overhead_bits») 0 t in
+      joined-same (slotBy set sequence samples ancillary) (slotBy set bits samples ancillary) (set .format .slots) (λ k less. rw none))
+      (λ t. let same : sequence ≡ bits = is ∙ rw t in ap (λ (n : ℕ). filledCell set n samples ancillary) same)
 
   -- filling leaves what is behind the slots as it was
   pub refilled : (sequence : ℕ) (cell : List ℕ) (k : ℕ) {cell₁ : List ℕ} → cell₁ ≡ filledTo set sequence samples ancillary cell k
@@ -118,3 +136,30 @@ module _ {st : Sender} {entries : ℕ} (u : Usual st entries) {set : Settled}
 
     pub all-used : entries ≡ set .format .slots
     all-used = u .samples-are ∙ usual-is (st .channels) given (λ (x : Settled). 12 ≡ x .format .slots) refl refl
+
+-- settings that are the usual ones
+module _ (st : Sender) {set : Settled} (is : isUsual (st .format) (st .channels) (st .order) ≡ true)
+    (given : set ≡ settingsOf (st .format) (st .channels) (st .order))
+  where
+    abbrev usual : Usual st 12
+    usual = record { settings-are = is; samples-are = refl }
+
+    as-usual : set ≡ settingsOf 0x56 (cond (eqb (st .channels) 2) 2 1) 0
+    as-usual = given ∙ sym (usual-set (st .channels) refl (st .format) (st .order) is)
+
+    pub set-twelve : set .channels * set .times ≡ 12
+    set-twelve = usual-is (st .channels) as-usual (λ (x : Settled). x .channels * x .times ≡ 12) refl refl
+
+    pub set-in-order : set .«by_channel» ≡ false
+    set-in-order = usual-in-order usual as-usual
+
+    pub set-named : Named (set .format) 24 4 4 4
+    set-named = usual-named usual as-usual
+
+    -- their used slots are all slots
+    pub set-filled : {samples ancillary : List ℕ} → Packable set samples ancillary → (sequence : ℕ) (cell : List ℕ) {cell₁ : List ℕ}
+        → length cell ≡ 48 → cell₁ ≡ filledTo set sequence samples ancillary cell (length samples)
+        → cell₁ ≡ filledCell set sequence samples ancillary
+    set-filled {samples} {ancillary} p sequence cell whole e =
+        let all : length samples ≡ set .format .slots = p .samples-length ∙ set-twelve ∙ all-used usual as-usual in
+        all-filled set samples ancillary p sequence cell whole (e ∙ ap (filledTo set sequence samples ancillary cell) all)

@@ -16,7 +16,7 @@ use Rattle.runs.specs.Test.{every}
 use Rattle.runs.proofs.Arms.{NoneOf, orListed, others, singles}
 use Rattle.runs.proofs.Laws.{every-at, split}
 use Rattle.formats.specs.declared.Format.{Format}
-use Rattle.guards.specs.Guards.{VOrNone, withV, vOf, nineOf, protectedBits, tenGuard, guardOf}
+use Rattle.guards.specs.Guards.{VOrNone, vIn, vOf, nineOf, protectedBits, tenGuard, guardOf}
 use Rattle.guards.specs.Code.{sevenGuards}
 use Rattle.guards.proofs.Laws.{v-none, v-some, nine-lt, nine-top, seven-guard, with-v, ten-guard-lt, guard-le}
 use Rattle.cells.specs.Cells.{guardIn, overheadOf, subframeOf}
@@ -92,12 +92,12 @@ module _ (bits few : ℕ) {sample : ℕ} (from : 8 ≤ bits) (small : sample < 2
       omega arith
 
 -- the protection bits that a table has for 24 bits' top nine
-pub guard-of-24 : {sample guard : ℕ} → sample < 2 ^ 24 → guard ≡ tenGuard (protectedBits (sample / 32768 % 512) (withV 0))
+pub guard-of-24 : {sample guard : ℕ} → sample < 2 ^ 24 → guard ≡ tenGuard (protectedBits (sample / 32768 % 512) (vIn 0))
     → guard ≡ guardOf 24 sample (vOf 4 0)
 unfolding guardOf vOf
 guard-of-24 {sample} small e =
     let top : sample / 32768 % 512 ≡ sample * 2 / 2 ^ (24 - 8) = omega arith in
-    e ∙ ap (λ (m : ℕ). tenGuard (protectedBits m (withV 0))) (top ∙ nine-top 24 (omega arith) small)
+    e ∙ ap (λ (m : ℕ). tenGuard (protectedBits m (vIn 0))) (top ∙ nine-top 24 (omega arith) small)
 
 -- a subframe with overhead: what the code adds up
 module _ (sample-bits ancillary-bits sample ancillary : ℕ) {guard low bit : ℕ}
@@ -127,7 +127,7 @@ module _ (sample-bits ancillary-bits sample ancillary : ℕ) {guard low bit : �
     unfolding guardOf
     low-with any =
         ap₂ bitXor (guard-is ∙ ap (guardOf sample-bits sample) (v-some 0 any)) (low-is ∙ sym (some-low ancillary any refl))
-        ∙ low-parts (ten-guard-lt (protectedBits (nineOf sample-bits sample) (withV 0))) few-ancillary
+        ∙ low-parts (ten-guard-lt (protectedBits (nineOf sample-bits sample) (vIn 0))) few-ancillary
         ∙ ap (λ (g : ℕ). ancillary * 16 + g) (with-v ancillary (nine-lt sample-bits sample))
         ∙ ap (λ (v : VOrNone). ancillary * 16 + guardOf sample-bits sample v) (sym (v-some ancillary any))
 

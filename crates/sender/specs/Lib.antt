@@ -1,2 +1,4 @@
+pub mod Many
+pub mod ManyCode
 pub mod Packing
 pub mod Sender

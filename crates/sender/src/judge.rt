@@ -100,7 +100,7 @@ fn lengths_refused(used: usize, samples: &[u64], ancillary: &[u8], room: usize) 
 }
 
 // Check 6.
-fn values_refused(format: Format, samples: &[u64], ancillary: &[u8]) -> bool
+pub(crate) fn values_refused(format: Format, samples: &[u64], ancillary: &[u8]) -> bool
     requires { ⌜ (format .«sample_bits» ≤ 40) × (format .«ancillary_bits» ≤ 4) × (length (now ancillary) ≡ length (now samples)) ⌝ }
     ensures { λ r. ⌜ r ≡ valuesRefusedBy format (now (samples .entry)) (now (ancillary .entry)) ⌝ }
 {

@@ -5,6 +5,7 @@ ghost use Rattle.sender.specs.Packing.{Writes};
 
 mod fill;
 mod judge;
+pub mod many;
 mod octets;
 mod pack;
 mod usual;
@@ -95,7 +96,7 @@ fn write_any(
     if refusal != 0 {
         return refusal;
     }
-    let sequence = numbers::sequence_of(state.number, second);
+    let sequence = pack::sequence_in(set.format, state.number, second);
     pack::pack(set, sequence, samples, ancillary, cell);
     0
 }

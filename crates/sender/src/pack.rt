@@ -6,6 +6,7 @@ ghost use mathlib.Core.Bool.{true, false};
 ghost use mathlib.Core.Path.{_≡_};
 ghost use Prim.Native.Nat.{_<_};
 ghost use lib.ListN.{length};
+ghost use Rattle.sender.specs.ManyCode.{sequenceIn};
 ghost use Rattle.sender.specs.Packing.{
   Packable,
   idleNumber,
@@ -17,6 +18,7 @@ use crate::fill::guarded_in_order;
 use crate::fill::plain_by_channel;
 use crate::fill::plain_in_order;
 use crate::octets::put;
+use formats::Format;
 use formats::Settled;
 
 // The used slots with overhead in order 0.
@@ -177,4 +179,14 @@ pub(crate) fn pack(set: Settled, sequence: u64, samples: &[u64], ancillary: &[u8
 {
     pack_used(set, sequence, samples, ancillary, cell);
     fill_idle(set, sequence, samples, ancillary, cell);
+}
+
+// The sequencing bits of a cell, 0 where the format has none.
+pub(crate) fn sequence_in(format: Format, number: u8, second: u8) -> u64
+    ensures { λ r. ⌜ r ≡ sequenceIn format number second ⌝ }
+{
+    if format.overhead_bits == 0 {
+        return 0;
+    }
+    numbers::sequence_of(number, second)
 }

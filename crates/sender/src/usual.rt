@@ -26,12 +26,18 @@ pub(crate) fn is_usual(state: Sender, samples: usize, ancillary: usize) -> bool
 }
 
 // All slots of the cell: none is unused.
-fn fill_usual(set: Settled, sequence: u64, samples: &[u64], ancillary: &[u8], cell: &mut [u8])
-    requires { ⌜ Packable set (now samples) (now ancillary) × (set .«by_channel» ≡ false) × Named (set .format) 24 4 4 4 × (length (now cell) ≡ 48) ⌝ }
+pub(crate) fn fill_usual(
+    set: Settled,
+    sequence: u64,
+    samples: &[u64],
+    ancillary: &[u8],
+    cell: &mut [u8],
+)
+    requires { ⌜ Packable set (now samples) (now ancillary) × (set .«by_channel» ≡ false) × Named (set .format) 24 4 4 4 × (length (now cell) ≡ 48) × (length (now samples) ≡ 12) ⌝ }
     ensures { λ r. ⌜ now (cell .exit) ≡ filledTo set sequence (now (samples .entry)) (now (ancillary .entry)) (now (cell .entry)) (length (now (samples .entry))) ⌝ }
 {
     let mut slot = 0;
-    while slot < samples.len() {
+    while slot < 12 {
         let bit = (sequence >> slot) % 2;
         let sample = samples[slot];
         let guard = tables::protection_for_usual(sample / 32768);

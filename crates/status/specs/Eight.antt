@@ -1,12 +1,15 @@
--- Words of the code: eight entries that are taken at once, an octet of a block.
+-- Words of the code: eight entries that are taken at once, an octet of a block, and eight coefficients of what is divided.
 -- Assumes nothing.
 use mathlib.Core.Bool.{Bool, cond}
 use mathlib.Core.List.{List}
 use mathlib.Core.Path.{_≡_}
-use Prim.Native.Nat.{ℕ, zero, suc, _+_, _*_, _/_, _%_, _^_, _≤_, _<_}
-use lib.Dec.{eqb}
+use Prim.Native.Nat.{ℕ, zero, suc, _+_, _-_, _*_, _/_, _%_, _^_, _≤_, _<_}
+use lib.Dec.{eqb, ltb}
 use lib.ListN.{length, getD, set}
+use Rattle.runs.specs.Division.{divided}
+use Rattle.runs.specs.Runs.{tab}
 use Rattle.status.specs.Bits.{zeros}
+use Rattle.status.specs.Check.{generator}
 use Rattle.status.specs.Step.{cOf}
 use Rattle.status.specs.declared.step.Block.{Block}
 
@@ -45,3 +48,11 @@ withEight block begins octet =
     cond begins
     (record { bits = 8; octets = set zeros 0 octet })
     (cond (eqb (block .bits) 0) block (record { bits = block .bits + 8; octets = set (block .octets) (block .bits / 8) octet }))
+
+-- the octet whose bits are the eight coefficients from place 8k on of what is divided, by octet k of the block
+unfoldable pub dividedOctet : ℕ → ℕ → ℕ
+dividedOctet octet k = cond (eqb k 0) (255 - octet) (cond (ltb k 23) octet 0)
+
+-- the rest after eight steps of the division, by the bits of an octet, the lowest first
+unfoldable pub octetDown : ℕ → ℕ → ℕ
+octetDown rest octet = divided 8 generator rest (tab (λ j. octet / 2 ^ j % 2) 8)

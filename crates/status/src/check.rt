@@ -2,7 +2,8 @@
 ghost use mathlib.Core.Path.{_≡_};
 ghost use Prim.Native.Nat.{_<_};
 ghost use Rattle.runs.specs.Division.{takenDown};
-ghost use Rattle.status.specs.Check.{checkCharacter, coefficientOf, generator, turnedOf};
+ghost use Rattle.status.specs.Check.{checkCharacter, generator, turnedOf};
+ghost use Rattle.status.specs.Eight.{dividedOctet, octetDown};
 
 // x^8 + x^4 + x^3 + x^2 + 1
 const GENERATOR: u64 = 0b1_0001_1101;
@@ -25,19 +26,31 @@ pub(crate) fn wide(x: u8) -> u64
     x as u64
 }
 
-// The coefficient at place k of what is divided, the highest first.
-fn coefficient(block: [u8; 24], k: usize) -> u64
-    ensures { λ r. ⌜ (r ≡ coefficientOf block k) × (r < 2) ⌝ }
+// The octet whose bits, the lowest first, are the eight coefficients from place 8k on of what is divided.
+fn divided_octet(octet: u8, k: usize) -> u64
+    ensures { λ r. ⌜ (r ≡ dividedOctet octet k) × (r < 256) × (octet < 256) ⌝ }
 {
-    if 184 <= k {
-        return 0;
+    if k == 0 {
+        return 255 - wide(octet);
     }
-    let octet = wide(block[k / 8]);
-    let bit = (octet >> (k % 8)) % 2;
-    if k < 8 {
-        return (bit + 1) % 2;
+    if k < 23 {
+        return wide(octet);
     }
-    bit
+    0
+}
+
+// Eight steps of long division, by the bits of an octet, the lowest first.
+fn octet_down(rest: u64, octet: u64) -> u64
+    requires { ⌜ (rest < 256) × (octet < 256) ⌝ }
+    ensures { λ r. ⌜ (r ≡ octetDown rest octet) × (r < 256) ⌝ }
+{
+    let mut now = rest;
+    let mut j: usize = 0;
+    while j < 8 {
+        now = taken_down(now, (octet >> j) % 2);
+        j += 1;
+    }
+    now
 }
 
 // The remainder as an octet, its highest coefficient as the lowest bit.
@@ -56,8 +69,8 @@ pub fn check_character(block: [u8; 24]) -> u8
 {
     let mut rest: u64 = 0;
     let mut k: usize = 0;
-    while k < 192 {
-        rest = taken_down(rest, coefficient(block, k));
+    while k < 24 {
+        rest = octet_down(rest, divided_octet(block[k], k));
         k += 1;
     }
     turned(rest)

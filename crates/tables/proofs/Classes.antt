@@ -11,7 +11,7 @@ use Rattle.runs.specs.Division.{coefficients, divided, takenDown}
 use Rattle.runs.specs.Test.{every}
 use Rattle.runs.proofs.Arms.{NoneOf, orListed, others}
 use Rattle.runs.proofs.Laws.{both-left, both-right}
-use Rattle.guards.specs.Guards.{withV, protectedBits, tenGuard}
+use Rattle.guards.specs.Guards.{vIn, protectedBits, tenGuard}
 
 pub record Arm : Type 0 where
   pub guard : ℕ
@@ -29,7 +29,7 @@ keysBack [] rest = rest
 keysBack (arm ∷ arms) rest = keysBack arms (arm .keys ∷ rest)
 
 unfoldable has : ℕ → ℕ → Bool
-has guard key = eqb (tenGuard (protectedBits key (withV 0))) guard
+has guard key = eqb (tenGuard (protectedBits key (vIn 0))) guard
 
 unfoldable all-have : ℕ → List ℕ → Bool
 all-have guard [] = true
@@ -39,22 +39,22 @@ unfoldable right : List Arm → Bool
 right [] = true
 right (arm ∷ arms) = all-have (arm .guard) (arm .keys) && right arms
 
-has-guard : (guard key : ℕ) → T (has guard key) → tenGuard (protectedBits key (withV 0)) ≡ guard
+has-guard : (guard key : ℕ) → T (has guard key) → tenGuard (protectedBits key (vIn 0)) ≡ guard
 unfolding has
 has-guard guard key t = eqb→eq _ _ t
 
-class : (guard : ℕ) (keys : List ℕ) → T (all-have guard keys) → (key : ℕ) → OneOf keys key → tenGuard (protectedBits key (withV 0)) ≡ guard
+class : (guard : ℕ) (keys : List ℕ) → T (all-have guard keys) → (key : ℕ) → OneOf keys key → tenGuard (protectedBits key (vIn 0)) ≡ guard
 unfolding all-have
 class guard [] t key one = absurd one
 class guard (k ∷ []) t key one = rw one (has-guard guard k (both-left (has guard k) true t))
 class guard (k ∷ k′ ∷ ks) t key one =
     ⊎-elim
-    (λ e. subst (λ (n : ℕ). tenGuard (protectedBits n (withV 0)) ≡ guard) (sym e) (has-guard guard k (both-left (has guard k) (all-have guard (k′ ∷ ks)) t)))
+    (λ e. subst (λ (n : ℕ). tenGuard (protectedBits n (vIn 0)) ≡ guard) (sym e) (has-guard guard k (both-left (has guard k) (all-have guard (k′ ∷ ks)) t)))
     (λ later. class guard (k′ ∷ ks) (both-right (has guard k) (all-have guard (k′ ∷ ks)) t) key later)
     one
 
 -- a key of an arm has the arm's bits
-arm-guard : (arms : List Arm) → T (right arms) → (i key : ℕ) → OneOf (armAt arms i .keys) key → tenGuard (protectedBits key (withV 0)) ≡ armAt arms i .guard
+arm-guard : (arms : List Arm) → T (right arms) → (i key : ℕ) → OneOf (armAt arms i .keys) key → tenGuard (protectedBits key (vIn 0)) ≡ armAt arms i .guard
 unfolding right
 arm-guard [] t i key one = absurd one
 arm-guard (arm ∷ arms) t zero key one = class (arm .guard) (arm .keys) (both-left (all-have (arm .guard) (arm .keys)) (right arms) t) key one
@@ -107,10 +107,10 @@ nines =
     ∷ record { guard = 5; keys = 448 ∷ 459 ∷ 470 ∷ 477 ∷ 487 ∷ 492 ∷ 497 ∷ 506 ∷ [] }
     ∷ []
 
-pub of-nine : (i key : ℕ) → OneOf (armAt nines i .keys) key → tenGuard (protectedBits key (withV 0)) ≡ armAt nines i .guard
+pub of-nine : (i key : ℕ) → OneOf (armAt nines i .keys) key → tenGuard (protectedBits key (vIn 0)) ≡ armAt nines i .guard
 unfolding right all-have has protectedBits tenGuard coefficients divided takenDown
 of-nine = arm-guard nines tt
 
-pub of-nine-last : {X : Type 0} (key : ℕ) → key < 512 → NoneOf X (keysBack nines []) key → tenGuard (protectedBits key (withV 0)) ≡ 3
+pub of-nine-last : {X : Type 0} (key : ℕ) → key < 512 → NoneOf X (keysBack nines []) key → tenGuard (protectedBits key (vIn 0)) ≡ 3
 unfolding every orListed has protectedBits tenGuard coefficients divided takenDown
 of-nine-last {X} key less none = has-guard 3 key (others X (keysBack nines []) (has 3) 512 tt key less none)

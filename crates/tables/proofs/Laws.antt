@@ -14,7 +14,7 @@ use lib.Pow.{shr-shr}
 use Rattle.runs.specs.Test.{every}
 use Rattle.runs.proofs.Arms.{NoneOf}
 use Rattle.runs.proofs.Laws.{every-at}
-use Rattle.guards.specs.Guards.{VOrNone, noV, withV, protectedBits, tenGuard}
+use Rattle.guards.specs.Guards.{VOrNone, noV, vIn, protectedBits, tenGuard}
 use Rattle.guards.proofs.Laws.{with-v, guardsWithoutV, without-v, ten-guard-lt}
 use Rattle.tables.specs.Marks.{markBit, MarksBy, MarksOf, MarksWithoutV}
 use Rattle.tables.proofs.Classes.{armAt, keysBack, nines, of-nine, of-nine-last}
@@ -44,11 +44,11 @@ with guard low = bitXor guard (low / 16 * 3)
 abbrev without : ℕ → ℕ → ℕ
 without guard low = getD guardsWithoutV guard 0
 
-module _ (guard : ℕ) (few : guard < 8) {nine : ℕ} (h : nine < 512) (e : tenGuard (protectedBits nine (withV 0)) ≡ guard) where
+module _ (guard : ℕ) (few : guard < 8) {nine : ℕ} (h : nine < 512) (e : tenGuard (protectedBits nine (vIn 0)) ≡ guard) where
   marks : MarksOf nine (getD words guard 0) × (getD words guard 0 < 4294967296)
   unfolding every fits
   marks = (
-    marks-by (λ low. withV (low / 16)) (with guard) (getD words guard 0) (every-at (λ g. fits (getD words g 0) (with g)) 8 tt guard few)
+    marks-by (λ low. vIn (low / 16)) (with guard) (getD words guard 0) (every-at (λ g. fits (getD words g 0) (with g)) 8 tt guard few)
         nine
         (λ low less.
         ap₂ (λ (x y : ℕ). bitXor x (y * 3)) (sym e) (let odd : low / 16 ≡ low / 16 % 2 = omega arith in odd)
@@ -68,7 +68,7 @@ module _ (guard : ℕ) (few : guard < 8) {nine : ℕ} (h : nine < 512) (e : tenG
 
 -- those of an arm's keys, and of the last arm's
 arm-few : (i nine : ℕ) → OneOf (armAt nines i .keys) nine → armAt nines i .guard < 8
-arm-few i nine one = rw (← of-nine i nine one) (ten-guard-lt (protectedBits nine (withV 0)))
+arm-few i nine one = rw (← of-nine i nine one) (ten-guard-lt (protectedBits nine (vIn 0)))
 
 module _ (i nine : ℕ) (one : OneOf (armAt nines i .keys) (nine % 512)) where
   pub marks-in : MarksOf (nine % 512) (getD words (armAt nines i .guard) 0) × (getD words (armAt nines i .guard) 0 < 4294967296)

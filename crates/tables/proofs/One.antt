@@ -4,7 +4,7 @@
 use mathlib.Core.Path.{_≡_, refl, sym, _∙_}
 use Prim.Native.Nat.{ℕ, _/_, _<_}
 use Rattle.runs.proofs.One.{One}
-use Rattle.guards.specs.Guards.{VOrNone, noV, withV}
+use Rattle.guards.specs.Guards.{VOrNone, noV, vIn}
 use Rattle.tables.specs.Marks.{MarksBy}
 use Rattle.tables.proofs.Laws.{same-bits}
 use Rattle.tables.proofs.protection_for_usual.Kinds as protection-kinds
@@ -25,13 +25,13 @@ one-number : (v : ℕ → VOrNone) (nine : ℕ) {x y : ℕ} → MarksBy v nine x
 one-number v nine p q = same-bits 32 (p .1) (q .1) (λ low less. p .0 low less ∙ sym (q .0 low less))
 
 pub marks-for-others-one : One others-kinds.ps others-kinds.r others-reads.Pre others-reads.Post
-marks-for-others-one κs a x y v w pre p q = (one-number (λ low. withV (low / 16)) _ p q, refl)
+marks-for-others-one κs a x y v w pre p q = (one-number (λ low. vIn (low / 16)) _ p q, refl)
 
 pub marks-for-usual-one : One usual-kinds.ps usual-kinds.r usual-reads.Pre usual-reads.Post
-marks-for-usual-one κs a x y v w pre p q = (one-number (λ low. withV (low / 16)) _ p q, refl)
+marks-for-usual-one κs a x y v w pre p q = (one-number (λ low. vIn (low / 16)) _ p q, refl)
 
 pub marks-without-v-one : One bare-kinds.ps bare-kinds.r bare-reads.Pre bare-reads.Post
 marks-without-v-one κs a x y v w pre p q = (one-number (λ low. noV) _ p q, refl)
 
 pub marks-for-figures-one : One figures-kinds.ps figures-kinds.r figures-reads.Pre figures-reads.Post
-marks-for-figures-one κs a x y v w pre p q = (one-number (λ low. withV (low / 16)) _ p q, refl)
+marks-for-figures-one κs a x y v w pre p q = (one-number (λ low. vIn (low / 16)) _ p q, refl)

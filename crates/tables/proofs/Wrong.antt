@@ -6,7 +6,7 @@ use native.Mathlib.Omega.{arith}
 use contract.Lifetimes.{Lfts}
 use Rattle.runs.specs.Division.{coefficients, divided, takenDown}
 use Rattle.runs.proofs.Wrong.{Never}
-use Rattle.guards.specs.Guards.{VOrNone, noV, withV, protectedBits, tenGuard}
+use Rattle.guards.specs.Guards.{VOrNone, noV, vIn, protectedBits, tenGuard}
 use Rattle.tables.specs.Marks.{markBit, MarksBy, MarksOf}
 use Rattle.tables.proofs.protection_for_usual.Kinds as protection-kinds
 use Rattle.tables.proofs.protection_for_usual.Reads as protection-reads
@@ -47,7 +47,7 @@ module _ (κs : Lfts 0) where
       let marked : x / 2 ^ 7 % 2 ≡ 1 = ap (λ (n : ℕ). n / 2 ^ 7 % 2) wrong in
       omega arith
 
-  without-v : {x : ℕ} (nine : ℕ) → markBit nine (withV 1) 20 ≡ 0 → MarksOf nine x × (x < 4294967296) → x ≡ 0x7F7F7F7F → ⊥
+  without-v : {x : ℕ} (nine : ℕ) → markBit nine (vIn 1) 20 ≡ 0 → MarksOf nine x × (x < 4294967296) → x ≡ 0x7F7F7F7F → ⊥
   without-v {x} nine sound p wrong =
       let none : x / 2 ^ 20 % 2 ≡ 0 = p .0 20 (omega arith) ∙ sound in
       let marked : x / 2 ^ 20 % 2 ≡ 1 = ap (λ (n : ℕ). n / 2 ^ 20 % 2) wrong in
@@ -55,11 +55,11 @@ module _ (κs : Lfts 0) where
 
   pub marks-for-others-not-always-0 : Never others-kinds.ps others-kinds.r others-reads.Post κs (0, tt) (λ x v. x ≡ 0)
   unfolding unfolded
-  marks-for-others-not-always-0 x v wrong p = always-0 (λ low. withV (low / 16)) 0 refl p wrong
+  marks-for-others-not-always-0 x v wrong p = always-0 (λ low. vIn (low / 16)) 0 refl p wrong
 
   pub marks-for-others-not-always-1 : Never others-kinds.ps others-kinds.r others-reads.Post κs (0, tt) (λ x v. x ≡ 0xFFFFFFFF)
   unfolding unfolded
-  marks-for-others-not-always-1 x v wrong p = always-1 (λ low. withV (low / 16)) 0 refl p wrong
+  marks-for-others-not-always-1 x v wrong p = always-1 (λ low. vIn (low / 16)) 0 refl p wrong
 
   pub marks-for-others-not-without-v : Never others-kinds.ps others-kinds.r others-reads.Post κs (0, tt) (λ x v. x ≡ 0x7F7F7F7F)
   unfolding unfolded
@@ -67,11 +67,11 @@ module _ (κs : Lfts 0) where
 
   pub marks-for-usual-not-always-0 : Never usual-kinds.ps usual-kinds.r usual-reads.Post κs (0, tt) (λ x v. x ≡ 0)
   unfolding unfolded
-  marks-for-usual-not-always-0 x v wrong p = always-0 (λ low. withV (low / 16)) 0 refl p wrong
+  marks-for-usual-not-always-0 x v wrong p = always-0 (λ low. vIn (low / 16)) 0 refl p wrong
 
   pub marks-for-usual-not-always-1 : Never usual-kinds.ps usual-kinds.r usual-reads.Post κs (0, tt) (λ x v. x ≡ 0xFFFFFFFF)
   unfolding unfolded
-  marks-for-usual-not-always-1 x v wrong p = always-1 (λ low. withV (low / 16)) 0 refl p wrong
+  marks-for-usual-not-always-1 x v wrong p = always-1 (λ low. vIn (low / 16)) 0 refl p wrong
 
   pub marks-for-usual-not-without-v : Never usual-kinds.ps usual-kinds.r usual-reads.Post κs (0, tt) (λ x v. x ≡ 0x7F7F7F7F)
   unfolding unfolded
@@ -79,11 +79,11 @@ module _ (κs : Lfts 0) where
 
   pub marks-for-figures-not-always-0 : Never figures-kinds.ps figures-kinds.r figures-reads.Post κs (0, tt) (λ x v. x ≡ 0)
   unfolding unfolded
-  marks-for-figures-not-always-0 x v wrong p = always-0 (λ low. withV (low / 16)) 0 refl p wrong
+  marks-for-figures-not-always-0 x v wrong p = always-0 (λ low. vIn (low / 16)) 0 refl p wrong
 
   pub marks-for-figures-not-always-1 : Never figures-kinds.ps figures-kinds.r figures-reads.Post κs (0, tt) (λ x v. x ≡ 0xFFFFFFFF)
   unfolding unfolded
-  marks-for-figures-not-always-1 x v wrong p = always-1 (λ low. withV (low / 16)) 0 refl p wrong
+  marks-for-figures-not-always-1 x v wrong p = always-1 (λ low. vIn (low / 16)) 0 refl p wrong
 
   pub marks-for-figures-not-without-v : Never figures-kinds.ps figures-kinds.r figures-reads.Post κs (0, tt) (λ x v. x ≡ 0x7F7F7F7F)
   unfolding unfolded

@@ -6,12 +6,12 @@
 // Where two loops call it, both make a call for every slot, which takes much longer. So each loop has its own.
 ghost use mathlib.Core.Path.{_≡_};
 ghost use Prim.Native.Nat.{_%_, _<_};
-ghost use Rattle.guards.specs.Guards.{withV, protectedBits, tenGuard};
+ghost use Rattle.guards.specs.Guards.{vIn, protectedBits, tenGuard};
 ghost use Rattle.tables.specs.Marks.{MarksOf, MarksWithoutV};
 
 // The protection bits of nine sample bits, V being 0: for the sender's usual call.
 pub fn protection_for_usual(nine: u64) -> u64
-    ensures { λ r. ⌜ r ≡ tenGuard (protectedBits (nine % 512) (withV 0)) ⌝ }
+    ensures { λ r. ⌜ r ≡ tenGuard (protectedBits (nine % 512) (vIn 0)) ⌝ }
 {
     let bits = nine % 512;
     match bits {

@@ -4,6 +4,8 @@ mod by_library;
 mod by_plain;
 mod line;
 mod management;
+mod pieces;
+mod slips;
 
 pub use by_library::by_library;
 pub use by_plain::by_plain;

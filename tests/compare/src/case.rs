@@ -12,12 +12,16 @@ pub enum Kind {
     Send,
     Receive,
     Line,
+    Slip,
+    Slips,
     StatusStep,
     StatusRun,
     CheckCharacter,
     ReadHeader,
     ReadRecord,
     JudgeLog,
+    SendLog,
+    ReceiveLog,
     PutHeader,
     PutRecord,
     LogList,
@@ -26,6 +30,10 @@ pub enum Kind {
     Anything,
     Salvage,
     Sheet,
+    ListPieces,
+    SalvagePieces,
+    AnythingPieces,
+    FiguresPieces,
     Aes3Import,
     Aes3Export,
     Equipment,
@@ -48,20 +56,24 @@ impl Kind {
     }
 }
 
-/// Kind, name, and the fields in and out: n a number, r a run of numbers or a state, o octets.
-const KINDS: [(Kind, &str, &str, &str); 30] = [
+/// Kind, name, and the fields in and out: n a number, r a run of numbers or a state, o octets, t text.
+const KINDS: [(Kind, &str, &str, &str); 38] = [
     (Kind::Format, "format", "n", "nnnnn"),
     (Kind::SenderOpen, "sender_open", "nnnnnn", "nr"),
     (Kind::ReceiverOpen, "receiver_open", "nnn", "nr"),
     (Kind::Send, "send", "rnrro", "nro"),
     (Kind::Receive, "receive", "ronrrr", "nrrrrnnnn"),
     (Kind::Line, "line", "nnno", "rrrrr"),
+    (Kind::Slip, "slip", "rr", "nrnn"),
+    (Kind::Slips, "slips", "o", "rrrnto"),
     (Kind::StatusStep, "status_step", "nonn", "nnono"),
     (Kind::StatusRun, "status_run", "nooonn", "nnonon"),
     (Kind::CheckCharacter, "check_character", "o", "n"),
     (Kind::ReadHeader, "read_header", "o", "nnnnn"),
     (Kind::ReadRecord, "read_record", "on", "nnnnn"),
     (Kind::JudgeLog, "judge_log", "rono", "nronnn"),
+    (Kind::SendLog, "send_log", "rnrron", "nronnnn"),
+    (Kind::ReceiveLog, "receive_log", "ronroo", "nrroonnnnnnnnn"),
     (Kind::PutHeader, "put_header", "onnn", "non"),
     (Kind::PutRecord, "put_record", "onon", "non"),
     (Kind::LogList, "log_list", "oo", "nonn"),
@@ -70,6 +82,10 @@ const KINDS: [(Kind, &str, &str, &str); 30] = [
     (Kind::Anything, "anything", "o", "nnn"),
     (Kind::Salvage, "salvage", "oor", "nornnn"),
     (Kind::Sheet, "sheet", "orn", "nrr"),
+    (Kind::ListPieces, "list_pieces", "or", "non"),
+    (Kind::SalvagePieces, "salvage_pieces", "or", "noon"),
+    (Kind::AnythingPieces, "anything_pieces", "or", "nnn"),
+    (Kind::FiguresPieces, "figures_pieces", "or", "nr"),
     (Kind::Aes3Import, "aes3_import", "or", "nrr"),
     (Kind::Aes3Export, "aes3_export", "rr", "nor"),
     (Kind::Equipment, "equipment", "ooo", "noonnnn"),
@@ -87,6 +103,7 @@ pub enum Value {
     Number(u64),
     Run(Vec<u64>),
     Octets(Vec<u8>),
+    Text(String),
 }
 
 pub type Answer = Vec<Value>;
@@ -106,6 +123,12 @@ impl From<u64> for Value {
 impl From<bool> for Value {
     fn from(yes: bool) -> Value {
         Value::Number(u64::from(yes))
+    }
+}
+
+impl From<&str> for Value {
+    fn from(text: &str) -> Value {
+        Value::Text(text.to_string())
     }
 }
 
@@ -152,6 +175,7 @@ impl Value {
     fn parse(layout: char, text: &str) -> Option<Value> {
         match layout {
             'n' => text.parse().ok().map(Value::Number),
+            't' => Some(Value::Text(text.to_string())),
             'r' if text == "-" => Some(Value::Run(vec![])),
             'r' => text.split(',').map(|number| number.parse().ok()).collect::<Option<_>>().map(Value::Run),
             _ if text == "-" => Some(Value::Octets(vec![])),
@@ -217,6 +241,7 @@ impl fmt::Display for Value {
             Value::Number(number) => write!(out, "{number}"),
             Value::Run(run) if run.is_empty() => write!(out, "-"),
             Value::Run(run) => write!(out, "{}", run.iter().map(u64::to_string).collect::<Vec<_>>().join(",")),
+            Value::Text(text) => write!(out, "{text}"),
             Value::Octets(octets) if octets.is_empty() => write!(out, "-"),
             Value::Octets(octets) => octets.iter().try_for_each(|octet| write!(out, "{octet:02x}")),
         }

@@ -11,6 +11,7 @@ mod inputs;
 mod line;
 mod log;
 mod management;
+mod slips;
 mod status;
 mod units;
 
@@ -81,7 +82,7 @@ impl Referee<'_> {
 
 fn play(scenario: u64, seed: u64, referee: &mut Referee) -> Played {
     let mut random = Random::for_scenario(seed, scenario);
-    match random.below(103) {
+    match random.below(112) {
         0..=3 => boxes::open_sender(&mut random, referee),
         4..=6 => boxes::open_receiver(&mut random, referee),
         7..=22 => boxes::one_send(&mut random, referee),
@@ -91,6 +92,7 @@ fn play(scenario: u64, seed: u64, referee: &mut Referee) -> Played {
         56..=60 => status::one_step(&mut random, referee),
         61 if scenario.is_multiple_of(8) => status::sequence(&mut random, referee),
         62 if scenario.is_multiple_of(8) => log::list(&mut random, referee),
+        63 => slips::one_step(&mut random, referee),
         64..=66 => cable::import(&mut random, referee),
         67 => cable::export(&mut random, referee),
         68..=70 => management::one_message(&mut random, referee),
@@ -107,7 +109,11 @@ fn play(scenario: u64, seed: u64, referee: &mut Referee) -> Played {
         97 => management::one_packing(&mut random, referee),
         98 => boxes::format(&mut random, referee),
         99 if scenario.is_multiple_of(4) => status::runs(&mut random, referee),
+        100 => slips::walk(&mut random, referee),
         101..=102 => log::judge(&mut random, referee),
+        103..=105 => log::pieces(&mut random, referee),
+        106..=108 => boxes::send_log(&mut random, referee),
+        109..=111 => log::receive(&mut random, referee),
         _ => status::check(&mut random, referee),
     }
 }

@@ -3,9 +3,11 @@
 mod answers;
 mod archive;
 mod case;
+mod digest;
 mod fuzz;
 mod plain;
 mod random;
+mod slips;
 mod story;
 mod vectors;
 
@@ -30,7 +32,9 @@ compare write KIND SCENARIOS SEED
                                  print the cases of one kind among so many scenarios, as lines of the vectors
 compare list                     print the plain implementation's list of the log on standard input
 compare story                    play demand 3 and longer outages: a sender, a line that drops, spoils and repeats, a receiver;
-                                 and the archive's copies of nothing";
+                                 and the archive's copies of nothing
+compare slips LINES [SEED]       play outages of 0 to 300 cells, so many lines of senders that give the indication as they like, and
+                                 spoiled second numbers: what the watch tells is exact up to 119, and never too long";
 
 /// The program, if it stands there: while the crates grow it may not be built yet.
 fn built(program: &str) -> Option<&Path> {
@@ -60,6 +64,8 @@ fn run(words: &[&str]) -> Result<bool, Box<dyn Error>> {
     match words {
         ["vectors", folder] => vectors::run(Path::new(folder), None),
         ["vectors", folder, program] => vectors::run(Path::new(folder), built(program)),
+        ["slips", count] => Ok(slips::run(count.parse()?, DEFAULT_SEED)),
+        ["slips", count, seed] => Ok(slips::run(count.parse()?, seed.parse()?)),
         ["fuzz", count] => Ok(fuzz::run(count.parse()?, DEFAULT_SEED, None)),
         ["fuzz", count, seed] => Ok(fuzz::run(count.parse()?, seed.parse()?, None)),
         ["fuzz", count, seed, program] => Ok(fuzz::run(count.parse()?, seed.parse()?, built(program))),

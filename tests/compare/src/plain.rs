@@ -12,6 +12,7 @@ mod log;
 mod management;
 mod salvage;
 mod sheet;
+mod slips;
 mod status;
 mod units;
 
@@ -23,6 +24,7 @@ pub use log::{anything, header, listing, listing_to, put_header, put_record, rec
 pub use management::{controller, equipment, port_packing, port_settings};
 pub use salvage::salvage;
 pub use sheet::sheet;
+pub use slips::slip;
 pub use status::{check_character, run, step, Block};
 pub use units::{export_units, read_unit};
 

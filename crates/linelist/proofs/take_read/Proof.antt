@@ -18,7 +18,7 @@ returns c =
     let start = at-take .before .before .before .before .before .before in
     let takes = at-take .take .ensures in
     let fits = takes-whole takes
-    (omega (arith, take-to (start .args .turn .octets) (start .args .buffer .now), start .pre .0, start .pre .1)) (start .pre .2) in
+    (omega (arith, take-to (start .args .turn .octets) (start .args .buffer .now), start .pre .0, start .pre .1, start .pre .2)) in
     (takes, fits .0, omega (arith, fits .1, at-take .take .kept .1 .1 .1 .0))
 
 pub take-read-spec : {M : Type 1} → statement M

@@ -11,13 +11,13 @@ use Rattle.salvage.proofs.finish.Tie as tie
 slice-reshare-prefix-print : tie.Need-slice-reshare-prefix-print
 slice-reshare-prefix-print c =
     let at-end = c .before .before .before in
-    omega (arith, ends-whole (at-end .end .ensures) (at-end .before .before .before .pre) .1, at-end .end .kept .1 .1 .0)
+    omega (arith, ends-whole (at-end .end .ensures) (omega (arith, at-end .before .before .before .pre)) .1, at-end .end .kept .1 .1 .0)
 
 slice-aggregate-print-2 : tie.Need-slice-aggregate-print-2
 slice-aggregate-print-2 c = sym (length-take-le _ _ (slice-reshare-prefix-print (c .before)))
 
 print-requires : tie.Need-print-requires
-print-requires c κs = let at-end = c .before .before .before .before in ends-whole (at-end .end .ensures) (at-end .before .before .before .pre) .0
+print-requires c κs = let at-end = c .before .before .before .before in ends-whole (at-end .end .ensures) (omega (arith, at-end .before .before .before .pre)) .0
 
 pub finish-spec : {M : Type 1} → statement M
 finish-spec =

@@ -17,9 +17,9 @@ returns c =
     let at-take = c .before .before .before .before in
     let start = at-take .before .before .before .before .before .before .before .before in
     let takes = at-take .take .ensures in
-    let fits = takes-whole takes
-    (omega (arith, take-to (start .args .turn .octets) (start .args .buffer .now), start .pre .0, start .pre .1)) (start .pre .2)
-    (start .pre .3) in (
+    let few = take-to (start .args .turn .octets) (start .args .buffer .now) in
+    let fits = takes-whole takes (omega (arith, few, start .pre .0, start .pre .1, start .pre .2))
+    (omega (arith, few, start .pre .0, start .pre .1, start .pre .3)) in (
       takes,
       record { all = fits .0 .0; within = omega (arith, fits .0 .1, at-take .take .kept .1 .1 .1 .0) },
       record { all = fits .1 .0; within = omega (arith, fits .1 .1, at-take .take .kept .1 .1 .1 .1 .0) },

@@ -1,8 +1,9 @@
 -- `sender::write_any` meets its contract.
 -- Assumes nothing.
-use mathlib.Core.Path.{_≡_, _∙_, sym}
+use mathlib.Core.Path.{_≡_, refl, _∙_, sym}
 use denote.Ref.{now}
 use lib.ListN.{length}
+use Rattle.sender.proofs.Packing.{bits-in}
 use Rattle.sender.proofs.Laws.{Call, refusalOf, writes-refused, can-pack, writes-taken}
 use borrow.Author.Needs.{needs}
 use Rattle.sender.proofs.write_any.Statement.{statement}
@@ -37,8 +38,10 @@ returns-2 : tie.Need-returns-2
 returns-2 c =
     let e = c .before .before .before .before .before in
     let s = from (e .before) in
-    writes-taken (call s) (now (s .args .cell)) (e .before .before .settings .ensures) (none e) (s .pre)
-    (c .before .before .before .before .sequence-of .ensures) (c .before .before .pack .ensures)
+    let bits = c .before .before .before .before .sequence-in in
+    writes-taken (call s) (now (s .args .cell)) (e .before .before .settings .ensures) (none e) (s .pre) refl
+    (bits-in (e .before .before .settings .result) (now (s .args .samples)) (now (s .args .ancillary)) (s .args .state .number) (s .args .second)
+    (bits .ensures) (c .before .before .pack .ensures))
 
 pub write-any-spec : {M : Type 1} → statement M
 write-any-spec =

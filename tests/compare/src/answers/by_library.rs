@@ -2,7 +2,8 @@
 //! where the part of the library isn't linked.
 
 use super::line::line;
-use super::management;
+use super::slips::slips;
+use super::{management, pieces};
 use crate::case::{values, Answer, Case, Kind, Value};
 use crate::face::{self, Entries, ReceiverState, Runs};
 
@@ -14,12 +15,16 @@ pub fn by_library(case: &Case) -> Option<Answer> {
         Kind::Send if cfg!(feature = "boxes") => send(case),
         Kind::Receive if cfg!(feature = "boxes") => receive(case),
         Kind::Line => line(case, by_library),
+        Kind::Slip if cfg!(feature = "boxes") => slip(case),
+        Kind::Slips => slips(case, by_library),
         Kind::StatusStep if cfg!(feature = "status") => status_step(case),
         Kind::StatusRun if cfg!(feature = "status") => status_run(case),
         Kind::CheckCharacter if cfg!(feature = "status") => check_character(case),
         Kind::ReadHeader if cfg!(feature = "log") => read_header(case),
         Kind::ReadRecord if cfg!(feature = "log") => read_record(case),
         Kind::JudgeLog if cfg!(feature = "log") => judge_log(case),
+        Kind::SendLog if cfg!(feature = "log") => send_log(case),
+        Kind::ReceiveLog if cfg!(feature = "log") => receive_log(case),
         Kind::Anything if cfg!(feature = "log") => anything(case),
         Kind::Salvage if cfg!(feature = "log") => salvage(case),
         Kind::PutHeader if cfg!(feature = "log") => put_header(case),
@@ -36,6 +41,10 @@ pub fn by_library(case: &Case) -> Option<Answer> {
         Kind::CircuitsCheck if cfg!(feature = "circuits") => circuits_check(case),
         Kind::CircuitsPlan if cfg!(feature = "circuits") => circuits_plan(case),
         Kind::Sheet if cfg!(feature = "figures") => sheet(case),
+        Kind::ListPieces if cfg!(feature = "log") => pieces::list_by_library(case),
+        Kind::SalvagePieces if cfg!(feature = "log") => pieces::salvage_by_library(case),
+        Kind::AnythingPieces if cfg!(feature = "log") => pieces::anything_by_library(case),
+        Kind::FiguresPieces if cfg!(feature = "figures") => pieces::figures_by_library(case),
         _ => None,
     }
 }
@@ -146,6 +155,13 @@ fn receive(case: &Case) -> Option<Answer> {
     Some(answer)
 }
 
+fn slip(case: &Case) -> Option<Answer> {
+    let mut watch = narrow_array(case.run(0))?;
+    let mut told = [LEFT_OVER; 2];
+    let refusal = face::slip(&mut watch, &narrow_array(case.run(1))?, &mut told);
+    Some(values![u64::from(refusal), &wide(&watch)[..], u64::from(told[0]), u64::from(told[1])])
+}
+
 fn status_step(case: &Case) -> Option<Answer> {
     let [bits, ancillary, mark] = narrow_array(&[case.number(0), case.number(2), case.number(3)])?;
     let mut block = [&[bits], case.octets(1)].concat().try_into().ok()?;
@@ -194,6 +210,33 @@ fn judge_log(case: &Case) -> Option<Answer> {
     let (mut reports, mut counts) = (Fenced::around(case.octets(3), LEFT_OVER), [u64::MAX; 3]);
     let refusal = face::judge_log(&mut state, case.octets(1), place, reports.lent(), &mut counts);
     let mut answer = values![u64::from(refusal), &receiver_fields(&state)[..], &reports.back()[..]];
+    answer.extend(counts.map(Value::Number));
+    Some(answer)
+}
+
+fn send_log(case: &Case) -> Option<Answer> {
+    let mut state = narrow_array(case.run(0))?;
+    let ancillary: Vec<u8> = narrow(case.run(3))?;
+    let place = usize::try_from(case.number(5)).ok()?;
+    let (mut log, mut counts) = (Fenced::around(case.octets(4), LEFT_OVER), [u64::MAX; 4]);
+    let refusal = face::send_log(&mut state, case.yes(1), case.run(2), &ancillary, log.lent(), place, &mut counts);
+    let mut answer = values![u64::from(refusal), &wide(&state)[..], &log.back()[..]];
+    answer.extend(counts.map(Value::Number));
+    Some(answer)
+}
+
+fn receive_log(case: &Case) -> Option<Answer> {
+    let mut state = receiver_octets(case.run(0))?;
+    let place = usize::try_from(case.number(2)).ok()?;
+    let mut samples = Fenced::around(case.run(3), u64::MAX);
+    let mut ancillary = Fenced::around(case.octets(4), LEFT_OVER);
+    let mut marks = Fenced::around(case.octets(5), LEFT_OVER);
+    let runs = Runs { samples: samples.lent(), ancillary: ancillary.lent(), marks: marks.lent() };
+    let mut counts = [u64::MAX; 9];
+    let refusal = face::receive_log(&mut state, case.octets(1), place, runs, &mut counts);
+    let after = receiver_fields(&state);
+    let mut answer =
+        values![u64::from(refusal), &after[..], &samples.back()[..], &ancillary.back()[..], &marks.back()[..]];
     answer.extend(counts.map(Value::Number));
     Some(answer)
 }

@@ -2,7 +2,8 @@
 //! it comes back as 0 or 1, and a refusal leaves all that was lent as it was.
 
 use super::line::line;
-use super::management;
+use super::slips::slips;
+use super::{management, pieces};
 use crate::case::{values, Answer, Case, Kind, Value};
 use crate::plain::{self, Anything, Block, Fault, Receiver, Record, Refusal, Sender, Shape};
 
@@ -14,12 +15,16 @@ pub fn by_plain(case: &Case) -> Answer {
         Kind::Send => send(case),
         Kind::Receive => receive(case),
         Kind::Line => line(case, |call| Some(by_plain(call))).expect("every call is answered"),
+        Kind::Slip => slip(case),
+        Kind::Slips => slips(case, |call| Some(by_plain(call))).expect("every call is answered"),
         Kind::StatusStep => status_step(case),
         Kind::StatusRun => status_run(case),
         Kind::CheckCharacter => values![u64::from(plain::check_character(&case.octets(0)[..23]))],
         Kind::ReadHeader => read_header(case),
         Kind::ReadRecord => read_record(case),
         Kind::JudgeLog => judge_log(case),
+        Kind::SendLog => send_log(case),
+        Kind::ReceiveLog => receive_log(case),
         Kind::PutHeader => {
             put(case.octets(0), plain::put_header(case.octets(0), case.number(1), case.number(2), case.number(3)))
         }
@@ -36,6 +41,10 @@ pub fn by_plain(case: &Case) -> Answer {
         Kind::Anything => anything(case),
         Kind::Salvage => salvage(case),
         Kind::Sheet => sheet(case),
+        Kind::ListPieces => pieces::list_by_plain(case),
+        Kind::SalvagePieces => pieces::salvage_by_plain(case),
+        Kind::AnythingPieces => pieces::anything_by_plain(case),
+        Kind::FiguresPieces => pieces::figures_by_plain(case),
         Kind::Aes3Import => aes3_import(case),
         Kind::Aes3Export => aes3_export(case),
         Kind::UnitsExport => units_export(case),
@@ -132,6 +141,15 @@ fn receive(case: &Case) -> Answer {
     answer
 }
 
+fn slip(case: &Case) -> Answer {
+    let watch = case.run(0).try_into().expect("a watch has 7 fields");
+    let report = case.run(1).try_into().expect("a report has 4 fields");
+    match plain::slip(&watch, &report) {
+        Ok((after, [what, cells])) => values![0, &after[..], what, cells],
+        Err(refusal) => values![u64::from(refusal), &watch[..], 0, 0],
+    }
+}
+
 fn status_step(case: &Case) -> Answer {
     let octets = case.octets(1).try_into().expect("a block has 24 octets");
     let block = Block { bits: case.number(0), octets };
@@ -200,6 +218,78 @@ fn judge_log(case: &Case) -> Answer {
         (place, records) = (next as u64, records + 1);
     };
     values![0, &receiver_state(&receiver)[..], &reports[..], place, records as u64, stop]
+}
+
+/// The single calls in a row: a cell of the next entries, and its record. The three stops are asked in their order.
+fn send_log(case: &Case) -> Answer {
+    let (samples, ancillary, mut log) = (case.run(2), case.run(3), case.octets(4).to_vec());
+    let mut sender = sender_of(case.run(0));
+    let refusal = match sender.shape() {
+        Err(refusal) => u64::from(refusal),
+        Ok(_) if samples.len() != ancillary.len() => 5,
+        Ok(_) => 0,
+    };
+    if refusal != 0 {
+        return values![refusal, case.run(0), &log[..], 0, 0, 0, 0];
+    }
+    let used = sender.shape().map_or(1, |shape| shape.entries());
+    let (mut place, mut cells) = (case.number(5), 0);
+    let stop = loop {
+        let taken = used * cells..used * (cells + 1);
+        let Some(next) = samples.get(taken.clone()) else { break 0 };
+        if plain::put_record(&log, place, &[0; 48], false).is_err() {
+            break 12;
+        }
+        let indication = case.yes(1) && sender.number.is_multiple_of(8);
+        let (after, cell) = match sender.send(indication, next, &ancillary[taken], 48) {
+            Ok(sent) => sent,
+            Err(refusal) => break u64::from(refusal),
+        };
+        let (written, behind) = plain::put_record(&log, place, &cell, indication).expect("there is room");
+        (sender, log, place, cells) = (after, written, behind as u64, cells + 1);
+    };
+    values![0, &sender_state(&sender)[..], &log[..], place, (cells * used) as u64, stop, cells as u64]
+}
+
+/// The single calls in a row: the record at the place, and the receiver's answer to it with what is left of the runs.
+fn receive_log(case: &Case) -> Answer {
+    let (log, mut samples) = (case.octets(1), case.run(3).to_vec());
+    let (mut ancillary, mut marks) = (case.octets(4).to_vec(), case.octets(5).to_vec());
+    let mut receiver = receiver_of(case.run(0));
+    let unequal = samples.len() != ancillary.len() || samples.len() != marks.len();
+    if let Err(refusal) = receiver.shape().and(if unequal { Err(5) } else { Ok(()) }) {
+        let mut answer = values![u64::from(refusal), case.run(0), &samples[..], &ancillary[..], &marks[..]];
+        answer.extend([0; 9].map(Value::Number));
+        return answer;
+    }
+    let (mut place, mut at, mut taken, mut missing, mut refused) = (case.number(2), 0, 0, 0, [0; 4]);
+    let stop = loop {
+        let (indication, start, next) = match plain::record(log, place) {
+            Ok(Record::End) => break 0,
+            Err(refusal) => break u64::from(refusal),
+            Ok(Record::Cell { indication, start, next }) => (indication, start, next),
+        };
+        match receiver.receive(&log[start..start + 48], indication, [samples.len() - at; 3]) {
+            Ok((after, received)) => {
+                for entry in &received.entries {
+                    (samples[at], ancillary[at], marks[at]) = (entry.sample, entry.ancillary as u8, entry.mark as u8);
+                    at += 1;
+                }
+                (receiver, taken, missing) = (after, taken + 1, missing + received.missing);
+            }
+            Err(10) => break 10,
+            Err(refusal) => {
+                let which = [8, 9, 15, 20].iter().position(|&number| number == refusal);
+                refused[which.expect("a record is refused by one of these")] += 1;
+            }
+        }
+        place = next as u64;
+    };
+    let state = receiver_state(&receiver);
+    let mut answer = values![0, &state[..], &samples[..], &ancillary[..], &marks[..]];
+    answer.extend([place, at as u64, stop, taken, missing].map(Value::Number));
+    answer.extend(refused.map(Value::Number));
+    answer
 }
 
 fn anything(case: &Case) -> Answer {

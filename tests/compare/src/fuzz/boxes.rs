@@ -45,7 +45,8 @@ fn yes_or_no(random: &mut Random) -> u64 {
     random.pick(&[0, 1, 1, 2, 255])
 }
 
-pub fn one_send(random: &mut Random, referee: &mut Referee) -> Played {
+/// A sender's state, one time in three with a field that may be anything.
+fn sender_state(random: &mut Random) -> [u64; 7] {
     let [format, channels, order] = setup(random);
     let number = if random.one_in(2) { random.pick(&[0, 8]) } else { random.below(16) };
     let (wanted, second) = second_number(random);
@@ -53,6 +54,11 @@ pub fn one_send(random: &mut Random, referee: &mut Referee) -> Played {
     let (wanted, second) = if has_second || random.one_in(8) { (wanted, second) } else { (0, 0) };
     let mut state = [format, channels, order, number, wanted * random.pick(&[1, 1, 200]), second, yes_or_no(random)];
     damage_state(&mut state, 3, random);
+    state
+}
+
+pub fn one_send(random: &mut Random, referee: &mut Referee) -> Played {
+    let state = sender_state(random);
     let case = send(&state, &shape_of(&state, random), 6, random);
     referee.call(case).map(|_| ())
 }
@@ -67,6 +73,40 @@ pub fn send(state: &[u64], shape: &Shape, chances: u64, random: &mut Random) -> 
     let indication = random.one_in(if state[3].is_multiple_of(8) { 2 } else { chances });
     let cell = random.octets(cell_len);
     Case::new(Kind::Send, values![state, indication, &samples[..], &ancillary[..], &cell[..]])
+}
+
+/// Entries of some cells and a few more, sent into a log with room for some of them, and what is left gone on with.
+pub fn send_log(random: &mut Random, referee: &mut Referee) -> Played {
+    let mut state = sender_state(random).to_vec();
+    let shape = shape_of(&state, random);
+    let count = shape.entries() * random.place(7) + random.place(shape.entries() + 1);
+    let samples = samples(&shape, count, 4, random);
+    let ancillary = ancillary(&shape, length(count, 16, random), 8, random);
+    let indications = random.one_in(2);
+    let octets = random.place(400);
+    let mut log = random.octets(octets);
+    let mut place = random.pick(&[0, 0, 3, 3, 49, octets as u64, octets as u64 + 1, u64::MAX]);
+    let mut from = 0;
+    for _ in 0..3 {
+        let case = Case::new(
+            Kind::SendLog,
+            values![
+                &state[..],
+                indications,
+                &samples[from..],
+                &ancillary[from.min(ancillary.len())..],
+                &log[..],
+                place
+            ],
+        );
+        let answer = referee.call(case)?;
+        state = answer[1].run().to_vec();
+        from += answer[4].number() as usize;
+        let octets = random.place(250);
+        log = random.octets(octets);
+        place = random.pick(&[0, 1, 48]);
+    }
+    Ok(())
 }
 
 /// A receiver's count: mostly 0 before the first cell, and often so large that a few cells more pass 4,294,967,295.

@@ -100,10 +100,9 @@ pub fn walk(random: &mut Random, referee: &mut Referee) -> Played {
     Ok(())
 }
 
-/// A log walked through by a state that mostly fits it, with room that often ends before it, and gone on with.
-pub fn judge(random: &mut Random, referee: &mut Referee) -> Played {
-    let log = log(random);
-    let header = plain::header(&log).map(|header| [header.format, header.channels, header.order]);
+/// A state that mostly fits a log.
+fn state_for(log: &[u8], random: &mut Random) -> Vec<u64> {
+    let header = plain::header(log).map(|header| [header.format, header.channels, header.order]);
     let [format, channels, order] = header.unwrap_or_else(|_| setup(random));
     let mut state = vec![format, channels, order, 0, 0, 0];
     if random.one_in(3) {
@@ -113,6 +112,13 @@ pub fn judge(random: &mut Random, referee: &mut Referee) -> Played {
         state.splice(3.., [random.pick(&[1, 1, 255]), last, count]);
     }
     damage_state(&mut state, 8, random);
+    state
+}
+
+/// A log walked through by a state that mostly fits it, with room that often ends before it, and gone on with.
+pub fn judge(random: &mut Random, referee: &mut Referee) -> Played {
+    let log = log(random);
+    let mut state = state_for(&log, random);
     let mut place = random.pick(&[3, 3, 3, 0, 52, u64::MAX]);
     for _ in 0..3 {
         let room = random.place(5 * (log.len() / 49) + 12);
@@ -121,6 +127,37 @@ pub fn judge(random: &mut Random, referee: &mut Referee) -> Played {
         let answer = referee.call(case)?;
         state = answer[1].run().to_vec();
         place = answer[3].number();
+    }
+    Ok(())
+}
+
+/// A log received by such a state, in runs that are often too short and at times unequally long, and gone on with. At times the log
+/// comes in pieces: what is left of one goes to the front of the next.
+pub fn receive(random: &mut Random, referee: &mut Referee) -> Played {
+    let whole = log(random);
+    let mut state = state_for(&whole, random);
+    let mut place = random.pick(&[3, 3, 3, 0, 52, u64::MAX]);
+    let mut log = whole.clone();
+    let mut behind = Vec::new();
+    if random.one_in(3) {
+        behind = log.split_off(random.place(log.len() + 1));
+    }
+    for _ in 0..4 {
+        let most = random.pick(&[60, 300, 720, 3000]);
+        let room = random.place(most);
+        let short = |random: &mut Random| if random.one_in(20) { random.place(most) } else { room };
+        let samples: Vec<u64> = (0..room).map(|_| random.below(100)).collect();
+        let (ancillary, marks) = (short(random), short(random));
+        let (ancillary, marks) = (random.octets(ancillary), random.octets(marks));
+        let case =
+            Case::new(Kind::ReceiveLog, values![&state[..], &log[..], place, &samples[..], &ancillary[..], &marks[..]]);
+        let answer = referee.call(case)?;
+        state = answer[1].run().to_vec();
+        place = answer[5].number();
+        if answer[7].number() == 12 && !behind.is_empty() {
+            log = [&log[place as usize..], &behind[..]].concat();
+            (behind, place) = (Vec::new(), 0);
+        }
     }
     Ok(())
 }
@@ -152,6 +189,30 @@ fn silent_log(random: &mut Random) -> Vec<u8> {
 pub fn anything(random: &mut Random, referee: &mut Referee) -> Played {
     let log = if random.one_in(4) { log(random) } else { silent_log(random) };
     referee.call(Case::new(Kind::Anything, values![&log[..]])).map(|_| ())
+}
+
+/// How a log is divided: into pieces of one length, whatever that is, or of lengths about those of records, now and then none.
+fn division(length: usize, random: &mut Random) -> Vec<u64> {
+    let longest = random.pick(&[8, 150]);
+    let (each, even) = (1 + random.below(longest), random.one_in(2));
+    let (mut left, mut lengths) = (length, vec![]);
+    while left > 0 && lengths.len() < 2000 {
+        let about = [0, 1, 2, 3, 8, 9, 46, 48, 49, 50, 52, 97, 98, 99, 1000];
+        let piece = if even { each } else { random.pick(&about) };
+        lengths.push(piece);
+        left = left.saturating_sub(piece as usize);
+    }
+    lengths
+}
+
+/// A log in pieces, by each of the four.
+pub fn pieces(random: &mut Random, referee: &mut Referee) -> Played {
+    let log = if random.one_in(3) { silent_log(random) } else { log(random) };
+    for kind in [Kind::ListPieces, Kind::SalvagePieces, Kind::AnythingPieces, Kind::FiguresPieces] {
+        let lengths = division(log.len(), random);
+        referee.call(Case::new(kind, values![&log[..], &lengths[..]]))?;
+    }
+    Ok(())
 }
 
 /// Now and then the log goes on with records of zeros, past what `linelist` reads at a time.

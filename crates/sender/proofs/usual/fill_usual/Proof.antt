@@ -2,7 +2,7 @@
 -- Assumes nothing.
 use mathlib.Core.Bool.{false}
 use mathlib.Core.Path.{refl}
-use Prim.Native.Nat.{_-_}
+use Prim.Native.Nat.{_-_, _≤_, _<_}
 use native.Mathlib.Omega.{arith}
 use denote.Ref.{now}
 use lib.ListN as L
@@ -28,6 +28,13 @@ so-far : (c : tie.In-loop Inv-loop μ-loop)
     (c .before .loop .cell) (c .before .loop .slot)
 so-far c = let s = from c in c .before .loop .inv (s .args .set) (s .pre .0) (s .pre .1) (s .pre .2)
 
+-- twelve slots are all that there are
+less : (c : tie.In-loop Inv-loop μ-loop) → c .before .loop .slot < L.length (now (from c .args .samples))
+less c = omega (arith, from c .pre .4, c .loop-test .taken)
+
+sample-there : tie.Need-shared-slice-read-sample Inv-loop μ-loop
+sample-there c = less (c .before)
+
 loop-holds : tie.Need-loop-holds Inv-loop μ-loop
 loop-holds c =
     let a = c .before .before .before .args in
@@ -44,12 +51,12 @@ subframe-requires c κs =
 mul-put-four : tie.Need-mul-put-four Inv-loop μ-loop
 mul-put-four c =
     let l = c .before .before .before .before .before .before in
-    omega (arith, used-room (from l .pre .0) (from l .pre .2) (l .loop-test .taken))
+    omega (arith, used-room (from l .pre .0) (from l .pre .2) (less l))
 
 put-four-requires : tie.Need-put-four-requires Inv-loop μ-loop
 put-four-requires c κs =
     let l = c .before .before .before .before .before .before in
-    let given = from l .pre in put-ready (given .0) (given .2) (l .loop-test .taken) (so-far l .same) (given .3) .0
+    let given = from l .pre in put-ready (given .0) (given .2) (less l) (so-far l .same) (given .3) .0
 
 loop-again : tie.Need-loop-again Inv-loop μ-loop
 loop-again c =
@@ -59,8 +66,8 @@ loop-again c =
     let few = c .before .before .before .before .before .wide in
     λ set p by named.
     filling-on set (a .sequence) (now (a .samples)) (now (a .ancillary)) (now (a .cell)) (here .inv set p by named)
-    (l .loop-test .taken) (named .width-is)
-    (guarded-number p named (in-order p by) (l .loop-test .taken) (few .ensures .0) refl (c .before .before .before .before .subframe .ensures))
+    (less l) (named .width-is)
+    (guarded-number p named (in-order p by) (less l) (few .ensures .0) refl (c .before .before .before .before .subframe .ensures))
     (c .before .before .put-four .ensures) (c .before .before .put-four .kept .0)
 
 ended : (c : tie.After-loop Inv-loop μ-loop)
@@ -71,16 +78,20 @@ ended c =
     let s = c .before .before .before .before .before in
     c .before .loop .inv (s .args .set) (s .pre .0) (s .pre .1) (s .pre .2)
 
+all : (c : tie.After-loop Inv-loop μ-loop)
+    → L.length (now (c .before .before .before .before .before .args .samples)) ≤ c .before .loop .slot
+all c = omega (arith, c .before .before .before .before .before .pre .4, c .loop-test .left)
+
 same-length : tie.Need-same-length Inv-loop μ-loop
 same-length c = ended c .same
 
 returns : tie.Need-returns Inv-loop μ-loop
 returns c =
     let a = c .before .before .before .before .before .args in
-    filling-done (a .set) (a .sequence) (now (a .samples)) (now (a .ancillary)) (now (a .cell)) (ended c) (c .loop-test .left)
+    filling-done (a .set) (a .sequence) (now (a .samples)) (now (a .ancillary)) (now (a .cell)) (ended c) (all c)
 
 pub fill-usual-spec : {M : Type 1} → statement M
 fill-usual-spec =
     tie.close
-    (tie.spec Inv-loop μ-loop loop-holds (search needs) (search needs) (search needs) (search needs) (search needs) (search needs)
+    (tie.spec Inv-loop μ-loop loop-holds (search needs) (search needs) sample-there (search needs) (search needs) (search needs)
     subframe-requires mul-put-four put-four-requires (search needs) (search needs) loop-again same-length returns)

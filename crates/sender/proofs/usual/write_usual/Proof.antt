@@ -51,6 +51,7 @@ fill-usual-requires c κs =
       usual-in-order (from u .pre .0) (u .usual .ensures),
       usual-named (from u .pre .0) (u .usual .ensures),
       ready e .1,
+      from u .pre .0 .samples-are,
     )
 
 returns-2 : tie.Need-returns-2
