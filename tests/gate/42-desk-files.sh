@@ -63,7 +63,7 @@ same small.log got "a log by standard output's other name"
 "$desk" salvage -q small.log stdout --force >> got 2> said
 cat small.log small.log | cmp - got || fail "what is added to a file by standard output's other name"
 ends 3 "pipe: isn't whole, and what was written there can't be taken back" hooked 2 60000 "$desk" salvage read.log pipe --force
-timeout 5 head -c 50000 <&8 > got || true # empties the pipe; what lies in it is no file
+timeout 5 head -c 50000 <&8 > got || fail "a pipe: 50,000 octets of what was written can't be read"
 
 # Links are followed, the mode and the owner stay, and everything reaches the disk before it is said to be well.
 mkdir near far
