@@ -1,3 +1,4 @@
+#![tactic(auto)]
 // Subframe formats, document 01: what the subframe octet says, and checks 1 to 3 (octet, C, order) in the paper's order.
 ghost use Rattle.std.specs.Prelude.{cond, ◌≡◌, ◌/◌, ◌≤◌};
 ghost use Rattle.formats.specs.Formats.{sample_bits, format_of};

@@ -1,3 +1,4 @@
+#![tactic(auto)]
 // Protection of a sample, document 01: the three bits as a table. tools/tables.py prints its numbers.
 ghost use Rattle.std.specs.Prelude.{◌≡◌};
 ghost use Rattle.guards.specs.Code.{seven_guards};

@@ -1,3 +1,4 @@
+#![tactic(auto)]
 // The sequencing word, document 01: the cell number and its protection, the second number, and the difference of numbers.
 ghost use Rattle.std.specs.Prelude.{◌≡◌, ◌*◌, ◌%◌};
 ghost use Rattle.runs.specs.Division.{remainder};

@@ -120,11 +120,11 @@ module _ (degree divisor : ℕ) (from : 2 ^ degree ≤ divisor) (to : divisor < 
       split (ltb (rest * 2 + bit) (2 ^ degree))
       (λ t.
       one_more p product rest n 0 (rw t)
-      (divides p _ (rest * 2 + bit) n (ltb-true _ _ t)
+      (divides p (bit_xor (product * 2) (0 * divisor)) (rest * 2 + bit) n (ltb-true _ _ t)
       (down ∙ ap (λ (m : ℕ). bit_xor m (rest * 2 + bit)) (sym (ap (bit_xor (product * 2)) (zero-mul divisor) ∙ xor_zero_r (product * 2))))))
       (λ t.
       one_more p product rest n 1 (rw t)
-      (divides p _ (bit_xor (rest * 2 + bit) divisor) n
+      (divides p (bit_xor (product * 2) (1 * divisor)) (bit_xor (rest * 2 + bit) divisor) n
       (highest_off (rest * 2 + bit) (ltb-false _ _ t) (rw (add-one, pow-suc) (omega (arith, less, small))))
       (down
       ∙ sym (same (product * 2) (rest * 2 + bit) divisor)

@@ -9,7 +9,7 @@ use base.Logic.{SProp, ent}
 use contract.Fact.{fact_use}
 use contract.Lifetimes.{Lfts}
 use contract.Monad.{fact}
-use denote.Ref.{Bor}
+use denote.Ref.{Bor, MutBor}
 use denote.Triple.Clauses.{Lasts, at_exit}
 
 -- over the contract itself, by its reading: ps, r and Post are those of the function's modules Kinds and Reads. Called with `a`, no
@@ -25,7 +25,11 @@ pub record Place : Type 0 where
   pub name : GName
 
 abbrev pub lent : {X : Type 0} → Place → X → Bor X
-lent p x = record { ref_ptr = p.ptr; ghost_name = p.name; now = x }
+lent p x = record { ref_ptr = p.ptr; now = x }
+
+-- the same where it may be written
+abbrev pub lent_mut : {X : Type 0} → Place → X → MutBor X
+lent_mut p x = record { ref_ptr = p.ptr; ghost_name = p.name; now = x }
 
 -- where a contract is stated over its clauses: what it says of an answer can't be, so the answer doesn't meet it
 pub ruled_out : {M : Type 1} (𝓤 : Ura M) {Ensures : SProp 𝓤} (Says : Type 0) → ent 𝓤 Ensures (fact 𝓤 Says) → (Says → ⊥) → ent 𝓤 Ensures (fact 𝓤 ⊥)

@@ -7,7 +7,7 @@ use Prim.Native.Nat.{ℕ}
 use native.Mathlib.Omega.{arith}
 use contract.Lifetimes.{Lfts}
 use lib.ListN.{get_or, replicate}
-use Rattle.runs.proofs.Wrong.{Never, Place, lent}
+use Rattle.runs.proofs.Wrong.{Never, Place, lent, lent_mut}
 use Rattle.text.specs.declared.Put.{Put}
 use Rattle.text.specs.Put.{Filling, put_one, put_all}
 use Rattle.text.specs.Text.{digits_of}
@@ -35,7 +35,7 @@ module _ (κs : Lfts 2) (p q : Place) where
   abbrev Two : ℕ → (Put → List ℕ → Type 0) → Type 0
   Two room Wrong =
       Never put-all-kinds.ps put-all-kinds.r put-all-reads.Post κs
-      (lent p (zeros room), (from 1, (lent q (words "ab"), tt))) (λ x v. Wrong x v.0)
+      (lent_mut p (zeros room), (from 1, (lent q (words "ab"), tt))) (λ x v. Wrong x v.0)
 
   -- letters that don't fit told as put
   pub cut_not_whole : Two 2 (λ x run. x.whole ≡ true)
@@ -52,7 +52,7 @@ module _ (κs : Lfts 2) (p q : Place) where
   abbrev Item : (Put → List ℕ → Type 0) → Type 0
   Item Wrong =
       Never put-item-kinds.ps put-item-kinds.r put-item-reads.Post κs
-      (lent p (zeros 4), (from 0, (lent q (words "k"), (12, tt)))) (λ x v. Wrong x v.0)
+      (lent_mut p (zeros 4), (from 0, (lent q (words "k"), (12, tt)))) (λ x v. Wrong x v.0)
 
   -- the number before the letter, and one octet too few told
   pub words_first : Item (λ x run. get_or run 0 0 ≡ 49)
@@ -66,7 +66,7 @@ module _ (κs : Lfts 2) (p q : Place) where
 module _ (κs : Lfts 1) (p : Place) where
   abbrev Number : ℕ → (Put → List ℕ → Type 0) → Type 0
   Number n Wrong =
-      Never put-number-kinds.ps put-number-kinds.r put-number-reads.Post κs (lent p (zeros 4), (from 0, (n, tt))) (λ x v. Wrong x v.0)
+      Never put-number-kinds.ps put-number-kinds.r put-number-reads.Post κs (lent_mut p (zeros 4), (from 0, (n, tt))) (λ x v. Wrong x v.0)
 
   -- the digits from the last one on
   pub digits_not_turned_round : Number 12 (λ x run. get_or run 0 0 ≡ 50)

@@ -1,3 +1,4 @@
+#![tactic(auto)]
 // Text for programs: words and decimal numbers put one after the other into a lent run, as far as it goes. What no longer fits is left
 // out, and the answer says so.
 ghost use Rattle.std.specs.Prelude.{[], ◌∷◌, ◌≡◌, ◌+◌, ◌%◌, ◌≤◌, length, take};

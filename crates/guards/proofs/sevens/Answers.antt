@@ -5,12 +5,8 @@ use Rattle.runs.specs.Runs.{tab}
 use Rattle.runs.specs.Division.{coefficients, divided, taken_down}
 use Rattle.guards.specs.Guards.{nine_of, protected_bits, ten_guard, guard_of}
 use Rattle.guards.specs.Code.{seven_guards}
-use Rattle.guards.proofs.sevens.Statement.{statement}
-use Rattle.guards.proofs.sevens.Tie as tie
+use Rattle.guards.proofs.sevens.Goals as goal
 
-returns : tie.Need-returns
+pub returns : goal.returns
 unfolding seven_guards tab guard_of nine_of protected_bits ten_guard coefficients divided taken_down
 returns c = refl
-
-pub sevens-spec : {M : Type 1} → statement M
-sevens-spec = tie.close (tie.spec returns)

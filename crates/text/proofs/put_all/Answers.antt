@@ -1,0 +1,19 @@
+-- `text::put_all` meets its contract.
+-- Assumes nothing.
+use mathlib.Core.Path.{refl}
+use native.Mathlib.Omega.{arith}
+use Rattle.text.proofs.Laws.{puts_nothing, puts_beyond, puts_room, puts_some}
+use Rattle.text.proofs.put_all.Goals as goal
+
+pub returns-then-count-eq0 : goal.returns-then-count-eq0
+returns-then-count-eq0 c = puts_nothing _ _ _ c.if-count-eq0.true
+
+pub returns-then-end-place : goal.returns-then-end-place
+returns-then-end-place c = puts_beyond _ _ _ (omega (arith, c.if-end-place.true)) c.if-count-eq0.false
+
+pub returns-then-count-room : goal.returns-then-count-room
+returns-then-count-room c = puts_room _ _ _ (omega (arith, c.if-count-room.true, c.if-end-place.false)) c.copied.ensures
+
+pub returns : goal.returns
+returns c = puts_some _ _ _ (omega (arith, c.if-end-place.false)) refl (omega (arith, c.if-count-room.false)) c.copied-2.ensures
+    c.copied-2.auto.run
