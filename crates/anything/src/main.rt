@@ -1,3 +1,4 @@
+#![tactic(auto)]
 // `anything`, request 7: prints whether there is anything on a log at all, from the file that its argument names or from standard
 // input. Everything that matters is in `presence`; here the log is read piece by piece, and the answer's line is written.
 ghost use Rattle.std.specs.Prelude.{true, ◌≡◌, ◌≤◌, length, take};

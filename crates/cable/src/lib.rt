@@ -1,3 +1,4 @@
+#![tactic(auto)]
 // Frames of an AES3 cable (source document 002, 2.2.1), request 1 of document 02: import into two entries of format 56 hex, and
 // export back. A subframe is a number of 32 bits, time slot k being worth 2^k; a preamble is its letter's octet.
 ghost use Rattle.std.specs.Prelude.{◌≡◌, ◌/◌, ◌^◌, ◌≤◌, ◌<◌};
@@ -16,7 +17,7 @@ ghost use Rattle.cable.specs.Frames.{
 };
 
 // What a frame brings: the samples and ancillary numbers of its first and its second half. Zeros where it is refused.
-#[derive(Drop)]
+#[derive(Clone, Copy)]
 pub struct Imported {
     pub refusal: u8,
     pub samples: [u64; 2],
@@ -24,7 +25,7 @@ pub struct Imported {
 }
 
 // A frame: the preambles and subframes of its first and its second half. Zeros where it is refused.
-#[derive(Drop)]
+#[derive(Clone, Copy)]
 pub struct Exported {
     pub refusal: u8,
     pub preambles: [u8; 2],

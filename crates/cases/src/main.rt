@@ -1,3 +1,4 @@
+#![tactic(auto)]
 // The paper's cases that aren't proved, and Appendix 2's examples: a file for each section. What they write is compared with
 // the file `stdout`.
 use libc::STDOUT_FILENO;

@@ -15,7 +15,7 @@ ghost use Rattle.cell_log.specs.Written.{
 };
 
 // What writing into a lent log answers: the refusal (0: none), and the place after what was written, zero where it is refused.
-#[derive(Drop)]
+#[derive(Clone, Copy)]
 pub struct Kept {
     pub refusal: u8,
     pub next: usize,

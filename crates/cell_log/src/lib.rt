@@ -1,3 +1,4 @@
+#![tactic(auto)]
 // The log, document 01: its numbers, its header and its records, read from a lent log. A place is a count of octets from the
 // log's start.
 ghost use Rattle.std.specs.Prelude.{◌≡◌, ◌<◌, ◌≤◌};
@@ -9,7 +10,7 @@ pub mod keep; // keep.rt: writing a log
 pub mod reader; // reader.rt: the reader that holds a lent log and a place
 
 // A log number: the refusal (0: none), its value and the place after it, both zero where it is refused.
-#[derive(Drop)]
+#[derive(Clone, Copy)]
 pub struct Number {
     pub refusal: u8,
     pub value: u32,
@@ -17,7 +18,7 @@ pub struct Number {
 }
 
 // A log's header: the refusal (0: none), the place after it, and its three numbers, all zero where it is refused.
-#[derive(Drop)]
+#[derive(Clone, Copy)]
 pub struct Header {
     pub refusal: u8,
     pub place: usize,
@@ -28,7 +29,7 @@ pub struct Header {
 
 // What stands at a place: the refusal (0: none); what it is (1: a cell, 0: the end or a refusal); its indication; where its 48
 // octets start; the next place. At the end the next place is the place given; all else is zero there, and all where it is refused.
-#[derive(Drop)]
+#[derive(Clone, Copy)]
 pub struct Record {
     pub refusal: u8,
     pub what: u8,

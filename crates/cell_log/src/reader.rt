@@ -6,7 +6,7 @@ ghost use Rattle.cell_log.specs.Records.{record_at, place_after, cell_at};
 
 use crate::Record;
 
-#[derive(Drop)]
+#[derive(Clone, Copy)]
 pub struct Reader<'a> {
     pub log: &'a [u8],
     pub place: usize,

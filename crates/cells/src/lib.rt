@@ -1,3 +1,4 @@
+#![tactic(auto)]
 // Cells, document 01: one subframe, placement, and a whole cell there and back. Packing stands with the sender and unpacking with
 // the receiver. Here are the laws that both share, and the few steps of the code that both take.
 ghost use Rattle.std.specs.Prelude.{◌≡◌, ◌-◌, ◌%◌, ◌^◌, ◌<◌};

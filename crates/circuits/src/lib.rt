@@ -1,3 +1,4 @@
+#![tactic(auto)]
 // Sharing channels out over circuits, request 11 of document 02: a checker of anyone's plan, and a plain planner. A plan is a run of
 // shares, the channels that each circuit carries; all circuits have one format.
 ghost use Rattle.std.specs.Prelude.{◌≡◌, ◌≤◌, length};
@@ -14,7 +15,7 @@ ghost use Rattle.circuits.specs.Circuits.{
 };
 
 // What the checker says of a plan; a circuit is counted from 0.
-#[derive(Drop)]
+#[derive(Clone, Copy)]
 pub enum Verdict {
     // the numbers asked about were refused, by this number
     Refused(u8),

@@ -1,3 +1,4 @@
+#![tactic(auto)]
 // A quarter's figures, request 3: one sheet over many logs, and the figures of one log that is taken in pieces.
 ghost use Rattle.std.specs.Prelude.{◌≡◌, ◌*◌, ◌≤◌, eqb, length};
 ghost use Rattle.figures.specs.Adding.{Adds, closed_of};
@@ -17,7 +18,7 @@ mod sums; // sums.rt: counts added up
 mod told; // told.rt: what the receiver makes of a cell
 
 // What is counted of records, each number no further than 4,294,967,296, which is too many.
-#[derive(Drop)]
+#[derive(Clone, Copy)]
 pub struct Counts {
     pub sound: u64,
     pub missing: u64,
@@ -31,21 +32,21 @@ pub struct Counts {
 }
 
 // The receiver's state, and what was counted so far.
-#[derive(Drop)]
+#[derive(Clone, Copy)]
 pub struct Noted {
     pub state: Receiver,
     pub counts: Counts,
 }
 
 // The figures of a log under way: where it stands, and what was counted.
-#[derive(Drop)]
+#[derive(Clone, Copy)]
 pub struct Tally {
     pub standing: Standing,
     pub noted: Noted,
 }
 
 // The refusal (0: none), and the row of all logs together, which is zeros where it is refused.
-#[derive(Drop)]
+#[derive(Clone, Copy)]
 pub struct Answer {
     pub refusal: u8,
     pub totals: [u32; 10],

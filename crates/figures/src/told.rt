@@ -10,7 +10,7 @@ use formats::{Format, Settled};
 use receiver::Receiver;
 
 // The refusal (0: none), how many cells are missing before this one, and the state to go on with.
-#[derive(Drop)]
+#[derive(Clone, Copy)]
 pub(crate) struct Told {
     pub refusal: u8,
     pub missing: u8,

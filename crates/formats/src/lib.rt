@@ -6,7 +6,7 @@ ghost use Rattle.formats.specs.Settings.{settings_of, unsettled_by};
 ghost use Rattle.formats.specs.Code.{refusal_by, is_usual, usual_with};
 
 // One subframe in bits, and how many octets wide it is; S, the slots in a cell. All zeros stand for no format.
-#[derive(Drop)]
+#[derive(Clone, Copy)]
 pub struct Format {
     pub sample_bits: u64,
     pub ancillary_bits: u64,
@@ -17,7 +17,7 @@ pub struct Format {
 
 // What an octet, C and an order settle: the refusal (0: none), the format, C, T, and whether the order is 1. All else is zero
 // where they are refused.
-#[derive(Drop)]
+#[derive(Clone, Copy)]
 pub struct Settled {
     pub refusal: u8,
     pub format: Format,

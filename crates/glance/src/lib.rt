@@ -1,3 +1,4 @@
+#![tactic(auto)]
 // A look at one cell: what its own entries hold, without writing them anywhere.
 ghost use Rattle.std.specs.Prelude.{true, ◌≡◌, ◌+◌, ◌^◌, ◌≤◌, ◌<◌, length, take, drop};
 ghost use Rattle.runs.specs.Runs.{number_of};
@@ -99,7 +100,7 @@ fn among(format: Format, cell: &[u8], used: usize) -> bool
 
 // The bits of a cell's octets that are a sample's, in three words of eight octets each, the first octet lowest. The other half of
 // the cell has the same.
-#[derive(Drop)]
+#[derive(Clone, Copy)]
 struct Masks {
     first: u64,
     second: u64,

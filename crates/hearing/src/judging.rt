@@ -9,7 +9,7 @@ use cell_log::Record;
 use receiver::{Received, Receiver};
 
 // The refusal of the call (0: none); the state to go on with, the next place, the records judged, and why it stopped.
-#[derive(Drop)]
+#[derive(Clone, Copy)]
 pub struct Judged {
     pub refusal: u8,
     pub state: Receiver,

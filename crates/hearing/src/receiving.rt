@@ -10,7 +10,7 @@ use receiver::{Received, Receiver};
 
 // The refusal of the call (0: none); the state to go on with, the next place, the entries written, and why it stopped; cells taken,
 // missing before them, and refused by 8, 9, 15 and 20.
-#[derive(Drop)]
+#[derive(Clone, Copy)]
 pub struct Batch {
     pub refusal: u8,
     pub state: Receiver,

@@ -1,3 +1,4 @@
+#![tactic(auto)]
 // `linelist`, document 01, "The log", and request 14: prints the list of a log as it reads it, from the file that its argument
 // names or from standard input. Everything that matters is in `listing`; here the log is read piece by piece, and its lines are
 // written.

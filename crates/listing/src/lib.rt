@@ -1,3 +1,4 @@
+#![tactic(auto)]
 // The list of a log, document 01, "The log", and request 14: what `linelist` prints of a log that it takes in pieces, as octets
 // written into a lent run.
 ghost use Rattle.std.specs.Prelude.{◌≡◌, nat_lt};
@@ -11,7 +12,7 @@ mod lines; // lines.rt: the lines of a list
 mod parts; // parts.rt: the lines of a log's parts, and the counts
 
 // The receiver's state and the counts so far: whole records, and the three of the end line.
-#[derive(Drop)]
+#[derive(Clone, Copy)]
 pub struct Tally {
     pub state: Receiver,
     pub records: usize,
@@ -21,14 +22,14 @@ pub struct Tally {
 }
 
 // A list under way: where its log stands, and the counts.
-#[derive(Drop)]
+#[derive(Clone, Copy)]
 pub struct Listing {
     pub standing: Standing,
     pub tally: Tally,
 }
 
 // What was written for a piece, and the list to go on with.
-#[derive(Drop)]
+#[derive(Clone, Copy)]
 pub struct Printed {
     pub listed: Put,
     pub listing: Listing,

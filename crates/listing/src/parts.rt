@@ -13,7 +13,7 @@ use receiver::{Received, Receiver};
 use text::Put;
 
 // What was written, and the counts to go on with.
-#[derive(Drop)]
+#[derive(Clone, Copy)]
 pub(crate) struct Stepped {
     pub past: Put,
     pub tally: Tally,

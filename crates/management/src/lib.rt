@@ -1,3 +1,4 @@
+#![tactic(auto)]
 // The management port, clause 8 of IEC 62365: what the equipment does with a message from the controlling entity, and what the
 // controlling entity does with a status message. It has its own archive; include/rime_management.h is its face.
 pub mod controller; // controller.rt: status messages taken

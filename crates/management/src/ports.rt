@@ -17,7 +17,7 @@ ghost use Rattle.management.specs.Code.{Inside};
 use crate::octets::number;
 
 // What a status enquiry asks for, and so each message: a port by its subsystem code and its selector, in a format.
-#[derive(Drop)]
+#[derive(Clone, Copy)]
 pub(crate) struct Enquiry {
     pub subsystem_code: u8,
     pub selector: u8,
@@ -28,7 +28,7 @@ pub(crate) struct Enquiry {
 
 // The port that fits best: how many aspects of the format asked for it doesn't support, and its place among the ports. 4 and 0 where
 // no port has that subsystem code and selector.
-#[derive(Drop)]
+#[derive(Clone, Copy)]
 pub(crate) struct Fit {
     pub misfits: u8,
     pub port: usize,

@@ -6,7 +6,7 @@ ghost use Rattle.numbers.specs.Numbers.{turned, entry_of, Finds, difference_of, 
 ghost use Rattle.numbers.specs.Code.{sequence_of};
 
 // The number that eight sequencing bits are, or nothing where they equal no entry of the table.
-#[derive(Drop)]
+#[derive(Clone, Copy)]
 pub enum Found {
     Number(u8),
     Nothing,

@@ -1,3 +1,4 @@
+#![tactic(auto)]
 // A log taken in pieces, request 14: what turns pieces of any length into the header and the records of the log. The octets of a
 // part that isn't whole yet are held in an array that the caller lends.
 ghost use Rattle.std.specs.Prelude.{◌≡◌, ◌+◌, ◌-◌, ◌<◌, ◌≤◌, length, take, drop};
@@ -23,7 +24,7 @@ mod ahead; // ahead.rt: how many whole records lie ahead
 // Where a log stands. Its stage: 0 in the header, 1 among the records, 2 the header is refused, 3 a record is broken; the
 // refusal, 0 before that; how many octets are held; how many octets the limit leaves, in the header those of the whole log;
 // how many records were handed out.
-#[derive(Drop)]
+#[derive(Clone, Copy)]
 pub struct Standing {
     pub stage: u8,
     pub fault: u8,
@@ -34,7 +35,7 @@ pub struct Standing {
 
 // What was found at a place of a piece: 0 nothing that is whole; 1 the header, which is the first three octets held; 2 a record in
 // the piece, at this place; 3 a record, which is the octets held; 4 a fault. Then the place to go on at, and the standing.
-#[derive(Drop)]
+#[derive(Clone, Copy)]
 pub struct Found {
     pub what: u8,
     pub next: usize,
@@ -313,7 +314,7 @@ pub fn record_octets(what: u8, held: &[u8; 49], piece: &[u8], place: usize) -> [
 }
 
 // Whole records that lie one behind the other in a piece: how many, the place behind them, and the standing there.
-#[derive(Drop)]
+#[derive(Clone, Copy)]
 pub struct Stretch {
     pub records: usize,
     pub next: usize,

@@ -1,3 +1,4 @@
+#![tactic(auto)]
 // Is there anything on it at all? Request 7: whether a log holds a sample marked 0 that isn't zero, and in which record first.
 ghost use Rattle.std.specs.Prelude.{◌≡◌, true, false, ◌++◌};
 ghost use Rattle.text.specs.Put.{Puts};
@@ -17,7 +18,7 @@ mod sounds; // sounds.rt: what one record says
 
 // The refusal of the header (0: none); whether there is a sample marked 0 that isn't zero; for a yes the first record with one,
 // counted from 0, for a no how many whole records were read. All else is zero where the header is refused.
-#[derive(Drop)]
+#[derive(Clone, Copy)]
 pub struct Presence {
     pub refusal: u8,
     pub found: bool,
@@ -72,7 +73,7 @@ pub fn anything(log: &[u8]) -> Presence
 
 // What is known behind a part of a log: the receiver's state, and the answer so far. Until a record says yes its number is how
 // many whole records were read.
-#[derive(Drop)]
+#[derive(Clone, Copy)]
 pub struct Sought {
     pub state: Receiver,
     pub refusal: u8,
@@ -81,7 +82,7 @@ pub struct Sought {
 }
 
 // A search under way: where its log stands, and what is known.
-#[derive(Drop)]
+#[derive(Clone, Copy)]
 pub struct Search {
     pub standing: Standing,
     pub sought: Sought,

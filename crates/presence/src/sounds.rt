@@ -5,7 +5,7 @@ ghost use Rattle.presence.specs.Presence.{said_of};
 use receiver::Receiver;
 
 // The state to go on with, and whether there was something.
-#[derive(Drop)]
+#[derive(Clone, Copy)]
 pub(crate) struct Said {
     pub state: Receiver,
     pub sounds: bool,

@@ -1,3 +1,4 @@
+#![tactic(auto)]
 // The receiver's box, document 01: opening and receiving, refusals 1 to 5, 8 to 10, 15 and 20.
 ghost use Rattle.std.specs.Prelude.{◌≡◌};
 ghost use Rattle.receiver.specs.Receiver.{opened_of, judged_of, Receives};
@@ -11,7 +12,7 @@ mod usual;
 
 // A receiver's state, in the paper's words: the subframe octet, C, the order, whether it is started, the last number, and how many
 // cells it has placed since it was opened, sound and missing together.
-#[derive(Drop)]
+#[derive(Clone, Copy)]
 pub struct Receiver {
     pub format: u8,
     pub channels: u8,
@@ -22,14 +23,14 @@ pub struct Receiver {
 }
 
 // The refusal (0: none) and the state to go on with.
-#[derive(Drop)]
+#[derive(Clone, Copy)]
 pub struct Ready {
     pub refusal: u8,
     pub state: Receiver,
 }
 
 // The refusal (0: none), the state to go on with, and the report; all of the report is zero where the cell is refused.
-#[derive(Drop)]
+#[derive(Clone, Copy)]
 pub struct Received {
     pub refusal: u8,
     pub state: Receiver,

@@ -1,3 +1,4 @@
+#![tactic(auto)]
 // The face for C, Rust and Python: each function takes octets apart, calls the proved function and puts the answer back.
 pub mod batches; // batches.rt: many records of a log in a call
 pub mod boxes; // boxes.rt: opening and sending, opening and receiving

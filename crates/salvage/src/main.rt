@@ -1,3 +1,4 @@
+#![tactic(auto)]
 // `salvage`, request 9: reads a log from the file that its argument names or from standard input, writes the new log to standard
 // output, and to standard error a line for each record left out and the counts. Everything that matters is in `salvaging`; here
 // the log is read piece by piece, to its end, and what is made of it is written.

@@ -1,3 +1,4 @@
+#![tactic(auto)]
 // Salvage of a log that is taken in pieces, request 9: the new log, and what is said of it, as octets written into two lent runs.
 ghost use Rattle.std.specs.Prelude.{◌≡◌};
 ghost use Rattle.salvaging.specs.Taking.{start_of, end_tally, Takes, Ends};
@@ -11,7 +12,7 @@ mod parts; // parts.rt: what is written of a log's parts, and the counts
 
 // The receiver's state and what is known so far: the header's refusal (0: none), the octets of the header and of the whole records,
 // the records kept, and those left out.
-#[derive(Drop)]
+#[derive(Clone, Copy)]
 pub struct Tally {
     pub state: Receiver,
     pub refusal: u8,
@@ -21,7 +22,7 @@ pub struct Tally {
 }
 
 // A salvage under way: where its log stands, the octets of the log so far, and the counts.
-#[derive(Drop)]
+#[derive(Clone, Copy)]
 pub struct Salvaging {
     pub standing: Standing,
     pub octets: usize,
@@ -29,7 +30,7 @@ pub struct Salvaging {
 }
 
 // What was written for a piece, of the new log and of the notes, and the salvage to go on with.
-#[derive(Drop)]
+#[derive(Clone, Copy)]
 pub struct Wrote {
     pub saved: Put,
     pub noted: Put,

@@ -15,7 +15,7 @@ use receiver::Received;
 use text::{Put, put_all};
 
 // What was written so far, and the counts to go on with.
-#[derive(Drop)]
+#[derive(Clone, Copy)]
 pub(crate) struct Stepped {
     pub saved: Put,
     pub noted: Put,

@@ -1,3 +1,4 @@
+#![tactic(auto)]
 // Salvage of a log, request 9: a new log with the same header and the records that a fresh receiver with room answers as sound,
 // beside it a list of the records left out.
 ghost use Rattle.std.specs.Prelude.{[], ◌∷◌, ◌≡◌, ◌+◌, ◌≤◌, ◌<◌, eqb, length};
@@ -10,7 +11,7 @@ ghost use Rattle.saving.specs.Salvage.{salvage_refusal, Salvages};
 use receiver::{Received, Receiver};
 
 // The refusal (0: none); the octets of the new log, the records left out, and the octets cut, all zero where it is refused.
-#[derive(Drop)]
+#[derive(Clone, Copy)]
 pub struct Salvaged {
     pub refusal: u8,
     pub octets: usize,
@@ -19,7 +20,7 @@ pub struct Salvaged {
 }
 
 // Where a walk through a log stands: the place, the records kept and left out so far, and the receiver's state.
-#[derive(Drop)]
+#[derive(Clone, Copy)]
 struct Standing {
     pub place: usize,
     pub kept: usize,

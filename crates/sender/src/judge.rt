@@ -61,7 +61,7 @@ pub(crate) fn state_refusal(
 
 // The bits that any sample has, and those that any ancillary number has. They are below a power of two just where all the numbers
 // are.
-#[derive(Drop)]
+#[derive(Clone, Copy)]
 struct AllBits {
     samples: u64,
     ancillary: u8,

@@ -1,3 +1,4 @@
+#![tactic(auto)]
 // The sender's box, document 01: opening and sending, refusals 1 to 7.
 ghost use Rattle.std.specs.Prelude.{◌≡◌};
 ghost use Rattle.sender.specs.Sender.{second_now, opened_of, Sends};
@@ -12,7 +13,7 @@ mod usual;
 
 // A sender's state, in the paper's words: the subframe octet, C, the order, the next cell's number, whether second numbers are
 // kept, the last one (the given start before the first cell), and whether a cell was sent.
-#[derive(Drop)]
+#[derive(Clone, Copy)]
 pub struct Sender {
     pub format: u8,
     pub channels: u8,
@@ -24,14 +25,14 @@ pub struct Sender {
 }
 
 // An opening's answer: the refusal (0: none) and the state to begin with.
-#[derive(Drop)]
+#[derive(Clone, Copy)]
 pub struct Ready {
     pub refusal: u8,
     pub state: Sender,
 }
 
 // A call's answer: the refusal (0: none) and the state to go on with.
-#[derive(Drop)]
+#[derive(Clone, Copy)]
 pub struct Sent {
     pub refusal: u8,
     pub state: Sender,

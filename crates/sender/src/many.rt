@@ -15,7 +15,7 @@ use crate::{Sender, judge, pack, usual};
 use formats::{Format, Settled};
 
 // The refusal of the call (0: none); the state to go on with, the next place, the entries taken, why it stopped, and the cells.
-#[derive(Drop)]
+#[derive(Clone, Copy)]
 pub struct Batch {
     pub refusal: u8,
     pub state: Sender,
@@ -26,7 +26,7 @@ pub struct Batch {
 }
 
 // How many cells were written, and the state after them.
-#[derive(Drop)]
+#[derive(Clone, Copy)]
 struct Reached {
     state: Sender,
     cells: usize,

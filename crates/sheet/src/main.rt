@@ -1,3 +1,4 @@
+#![tactic(auto)]
 // `sheet`, request 3: prints one table over many logs, from the files that its arguments name or from standard input, where each
 // log stands after its length. Everything that matters is in `table`; here the logs are read piece by piece, and the lines are
 // written when all are read.

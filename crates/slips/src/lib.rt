@@ -1,3 +1,4 @@
+#![tactic(auto)]
 // Slips, told by second numbers: cells that are missing beside those that the receiver tells missing.
 ghost use Rattle.std.specs.Prelude.{◌≡◌, ◌≤◌};
 ghost use Rattle.slips.specs.Slips.{starts_of, behind_of};
@@ -20,7 +21,7 @@ ghost use Rattle.slips.specs.Watch.{
 use numbers::difference;
 
 // What is known of the cells before: a yes or no is 1 or 0, every other octet a number modulo 16.
-#[derive(Drop)]
+#[derive(Clone, Copy)]
 pub struct Watch {
     pub started: u8,
     pub number: u8,
@@ -33,7 +34,7 @@ pub struct Watch {
 
 // What a step leaves and tells. `what`: 0 nothing; 1 at least so many cells more are missing before the cell taken before this one; 2
 // that cell was out of step alone; 3 this cell is out of step, and the next one decides.
-#[derive(Drop)]
+#[derive(Clone, Copy)]
 pub struct Stepped {
     pub refusal: u8,
     pub watch: Watch,

@@ -1,3 +1,4 @@
+#![tactic(auto)]
 // Where a program reads a log from: the file that a word of its command line names, or standard input; and what it says where that
 // fails. What the system does is as its library's contracts assume.
 ghost use Rattle.std.specs.Prelude.{true, ◌≡◌, ◌≤◌, length};
@@ -13,7 +14,7 @@ pub use turns::{Turn, answered, first, goes_on, read, well};
 
 // A descriptor to read from, and how many octets of a lent name say what is read. Below 0: nothing is to be read, and why is said
 // already.
-#[derive(Drop)]
+#[derive(Clone, Copy)]
 pub struct Source {
     pub fd: i32,
     pub length: usize,

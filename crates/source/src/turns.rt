@@ -5,7 +5,7 @@ ghost use Rattle.source.specs.Turns.{first_turn, turn_of, Reads};
 
 // What to do: 1 go on, 2 finish, since the input ends, 3 say that the read failed, 4 say that more octets came than can be counted.
 // Then how many octets came, which lie at the start of the buffer, and how many may still come.
-#[derive(Drop)]
+#[derive(Clone, Copy)]
 pub struct Turn {
     pub what: u8,
     pub octets: usize,

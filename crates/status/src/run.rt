@@ -8,7 +8,7 @@ use crate::check::wide;
 use crate::step::{Block, Stepped, finished_with, step, unfinished_with};
 
 // What a run of steps leaves and hands out, and the entry that comes next.
-#[derive(Drop)]
+#[derive(Clone, Copy)]
 pub struct Ran {
     pub stepped: Stepped,
     pub next: usize,

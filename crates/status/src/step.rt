@@ -6,7 +6,7 @@ ghost use Rattle.status.specs.Step.{step_of, fit_of, unfinished, finished, is_re
 use crate::check::check_character;
 
 // A block under assembly: how many bits of it have come, and its octets.
-#[derive(Drop)]
+#[derive(Clone, Copy)]
 pub struct Block {
     pub bits: u8,
     pub octets: [u8; 24],
@@ -14,14 +14,14 @@ pub struct Block {
 
 // What a step hands out: refusal 14 or 0; the 24 octets of a finished block with answer 2 (the check character fits),
 // 1 (it doesn't) or 3 (none is carried), else 24 zeros with answer 0.
-#[derive(Drop)]
+#[derive(Clone, Copy)]
 pub struct Handed {
     pub refusal: u8,
     pub answer: u8,
     pub octets: [u8; 24],
 }
 
-#[derive(Drop)]
+#[derive(Clone, Copy)]
 pub struct Stepped {
     pub block: Block,
     pub handed: Handed,

@@ -1,3 +1,4 @@
+#![tactic(auto)]
 // Where a log stopped, and why: what `anything` and `sheet` say on standard error of a log that is refused or broken.
 ghost use Rattle.std.specs.Prelude.{◌≡◌};
 ghost use Rattle.stops.specs.Kept.{kept_with, kept_at};
@@ -10,7 +11,7 @@ mod lines; // lines.rt: the words of a line
 
 // What stopped it: 0 nothing, it ended well; 1 its header is refused; 2 a record is broken. Then the refusal, and how many whole
 // records are before it, which is the broken one's number.
-#[derive(Drop)]
+#[derive(Clone, Copy)]
 pub struct Stop {
     pub what: u8,
     pub refusal: u8,

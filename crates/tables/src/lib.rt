@@ -1,3 +1,4 @@
+#![tactic(auto)]
 // Three tables by the nine top bits of a sample: the protection bits, which the sender writes, and the marks with V and
 // without it, which the receiver gives and a sheet counts. tools/tables.py prints this file: change that, and not this.
 //

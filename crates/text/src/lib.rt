@@ -7,7 +7,7 @@ ghost use Rattle.text.specs.Put.{Puts};
 ghost use Rattle.text.specs.Text.{decimal, item};
 
 // How many octets were put into a run from its start, and whether they are all that were to be put.
-#[derive(Drop)]
+#[derive(Clone, Copy)]
 pub struct Put {
     pub octets: usize,
     pub whole: bool,

@@ -8,7 +8,7 @@ use formats::{Format, Settled};
 
 // The bits that any sample has, and those that any ancillary number has: they are below a power of two just where all the numbers
 // are.
-#[derive(Drop)]
+#[derive(Clone, Copy)]
 struct AllBits {
     samples: u64,
     ancillary: u8,

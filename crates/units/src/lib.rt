@@ -1,3 +1,4 @@
+#![tactic(auto)]
 // Data units of IEC 62379-5-2 (source document 004, 7.3) with synchronisation information absent, request 13 of document 02. What the
 // receiver wrote leaves as units of whole frames, and a unit that comes is read back. A frame is one subframe for each channel at one
 // time. Only formats without overhead leave this way.
@@ -9,7 +10,7 @@ mod pack;
 mod unpack;
 
 // The refusal (0: none); octets written, octets of a full unit, how many units. All else is zero where the export is refused.
-#[derive(Drop)]
+#[derive(Clone, Copy)]
 pub struct Exported {
     pub refusal: u8,
     pub octets: usize,
@@ -18,7 +19,7 @@ pub struct Exported {
 }
 
 // The refusal (0: none), and how many entries the unit had: 0 where it is refused.
-#[derive(Drop)]
+#[derive(Clone, Copy)]
 pub struct Entered {
     pub refusal: u8,
     pub entries: usize,
