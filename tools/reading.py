@@ -5,7 +5,7 @@ The first number. It starts from the statements of crates/line/proofs/Demands.an
 name that a statement or a definition says to its definition in specs/ (a declared type to its struct in src/, also of another
 crate), and prints each file with the lines reached, comments and the two pages' own statements counted in.
 
-A contract (`Meets..` in crates/line/specs/Contracts.antt) is counted but not followed: the code is proved to meet the `ensures` of
+A contract (`Meets..` in crates/line/specs/Calls.antt) is counted but not followed: the code is proved to meet the `ensures` of
 each public function; Ensures proves that a call that meets the `ensures` meets the contract; the demands are proved of every call
 that meets the contract.
 

@@ -21,7 +21,7 @@ use Rattle.reading.proofs.Totals.{total_joined}
 use Rattle.glance.specs.Glance.{is_sound, some, sound_at}
 use Rattle.figures.specs.Figures.{counts_of}
 use Rattle.presence.specs.Presence.{sounds, some_of, answer_of, presence_of}
-use Rattle.line.specs.Contracts.{MeetsSend}
+use Rattle.line.specs.Calls.{MeetsSend}
 use Rattle.line.specs.Line.{places}
 use Rattle.line.specs.Tools.{places_heard, sound_not_zero, ToolsTell}
 use Rattle.line.specs.Answers.{ToolsAnswer}

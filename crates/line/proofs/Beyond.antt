@@ -2,7 +2,7 @@
 -- citation.
 -- Assumes nothing.
 use Rattle.line.specs.Answers.{ToolsAnswer}
-use Rattle.line.specs.Contracts.{MeetsSend, MeetsReceive}
+use Rattle.line.specs.Calls.{MeetsSend, MeetsReceive}
 use Rattle.line.specs.Losses.{AnyLoss}
 use Rattle.line.specs.Tools.{ToolsTell}
 use Rattle.line.proofs.Answers as Answers

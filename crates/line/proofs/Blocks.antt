@@ -19,7 +19,7 @@ use Rattle.reading.specs.Heard.{given, hear}
 use Rattle.reading.specs.Totals.{Each}
 use Rattle.slips.specs.Slips.{starts_of, behind_of, slip_of}
 use Rattle.slips.specs.Reports.{told_after, told_of}
-use Rattle.line.specs.Contracts.{SendCall, MeetsSend, ReceiveCall, MeetsReceive}
+use Rattle.line.specs.Calls.{SendCall, MeetsSend, ReceiveCall, MeetsReceive}
 use Rattle.line.specs.Line.{Row, Sending, wrote, Fate, dropped, unaltered, Trip, Fair, longest, arrivals, OverTheLine}
 use Rattle.line.specs.Seconds.{CountsBlocks, TellsAll, SlipsExact}
 use Rattle.line.proofs.Opened.{opened}

@@ -11,7 +11,7 @@ use lib.ListN.{length, replicate}
 use Rattle.sender.specs.declared.Sender.{Sender}
 use Rattle.sender.specs.Sender as S
 use Rattle.reading.specs.Totals.{Each}
-use Rattle.line.specs.Contracts.{SendCall, MeetsSend, MeetsReceive}
+use Rattle.line.specs.Calls.{SendCall, MeetsSend, MeetsReceive}
 use Rattle.line.specs.Line.{Fate, unaltered, Fair, longest, wrote, arrivals, from_first_lem, all_lost, to_last, left_by, Demand3}
 use Rattle.line.proofs.Counts.{count_within}
 use Rattle.line.proofs.Examples.{studio, fresh, sending, trips, sends, receives, receives_in_a_row, honest_plays}

@@ -9,7 +9,7 @@ use Rattle.runs.specs.Runs.{over}
 use Rattle.numbers.specs.Numbers.{value_of}
 use Rattle.sender.specs.Sender as S
 use Rattle.receiver.specs.Receiver as R
-use Rattle.line.specs.Contracts.{SendCall, MeetsSend, ReceiveCall, MeetsReceive}
+use Rattle.line.specs.Calls.{SendCall, MeetsSend, ReceiveCall, MeetsReceive}
 use Rattle.line.specs.Demands.{send_table, receive_table, Refuses, SentNothing, ReceivedNothing, InSettings, GivesBack, Tells}
 use Rattle.line.proofs.Cells.{
   sent_refusal,

@@ -26,7 +26,7 @@ use Rattle.sender.specs.Sender as S
 use Rattle.sender.proofs.Laws as SL
 use Rattle.receiver.specs.declared.Receiver.{Receiver}
 use Rattle.receiver.specs.Receiver as R
-use Rattle.line.specs.Contracts.{SendCall, MeetsSend, ReceiveCall, MeetsReceive}
+use Rattle.line.specs.Calls.{SendCall, MeetsSend, ReceiveCall, MeetsReceive}
 use Rattle.line.specs.Demands.{send_table, receive_table, InSettings, IsDocument01's}
 
 -- the refusal of an answer is the refusal of the table

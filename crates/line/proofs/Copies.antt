@@ -12,7 +12,7 @@ use Rattle.receiver.specs.declared.Receiver.{Receiver}
 use Rattle.receiver.specs.declared.Received.{Received}
 use Rattle.receiver.specs.Receiver as R
 use Rattle.reading.specs.Records.{Whole as Arrival}
-use Rattle.line.specs.Contracts.{MeetsSend, ReceiveCall, MeetsReceive}
+use Rattle.line.specs.Calls.{MeetsSend, ReceiveCall, MeetsReceive}
 use Rattle.line.specs.Demands.{receive_table}
 use Rattle.line.specs.Line.{Fate, unaltered, handed, Demand3}
 use Rattle.line.proofs.Examples.{always_room, studio, studio_at, fresh, sent, trips, call, receiving, promised, receives, plays}

@@ -11,7 +11,7 @@ use Rattle.receiver.specs.declared.Receiver.{Receiver}
 use Rattle.receiver.specs.declared.Ready.{Ready}
 use Rattle.receiver.proofs.Count.{opened_count, refused_stays, taken_counts, taken_within}
 use Rattle.reading.specs.Totals.{total_of, count_of}
-use Rattle.line.specs.Contracts.{ReceiveCall, MeetsReceive}
+use Rattle.line.specs.Calls.{ReceiveCall, MeetsReceive}
 use Rattle.line.specs.Line.{Row, Receiving, left_by, CountsCells}
 use Rattle.line.proofs.Calls.{receives_or_nothing}
 

@@ -34,7 +34,7 @@ use Rattle.circuits.specs.declared.Verdict.{Verdict}
 use Rattle.circuits.specs.Circuits.{refusal_of, answer_of, circuit_of, octet_refusal, check_refusal, plan_refusal_of}
 use Rattle.figures.specs.declared.Answer.{Answer}
 use Rattle.figures.specs.Sheets.{sheet_refusal}
-use Rattle.line.specs.Contracts.{
+use Rattle.line.specs.Calls.{
   SendCall,
   MeetsSend,
   ReceiveCall,

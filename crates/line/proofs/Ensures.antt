@@ -1,4 +1,4 @@
--- Each contract of specs/Contracts follows from its function's own `ensures`, which the code is proved to meet. So Contracts needs no
+-- Each contract of specs/Calls follows from its function's own `ensures`, which the code is proved to meet. So Contracts needs no
 -- trust: a definition there that says more than the `ensures` is refused here. What is left to read is which parameter of a call
 -- stands where.
 -- Assumes nothing.
@@ -76,7 +76,7 @@ use Rattle.circuits.proofs.plan.Kinds as plan-circuits-kinds
 use Rattle.circuits.proofs.plan.Reads as plan-circuits-reads
 use Rattle.figures.proofs.sheet.Kinds as sheet-kinds
 use Rattle.figures.proofs.sheet.Reads as sheet-reads
-use Rattle.line.specs.Contracts.{
+use Rattle.line.specs.Calls.{
   MeetsSend,
   MeetsReceive,
   MeetsOpenSender,

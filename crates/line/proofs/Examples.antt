@@ -18,7 +18,7 @@ use Rattle.receiver.specs.Receiver as R
 use Rattle.receiver.proofs.Room as Room
 use Rattle.reading.specs.Records.{Whole as Arrival}
 use Rattle.reading.specs.Totals.{Each}
-use Rattle.line.specs.Contracts.{SendCall, MeetsSend, ReceiveCall, MeetsReceive}
+use Rattle.line.specs.Calls.{SendCall, MeetsSend, ReceiveCall, MeetsReceive}
 use Rattle.line.specs.Line.{
   Row,
   Sending,

@@ -18,7 +18,7 @@ use Rattle.cable.proofs.Rows.{row_back}
 use Rattle.cable.proofs.Wrong as cable
 use Rattle.sender.specs.Sender as S
 use Rattle.sender.proofs.Wrong as sender
-use Rattle.line.specs.Contracts.{SendCall, MeetsSend, ReceiveCall, MeetsReceive}
+use Rattle.line.specs.Calls.{SendCall, MeetsSend, ReceiveCall, MeetsReceive}
 use Rattle.line.specs.Demands.{InSettings}
 use Rattle.line.proofs.Demands.{demand_2}
 

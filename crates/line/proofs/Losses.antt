@@ -11,7 +11,7 @@ use lib.Seq.{take_at, drop_at}
 use Rattle.runs.proofs.Laws.{split}
 use Rattle.sender.specs.Sender as S
 use Rattle.reading.specs.Totals.{total_of, those, Each}
-use Rattle.line.specs.Contracts.{MeetsSend, MeetsReceive}
+use Rattle.line.specs.Calls.{MeetsSend, MeetsReceive}
 use Rattle.line.specs.Line.{Sending, is_lost, Trip, Place, handed, places_of}
 use Rattle.line.specs.Losses.{
   Since,

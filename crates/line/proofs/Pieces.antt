@@ -13,7 +13,7 @@ use Rattle.sender.specs.Sender as S
 use Rattle.receiver.specs.Receiver as R
 use Rattle.reading.specs.Totals.{those}
 use Rattle.slips.specs.Reports.{Report}
-use Rattle.line.specs.Contracts.{SendCall, ReceiveCall}
+use Rattle.line.specs.Calls.{SendCall, ReceiveCall}
 use Rattle.line.specs.Demands.{Tells}
 use Rattle.line.specs.Line.{is_lost, Trip, Place, places, handed_by, places_of}
 use Rattle.line.specs.Losses.{Since, after, comes_round, Told, story_from, taken_from, missing_before, places_with}

@@ -17,7 +17,7 @@ use Rattle.slips.specs.Reports.{Report, told_of, watched_from, no_watch, NeverLo
 use Rattle.slips.proofs.Exactly.{watch_exact, none_watched}
 use Rattle.slips.proofs.Rows.{Chain, Counted, rows_never_longer, rows_exact}
 use Rattle.slips.proofs.Watched.{watch_never_ahead}
-use Rattle.line.specs.Contracts.{MeetsSend, ReceiveCall, MeetsReceive}
+use Rattle.line.specs.Calls.{MeetsSend, ReceiveCall, MeetsReceive}
 use Rattle.line.specs.Line.{Sending, is_lost, Trip, Place, handed_by, places_of, left_by}
 use Rattle.line.specs.Losses.{
   Since,

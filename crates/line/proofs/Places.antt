@@ -15,7 +15,7 @@ use Rattle.sender.specs.Sender as S
 use Rattle.receiver.specs.declared.Receiver.{Receiver}
 use Rattle.receiver.specs.Receiver as R
 use Rattle.reading.specs.Totals.{total_of, those, Each}
-use Rattle.line.specs.Contracts.{MeetsSend, ReceiveCall, MeetsReceive}
+use Rattle.line.specs.Calls.{MeetsSend, ReceiveCall, MeetsReceive}
 use Rattle.line.specs.Line.{
   Row,
   Sending,

@@ -23,7 +23,7 @@ use Rattle.reading.specs.Records.{Whole}
 use Rattle.reading.specs.Totals.{total_of, count_of, Each}
 use Rattle.reading.proofs.Heard.{refused_gives}
 use Rattle.reading.proofs.Totals.{total_joined}
-use Rattle.line.specs.Contracts.{ReceiveCall, MeetsReceive}
+use Rattle.line.specs.Calls.{ReceiveCall, MeetsReceive}
 use Rattle.line.specs.Line.{
   Row,
   Receiving,

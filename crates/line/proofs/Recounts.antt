@@ -12,7 +12,7 @@ use Rattle.receiver.specs.declared.Receiver.{Receiver}
 use Rattle.receiver.specs.declared.Received.{Received}
 use Rattle.receiver.specs.Receiver as R
 use Rattle.reading.specs.Records.{Whole as Arrival}
-use Rattle.line.specs.Contracts.{MeetsSend, ReceiveCall}
+use Rattle.line.specs.Calls.{MeetsSend, ReceiveCall}
 use Rattle.line.specs.Line.{Fate, dropped, unaltered, Receiving, Demand3, CountsCells}
 use Rattle.line.proofs.Examples.{always_room, studio, studio_at, fresh, sent, trips, call, answered, plays}
 use Rattle.line.proofs.Opened.{opened}

@@ -44,7 +44,7 @@ use Rattle.circuits.proofs.Demand1 as circuits
 use Rattle.figures.specs.declared.Answer.{Answer}
 use Rattle.figures.specs.Sheets.{sheet_refusal}
 use Rattle.figures.proofs.Demand1 as figures
-use Rattle.line.specs.Contracts.{
+use Rattle.line.specs.Calls.{
   MeetsOpenSender,
   MeetsOpenReceiver,
   MeetsJudged,

@@ -16,7 +16,7 @@ use Rattle.receiver.specs.declared.Receiver.{Receiver}
 use Rattle.receiver.specs.Receiver as R
 use Rattle.receiver.proofs.Laws as RL
 use Rattle.receiver.proofs.Onward.{number_to, after_passes}
-use Rattle.line.specs.Contracts.{SendCall, ReceiveCall, MeetsReceive}
+use Rattle.line.specs.Calls.{SendCall, ReceiveCall, MeetsReceive}
 use Rattle.line.specs.Demands.{receive_table}
 use Rattle.line.specs.Line.{unaltered, spoiled, arrival_of, taken}
 use Rattle.line.proofs.Calls.{receives_or_nothing}

@@ -5,7 +5,7 @@ use mathlib.Core.Path.{◌≡◌, refl}
 use Prim.Native.Nat.{ℕ, zero, suc}
 use lib.ListN.{replicate}
 use Rattle.reading.specs.Totals.{those}
-use Rattle.line.specs.Contracts.{SendCall}
+use Rattle.line.specs.Calls.{SendCall}
 use Rattle.line.specs.Line.{Fate, dropped, unaltered, Trip, longest}
 use Rattle.line.specs.Losses.{story_from}
 use Rattle.line.specs.Seconds.{lost_before}

@@ -21,7 +21,7 @@ use Rattle.slips.specs.Reports.{Report, told_after, told_of, watched_from, no_wa
 use Rattle.slips.proofs.Exactly.{watch_exact, none_watched}
 use Rattle.slips.proofs.Rows.{Follow, Chain, Counted, rows_never_longer, rows_exact}
 use Rattle.slips.proofs.Watched.{First, watch_never_ahead}
-use Rattle.line.specs.Contracts.{SendCall, MeetsSend, ReceiveCall, MeetsReceive}
+use Rattle.line.specs.Calls.{SendCall, MeetsSend, ReceiveCall, MeetsReceive}
 use Rattle.line.specs.Line.{Row, Sending, is_lost, Trip, Place, handed_by, places_of, left_by}
 use Rattle.line.specs.Losses.{
   Since,

@@ -24,7 +24,7 @@ use Rattle.cells.specs.Cells.{eight_in}
 use Rattle.sender.specs.Sender as S
 use Rattle.receiver.specs.Receiver as R
 use Rattle.receiver.proofs.Indication.{never_15, bare_never_15}
-use Rattle.line.specs.Contracts.{SendCall, MeetsSend, ReceiveCall, MeetsReceive}
+use Rattle.line.specs.Calls.{SendCall, MeetsSend, ReceiveCall, MeetsReceive}
 use Rattle.line.specs.Demands.{receive_table, InSettings, GivesBack}
 use Rattle.line.specs.Line.{altered_in, WithRoom, Place, places, handed_by}
 use Rattle.line.proofs.Calls.{gives_back}

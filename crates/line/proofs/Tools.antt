@@ -22,7 +22,7 @@ use Rattle.reading.proofs.Totals.{total_joined}
 use Rattle.listing.specs.Lines.{format_line, end_line}
 use Rattle.listing.specs.List.{lines_of}
 use Rattle.saving.specs.Salvage.{new_log}
-use Rattle.line.specs.Contracts.{SendCall, MeetsSend, ReceiveCall}
+use Rattle.line.specs.Calls.{SendCall, MeetsSend, ReceiveCall}
 use Rattle.line.specs.Line.{
   Sending,
   Fate,

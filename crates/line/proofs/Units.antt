@@ -22,7 +22,7 @@ use Rattle.units.specs.Back.{ExportCall, MeetsExport, export_table, ReadCall, Me
 use Rattle.units.proofs.Laws.{export_taken}
 use Rattle.units.proofs.Demand1.{export_refusal_lem}
 use Rattle.units.proofs.Back.{back_whole}
-use Rattle.line.specs.Contracts.{SendCall, MeetsSend, ReceiveCall, MeetsReceive}
+use Rattle.line.specs.Calls.{SendCall, MeetsSend, ReceiveCall, MeetsReceive}
 use Rattle.line.specs.Demands.{receive_table, InSettings}
 use Rattle.line.specs.Units.{ExportsReceived, ComesBack}
 use Rattle.line.proofs.Cells.{sent_refusal, received_refusal, settings_none, used_in_lem, fits}

@@ -8,7 +8,7 @@ use Rattle.reading.specs.Totals.{total_of, count_of, those}
 use Rattle.figures.specs.declared.Counts.{Counts}
 use Rattle.figures.specs.Figures.{counts_of}
 use Rattle.presence.specs.Presence.{presence_of}
-use Rattle.line.specs.Contracts.{SendCall}
+use Rattle.line.specs.Calls.{SendCall}
 use Rattle.line.specs.Line.{is_lost, Trip, places_of, from_first_lem, to_last}
 use Rattle.line.specs.Tools.{is_unaltered, spoiled_times, copies, has_mark, not_zero, OfALog}
 

@@ -11,7 +11,7 @@ use Rattle.receiver.specs.Receiver as R
 use Rattle.status.specs.declared.step.Block.{Block}
 use Rattle.status.specs.declared.step.Stepped.{Stepped}
 use Rattle.cell_log.specs.declared.Record.{Record}
-use Rattle.line.specs.Contracts.{SendCall, ReceiveCall}
+use Rattle.line.specs.Calls.{SendCall, ReceiveCall}
 
 -- "It refuses exactly where document 01's table says so, under that number"; where it refuses, nothing was changed and nothing else
 -- is told

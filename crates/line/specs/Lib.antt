@@ -1,6 +1,6 @@
 pub mod Answers
 pub mod Cases
-pub mod Contracts
+pub mod Calls
 pub mod Demands
 pub mod Line
 pub mod Losses

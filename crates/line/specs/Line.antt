@@ -13,7 +13,7 @@ use Rattle.receiver.specs.declared.Ready.{Ready}
 use Rattle.receiver.specs.Receiver as R
 use Rattle.reading.specs.Records.{Whole as Arrival}
 use Rattle.reading.specs.Totals.{total_of, count_of, Each}
-use Rattle.line.specs.Contracts.{SendCall, ReceiveCall, MeetsOpenReceiver}
+use Rattle.line.specs.Calls.{SendCall, ReceiveCall, MeetsOpenReceiver}
 use Rattle.line.specs.Demands.{receive_table}
 
 -- calls in a row: the first starts in this state, each later one in the state that the one before it answered, and each is as the

@@ -5,7 +5,7 @@ use mathlib.Core.List.{List, [], ◌∷◌, ◌++◌, map, flat_map}
 use Rattle.sender.specs.Sender as S
 use Rattle.receiver.specs.declared.Receiver.{Receiver}
 use Rattle.reading.specs.Totals.{total_of, those}
-use Rattle.line.specs.Contracts.{SendCall, ReceiveCall}
+use Rattle.line.specs.Calls.{SendCall, ReceiveCall}
 use Rattle.line.specs.Line.{
   Fate,
   dropped,

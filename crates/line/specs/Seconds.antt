@@ -7,7 +7,7 @@ use Rattle.receiver.specs.declared.Receiver.{Receiver}
 use Rattle.receiver.specs.Receiver as R
 use Rattle.reading.specs.Totals.{total_of, those, Each}
 use Rattle.slips.specs.Reports.{Report, told_of, watched_from, no_watch, NeverLonger, NeverAhead, SpacedOut}
-use Rattle.line.specs.Contracts.{SendCall, ReceiveCall}
+use Rattle.line.specs.Calls.{SendCall, ReceiveCall}
 use Rattle.line.specs.Line.{Trip, Place, handed_by, places_of, left_by, OverTheLine}
 use Rattle.line.specs.Losses.{lost_since, Told, is_taken, story, taken_in, first_place, past_place}
 

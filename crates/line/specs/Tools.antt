@@ -12,7 +12,7 @@ use Rattle.reading.specs.Totals.{total_of, count_of, those, Each}
 use Rattle.listing.specs.Lines.{format_line, end_line}
 use Rattle.listing.specs.List.{lines_of, list_of}
 use Rattle.saving.specs.Salvage.{new_log}
-use Rattle.line.specs.Contracts.{SendCall, MeetsWriteHeader, MeetsWriteRecord}
+use Rattle.line.specs.Calls.{SendCall, MeetsWriteHeader, MeetsWriteRecord}
 use Rattle.line.specs.Line.{
   Row,
   Sending,

@@ -6,7 +6,7 @@ use Rattle.formats.specs.Formats.{format_of}
 use Rattle.receiver.specs.Receiver as R
 use Rattle.units.specs.Units.{frame_size, export_size}
 use Rattle.units.specs.Back.{ExportCall, ReadCall, samples_read, ancillary_read}
-use Rattle.line.specs.Contracts.{SendCall, ReceiveCall}
+use Rattle.line.specs.Calls.{SendCall, ReceiveCall}
 
 -- "Export what the receiver wrote": the entries of a call, those of missing cells too, in its settings; with room: a frame fits the size,
 -- and all subframes the octets

@@ -20,7 +20,7 @@ use Rattle.status.specs.declared.step.Block.{Block}
 use Rattle.status.proofs.Sent as status
 use Rattle.rimesatchel.specs.Kept.{ListedOctets}
 use Rattle.rimesatchel.specs.Statuses.{SteppedOctets}
-use Rattle.line.specs.Contracts.{MeetsReadCell, MeetsNextPlace}
+use Rattle.line.specs.Calls.{MeetsReadCell, MeetsNextPlace}
 use Rattle.line.specs.Demands.{record_table}
 use Rattle.worked.specs.Cases.{paper's_log}
 use Rattle.worked.proofs.Characters as Characters

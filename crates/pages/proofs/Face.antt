@@ -27,7 +27,7 @@ use Rattle.rimesatchel.specs.Boxes.{
   OpenedReceiver,
 }
 use Rattle.rimesatchel.proofs.Leaves.{count_kept}
-use Rattle.line.specs.Contracts.{SendCall, MeetsSend, ReceiveCall, MeetsReceive}
+use Rattle.line.specs.Calls.{SendCall, MeetsSend, ReceiveCall, MeetsReceive}
 use Rattle.line.specs.Demands.{InSettings}
 use Rattle.line.specs.Line.{Row, Sending, Receiving, Trip, taken, WithRoom, left_by, OverTheLine}
 use Rattle.line.proofs.Demands as line

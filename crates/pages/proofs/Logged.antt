@@ -13,7 +13,7 @@ use Rattle.cell_log.specs.Records.{header_of, record_at, cell_at, place_after}
 use Rattle.listing.specs.Lines.{log_refused_line}
 use Rattle.listing.proofs.Refused.{refused_list}
 use Rattle.rimesatchel.specs.Kept.{ListedOctets}
-use Rattle.line.specs.Contracts.{MeetsReadCell, MeetsNextPlace}
+use Rattle.line.specs.Calls.{MeetsReadCell, MeetsNextPlace}
 use Rattle.line.specs.Demands.{record_table}
 
 pub end_cell : (log : List ℕ) (place : ℕ) (part : List ℕ) → MeetsReadCell log place part → length log ≤ place → part ≡ []

@@ -12,7 +12,7 @@ use Rattle.runs.proofs.Laws.{split}
 use Rattle.cells.specs.Cells.{sample_in, ancillary_in, mark_in}
 use Rattle.receiver.specs.declared.Receiver.{Receiver}
 use Rattle.receiver.specs.Receiver as R
-use Rattle.line.specs.Contracts.{ReceiveCall, MeetsReceive}
+use Rattle.line.specs.Calls.{ReceiveCall, MeetsReceive}
 use Rattle.line.specs.Demands.{receive_table}
 use Rattle.line.proofs.Cells.{received_refusal}
 use Rattle.pages.specs.Boxes.{format_in, subframe_for, entry_for, Marks, ReadAlike, AnsweredAlike}

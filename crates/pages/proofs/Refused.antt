@@ -61,7 +61,7 @@ use Rattle.management.specs.Demands.{record_refusal, equipment_refusal, controll
 use Rattle.management.specs.Equipment.{Leaves, equipment_of}
 use Rattle.management.specs.Packing.{Sets, Packs}
 use Rattle.management.proofs.Demands as management
-use Rattle.line.specs.Contracts.{SendCall, ReceiveCall}
+use Rattle.line.specs.Calls.{SendCall, ReceiveCall}
 use Rattle.line.specs.Demands.{Refuses, record_table}
 use Rattle.line.proofs.Demands as line
 use Rattle.line.proofs.Refused as laws

@@ -14,7 +14,7 @@ use Rattle.runs.proofs.Laws.{past_both, past, neither}
 use Rattle.formats.specs.Formats.{settings_refusal}
 use Rattle.cells.specs.Cells.{cell_of, slot_octets}
 use Rattle.sender.specs.Sender as S
-use Rattle.line.specs.Contracts.{SendCall, MeetsSend}
+use Rattle.line.specs.Calls.{SendCall, MeetsSend}
 use Rattle.line.specs.Demands.{send_table}
 use Rattle.line.proofs.Cells.{sent_refusal, next_state, written_is}
 use Rattle.pages.specs.Boxes.{GoesOn}

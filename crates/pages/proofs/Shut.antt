@@ -29,7 +29,7 @@ use Rattle.rimesatchel.specs.Contents.{presence_numbers}
 use Rattle.rimesatchel.specs.Plans.{CheckedPlan}
 use Rattle.rimesatchel.specs.Salvages.{SalvagedLog}
 use Rattle.rimesatchel.specs.Statuses.{stepped_of, SteppedOctets}
-use Rattle.line.specs.Contracts.{SendCall, MeetsSend, ReceiveCall, MeetsReceive}
+use Rattle.line.specs.Calls.{SendCall, MeetsSend, ReceiveCall, MeetsReceive}
 use Rattle.line.proofs.Examples.{studio, fresh, sending}
 use Rattle.line.proofs.Opened.{opened}
 use Rattle.worked.specs.Cases.{paper's_log, last_sample}

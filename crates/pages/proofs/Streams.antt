@@ -21,7 +21,7 @@ use Rattle.cable.specs.Rows.{pair_at}
 use Rattle.cable.proofs.Rows.{row_back}
 use Rattle.units.specs.Back.{ExportCall, MeetsExport, ReadCall, MeetsRead, ReadsUnit}
 use Rattle.units.proofs.Back.{back_whole}
-use Rattle.line.specs.Contracts.{ReceiveCall}
+use Rattle.line.specs.Calls.{ReceiveCall}
 use Rattle.line.specs.Demands.{receive_table}
 use Rattle.line.proofs.Cells.{received_refusal, used_in_lem, fits}
 use Rattle.line.proofs.Demands.{demand_2}

@@ -10,7 +10,7 @@ use Rattle.runs.specs.Runs.{over}
 use Rattle.sender.specs.declared.Sent as SentTo
 use Rattle.sender.specs.Sender as S
 use Rattle.receiver.specs.Receiver as R
-use Rattle.line.specs.Contracts.{SendCall, MeetsSend, ReceiveCall, MeetsReceive}
+use Rattle.line.specs.Calls.{SendCall, MeetsSend, ReceiveCall, MeetsReceive}
 use Rattle.line.specs.Demands.{Refuses, send_table, SentNothing, receive_table, ReceivedNothing}
 use Rattle.line.proofs.Demands as line
 use Rattle.line.proofs.Examples.{studio, fresh, sending, sent, call, answered}

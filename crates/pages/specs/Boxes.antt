@@ -7,7 +7,7 @@ use Rattle.cells.specs.Cells.{guard_in, subframe_at, sample_in, ancillary_in, bi
 use Rattle.cells.specs.Placement.{slot_of}
 use Rattle.sender.specs.Sender as S
 use Rattle.receiver.specs.Receiver as R
-use Rattle.line.specs.Contracts.{SendCall, ReceiveCall}
+use Rattle.line.specs.Calls.{SendCall, ReceiveCall}
 use Rattle.line.specs.Demands.{Refuses, send_table, SentNothing, receive_table, ReceivedNothing, IsDocument01's, InSettings, GivesBack}
 
 -- demand 1 of two boxes: both refuse exactly where the table says so, and then leave everything

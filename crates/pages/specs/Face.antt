@@ -5,7 +5,7 @@ use Rattle.formats.specs.Formats.{format_of}
 use Rattle.receiver.specs.declared.Receiver.{Receiver}
 use Rattle.reading.specs.Totals.{Each}
 use Rattle.rimesatchel.specs.Boxes.{is_yes, sender_of, receiver_of, OpenedReceiver, SentOctets, ReceivedOctets}
-use Rattle.line.specs.Contracts.{SendCall, ReceiveCall}
+use Rattle.line.specs.Calls.{SendCall, ReceiveCall}
 use Rattle.line.specs.Line.{Row, wrote, Trip, Fair, longest, arrivals, taken, WithRoom}
 
 -- a call of `rime_send`, what it returned and what it left

@@ -9,7 +9,7 @@ use Rattle.cable.specs.Back.{Halves}
 use Rattle.cable.specs.Frames.{import_of}
 use Rattle.cable.specs.Rows.{samples_of, ancillary_of}
 use Rattle.units.specs.Back.{ExportCall, ReadCall, samples_read, ancillary_read}
-use Rattle.line.specs.Contracts.{SendCall, MeetsSend, ReceiveCall, MeetsReceive}
+use Rattle.line.specs.Calls.{SendCall, MeetsSend, ReceiveCall, MeetsReceive}
 use Rattle.line.specs.Demands.{InSettings}
 
 -- a cell: the call that wrote it, and the call that took it

@@ -16,7 +16,7 @@ use Rattle.status.specs.Sender.{Octets, SendsBlock}
 use Rattle.status.specs.Step.{fit_of}
 use Rattle.circuits.specs.Circuits.{check_refusal, octet_refusal}
 use Rattle.rimesatchel.specs.Statuses.{stepped_of}
-use Rattle.line.specs.Contracts.{SendCall, ReceiveCall}
+use Rattle.line.specs.Calls.{SendCall, ReceiveCall}
 use Rattle.pages.specs.Boxes.{GoesOn, Marks}
 use Rattle.pages.specs.Papers.{Checks}
 
