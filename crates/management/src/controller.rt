@@ -70,8 +70,7 @@ fn taken_to(subsystem_code: u8, status: u8) -> usize
 }
 
 // Takes a message as the controlling entity: the refusal (0 or 24, and then nothing is written).
-#[unsafe(no_mangle)]
-pub extern "C" fn rime_controller(ports: &mut [u8], message: &[u8]) -> u8
+pub fn rime_controller(ports: &mut [u8], message: &[u8]) -> u8
     ensures { Takes ports.old message.now result ports.new }
 {
     if message.len() == 0 {

@@ -126,8 +126,7 @@ fn asked_at(message: &[u8], subsystem_code: u8, from: usize) -> Enquiry
 }
 
 // Takes a message as the equipment: the refusal (0, 24 or 25, and then nothing is written but zeros to the report).
-#[unsafe(no_mangle)]
-pub extern "C" fn rime_equipment(
+pub fn rime_equipment(
     ports: &mut [u8],
     message: &[u8],
     answer: &mut [u8],

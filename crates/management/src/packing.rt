@@ -9,8 +9,7 @@ fn wide(x: u8) -> u32
 }
 
 // Takes a port's record: the refusal (0, or 1, 2 or 3 as an opening has them, and then zeros are left), and the format, C and order.
-#[unsafe(no_mangle)]
-pub extern "C" fn rime_port_settings(port: &[u8; 28], settings: &mut [u32; 3]) -> u8
+pub fn rime_port_settings(port: &[u8; 28], settings: &mut [u32; 3]) -> u8
     ensures { Sets port.now result settings.new }
 {
     let format = wide(port[3]);
@@ -40,8 +39,7 @@ fn order_coded(slots: usize, channels: u32, order: u32) -> u32
 }
 
 // Takes a format, C and order: the refusal (0, or 1, 2 or 3 as an opening has them, and then 0 is left), and the packing octet.
-#[unsafe(no_mangle)]
-pub extern "C" fn rime_port_packing(format: u32, channels: u32, order: u32, packing: &mut u8) -> u8
+pub fn rime_port_packing(format: u32, channels: u32, order: u32, packing: &mut u8) -> u8
     ensures { Packs format channels order result packing.new }
 {
     let settled = formats::settings(format, channels, order);

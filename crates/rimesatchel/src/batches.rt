@@ -5,8 +5,7 @@ use crate::boxes::{receiver_octets, receiver_of};
 
 // Judges a log's records from a place on, and writes five octets a record. Returns the refusal, 0 where there is none, and writes the
 // next place, the records judged and why it stopped; three zeros where it is refused, 1 to 4, and then state and run are as they were.
-#[unsafe(no_mangle)]
-pub extern "C" fn rime_judge_log(
+pub fn rime_judge_log(
     state: &mut [u8; 9],
     log: &[u8],
     place: usize,
@@ -35,8 +34,7 @@ pub extern "C" fn rime_judge_log(
 // Receives a log's records from a place on, and writes their entries into three runs, each cell's behind the last one's. Returns the
 // refusal, 0 where there is none, and writes the next place, the entries written, why it stopped, cells taken, missing before them, and
 // refused by 8, by 9, by 15, by 20; nine zeros where it is refused, 1 to 5, and then state and runs are as they were.
-#[unsafe(no_mangle)]
-pub extern "C" fn rime_receive_log(
+pub fn rime_receive_log(
     state: &mut [u8; 9],
     log: &[u8],
     place: usize,

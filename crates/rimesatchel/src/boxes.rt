@@ -107,8 +107,7 @@ pub(crate) fn receiver_octets(state: Receiver) -> [u8; 9]
 }
 
 // Opens a sender: the refusal (0, or 1 to 4), and its state, zeros where it is refused.
-#[unsafe(no_mangle)]
-pub extern "C" fn rime_sender_open(
+pub fn rime_sender_open(
     format: u32,
     channels: u32,
     order: u32,
@@ -126,8 +125,7 @@ pub extern "C" fn rime_sender_open(
 }
 
 // Writes the next cell: the refusal (0, or 1 to 7, and then state and cell are as they were).
-#[unsafe(no_mangle)]
-pub extern "C" fn rime_send(
+pub fn rime_send(
     state: &mut [u8; 7],
     indication: bool,
     samples: &[u64],
@@ -148,8 +146,7 @@ pub extern "C" fn rime_send(
 }
 
 // Opens a receiver: the refusal (0, or 1 to 3), and its state, zeros where it is refused.
-#[unsafe(no_mangle)]
-pub extern "C" fn rime_receiver_open(
+pub fn rime_receiver_open(
     format: u32,
     channels: u32,
     order: u32,
@@ -164,8 +161,7 @@ pub extern "C" fn rime_receiver_open(
 }
 
 // Takes a cell: the refusal (0, or 1 to 5, 8, 15, 9, 20, 10, and then state and runs are as they were and the report is zeros).
-#[unsafe(no_mangle)]
-pub extern "C" fn rime_receive(
+pub fn rime_receive(
     state: &mut [u8; 9],
     cell: &[u8],
     indication: bool,
@@ -197,8 +193,7 @@ pub extern "C" fn rime_receive(
 }
 
 // How many cells a receiver in this state has placed since it was opened, sound and missing together. Nothing is refused.
-#[unsafe(no_mangle)]
-pub extern "C" fn rime_receiver_placed(state: &[u8; 9]) -> u32
+pub fn rime_receiver_placed(state: &[u8; 9]) -> u32
     ensures { result ≡ (receiver_of state.now).count }
 {
     let lent = *state;

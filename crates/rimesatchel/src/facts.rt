@@ -5,8 +5,7 @@ ghost use Rattle.rimesatchel.specs.Facts.{format_numbers, format_refusal};
 
 // What a subframe octet says. Returns the refusal, 0 where there is none, and writes sample bits, ancillary bits, overhead bits and
 // slots; four zeros where it is refused.
-#[unsafe(no_mangle)]
-pub extern "C" fn rime_format(format: u32, facts: &mut [u32; 4]) -> u8
+pub fn rime_format(format: u32, facts: &mut [u32; 4]) -> u8
     ensures { (result ≡ format_refusal format) × (facts.new ≡ format_numbers (format_of format)) }
 {
     let set = formats::settings(format, 1, 0);

@@ -2,8 +2,7 @@
 ghost use Rattle.rimesatchel.specs.Frames.{ImportedFrame, ExportedFrame};
 
 // A frame from the cable: the refusal (0, or 16, 17), and the two samples and ancillary numbers, zeros where it is refused.
-#[unsafe(no_mangle)]
-pub extern "C" fn rime_aes3_import(
+pub fn rime_aes3_import(
     preambles: &[u8; 2],
     subframes: &[u32; 2],
     samples: &mut [u64; 2],
@@ -20,8 +19,7 @@ pub extern "C" fn rime_aes3_import(
 }
 
 // A frame for the cable: the refusal (0, or 6, 29), and the two preambles and subframes, zeros where it is refused.
-#[unsafe(no_mangle)]
-pub extern "C" fn rime_aes3_export(
+pub fn rime_aes3_export(
     samples: &[u64; 2],
     ancillary: &[u8; 2],
     preambles: &mut [u8; 2],

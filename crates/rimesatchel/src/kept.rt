@@ -8,8 +8,7 @@ use text::Put;
 
 // Writes a header at the start of a log. Returns the refusal, 0 where there is none, and writes the place after it; 0 where it is
 // refused, and then the log is as it was.
-#[unsafe(no_mangle)]
-pub extern "C" fn rime_log_put_header(
+pub fn rime_log_put_header(
     log: &mut [u8],
     format: u32,
     channels: u32,
@@ -26,8 +25,7 @@ pub extern "C" fn rime_log_put_header(
 
 // Writes a record at a place of a log. Returns the refusal, 0 where there is none, and writes the place after it; 0 where it is
 // refused, and then the log is as it was.
-#[unsafe(no_mangle)]
-pub extern "C" fn rime_log_put_record(
+pub fn rime_log_put_record(
     log: &mut [u8],
     place: usize,
     cell: &[u8],
@@ -58,8 +56,7 @@ fn both(first: bool, second: bool) -> bool
 
 // Writes the list of a log into a run, from its start, as far as it goes. Writes how many octets that is, and 1 where it is the
 // whole list, 0 where not. Refuses nothing, and returns 0: a log that can't be read has a list that says so.
-#[unsafe(no_mangle)]
-pub extern "C" fn rime_log_list(log: &[u8], run: &mut [u8], listed: &mut [u64; 2]) -> u8
+pub fn rime_log_list(log: &[u8], run: &mut [u8], listed: &mut [u64; 2]) -> u8
     ensures { ListedOctets log.now run.old result run.new listed.new }
 {
     let mut held = [0u8; 49];

@@ -5,8 +5,7 @@ ghost use Rattle.rimesatchel.specs.Logs.{header_numbers, record_numbers};
 
 // The header of a log. Returns the refusal, 0 where there is none, and writes the place after it, the format octet, channels and
 // order; four zeros where it is refused.
-#[unsafe(no_mangle)]
-pub extern "C" fn rime_log_header(log: &[u8], header: &mut [u32; 4]) -> u8
+pub fn rime_log_header(log: &[u8], header: &mut [u32; 4]) -> u8
     ensures { (result ≡ (header_of log.now).refusal) × (header.new ≡ header_numbers (header_of log.now)) }
 {
     let found = cell_log::read_header(log);
@@ -21,8 +20,7 @@ pub extern "C" fn rime_log_header(log: &[u8], header: &mut [u32; 4]) -> u8
 
 // The record at a place of a log. Returns the refusal, 0 where there is none, and writes what is there (0 the end, 1 a cell), the
 // indication, where the cell's 48 octets start and the next place; four zeros where it is refused.
-#[unsafe(no_mangle)]
-pub extern "C" fn rime_log_record(log: &[u8], place: usize, answer: &mut [u64; 4]) -> u8
+pub fn rime_log_record(log: &[u8], place: usize, answer: &mut [u64; 4]) -> u8
     ensures { (result ≡ (record_at log.now place).refusal) × (answer.new ≡ record_numbers (record_at log.now place)) }
 {
     let found = cell_log::reader::read(log, place);

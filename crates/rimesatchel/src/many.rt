@@ -6,8 +6,7 @@ use crate::boxes::{sender_octets, sender_of};
 // Sends cell after cell, and writes the record of each into the log from a place on. Returns the refusal, 0 where there is none, and
 // writes the next place, the entries taken, why it stopped and the cells; four zeros where it is refused, 1 to 5, and then state and
 // log are as they were.
-#[unsafe(no_mangle)]
-pub extern "C" fn rime_send_log(
+pub fn rime_send_log(
     state: &mut [u8; 7],
     indications: bool,
     samples: &[u64],

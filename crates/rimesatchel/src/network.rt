@@ -4,8 +4,7 @@ ghost use Rattle.rimesatchel.specs.Network.{ExportedUnits, ReadUnit};
 
 // What the receiver wrote as data units: the refusal (0, or 1, 2, 5, 6, 26, 27, 28, and then nothing is written), and in `units` octets
 // written, octets of a full unit, how many units; zeros where it is refused.
-#[unsafe(no_mangle)]
-pub extern "C" fn rime_units_export(
+pub fn rime_units_export(
     format: u32,
     channels: u32,
     size: usize,
@@ -23,8 +22,7 @@ pub extern "C" fn rime_units_export(
 
 // One data unit read back: the refusal (0, or 1, 2, 5, 26, 28, and then nothing is written), and in `entries` how many the unit had; 0
 // where it is refused.
-#[unsafe(no_mangle)]
-pub extern "C" fn rime_unit_read(
+pub fn rime_unit_read(
     format: u32,
     channels: u32,
     unit: &[u8],

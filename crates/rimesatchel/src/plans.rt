@@ -32,8 +32,7 @@ fn answer_of(verdict: Verdict) -> [u32; 2]
 
 // Judges a plan: the refusal (0, or 1, 5, 22, 23), and the answer (1 yes, 2 a share, 3 an allowance, 4 the sum) with the circuit that 2
 // or 3 names; zeros where it is refused.
-#[unsafe(no_mangle)]
-pub extern "C" fn rime_circuits_check(
+pub fn rime_circuits_check(
     format: u32,
     channels: u32,
     frequency: u32,
@@ -49,8 +48,7 @@ pub extern "C" fn rime_circuits_check(
 }
 
 // Fills circuits in the given order as far as S allows: the refusal (0, or 1, 22, 30), and then the shares are as they were.
-#[unsafe(no_mangle)]
-pub extern "C" fn rime_circuits_plan(format: u32, channels: u32, shares: &mut [u32]) -> u8
+pub fn rime_circuits_plan(format: u32, channels: u32, shares: &mut [u32]) -> u8
     ensures { Plans format channels shares.old result shares.new }
 {
     circuits::plan(format, channels, shares)

@@ -4,8 +4,7 @@ ghost use Rattle.rimesatchel.specs.Salvages.{SalvagedLog};
 // Writes the new log into `out` and the list of the records left out into `list`. Returns the refusal (0, or 11, 1, 2, 3, 21, and
 // then both are as they were), and writes the octets of the new log, the records left out and the octets cut; three zeros where
 // it is refused.
-#[unsafe(no_mangle)]
-pub extern "C" fn rime_salvage(
+pub fn rime_salvage(
     log: &[u8],
     out: &mut [u8],
     list: &mut [u64],

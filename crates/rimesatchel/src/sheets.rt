@@ -3,8 +3,7 @@ ghost use Rattle.rimesatchel.specs.Sheets.{DrawsUp};
 
 // Draws up a sheet over logs that lie end to end: the refusal (0, or 18, 5, 19), ten numbers a log in `rows`, and the same ten of all
 // logs together in `totals`. A refused sheet leaves the rows as they were, and the totals are zeros.
-#[unsafe(no_mangle)]
-pub extern "C" fn rime_sheet(
+pub fn rime_sheet(
     octets: &[u8],
     lengths: &[u64],
     rows: &mut [u32],

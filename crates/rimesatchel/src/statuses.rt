@@ -35,8 +35,7 @@ fn with_first(first: u8, rest: [u8; 24]) -> [u8; 25]
 
 // Brings the block forward by an ancillary number and its mark, writes what goes out, and gives the refusal: 0, or 14 where
 // the block is left as it was and `out` is zeros.
-#[unsafe(no_mangle)]
-pub extern "C" fn rime_status_step(
+pub fn rime_status_step(
     block: &mut [u8; 25],
     ancillary: u8,
     mark: u8,
@@ -64,8 +63,7 @@ pub extern "C" fn rime_status_step(
 // Brings the block forward by the entries of two runs from one on, every so many-th, until one hands out a block or the runs end.
 // Writes what goes out and the entry after the last one used, and gives the refusal: 0, or 5 or 14, where the block is left as it was,
 // `out` is zeros and the next entry 0.
-#[unsafe(no_mangle)]
-pub extern "C" fn rime_status_run(
+pub fn rime_status_run(
     block: &mut [u8; 25],
     ancillary: &[u8],
     marks: &[u8],
@@ -97,8 +95,7 @@ pub extern "C" fn rime_status_run(
 }
 
 // The check character of octets 0 to 22; octet 23 isn't read.
-#[unsafe(no_mangle)]
-pub extern "C" fn rime_check_character(block: &[u8; 24]) -> u8
+pub fn rime_check_character(block: &[u8; 24]) -> u8
     ensures { result ≡ check_character block.now }
 {
     check_character(*block)

@@ -59,8 +59,7 @@ fn numbers_of(tally: Tally) -> [u64; 20]
 }
 
 // The figures of a log before its first octet, of any length. Refuses nothing, and returns 0.
-#[unsafe(no_mangle)]
-pub extern "C" fn rime_figures_start(state: &mut [u64; 20], held: &mut [u8; 49]) -> u8
+pub fn rime_figures_start(state: &mut [u64; 20], held: &mut [u8; 49]) -> u8
     ensures { FiguresStarted result state.new held.new }
 {
     *state = numbers_of(figures::start());
@@ -69,8 +68,7 @@ pub extern "C" fn rime_figures_start(state: &mut [u64; 20], held: &mut [u8; 49])
 }
 
 // Takes a piece of the log and counts the records that it makes whole. Refuses nothing, and returns 0.
-#[unsafe(no_mangle)]
-pub extern "C" fn rime_figures_take(state: &mut [u64; 20], held: &mut [u8; 49], piece: &[u8]) -> u8
+pub fn rime_figures_take(state: &mut [u64; 20], held: &mut [u8; 49], piece: &[u8]) -> u8
     ensures { FiguresTaken state.old held.old piece.now result state.new held.new }
 {
     let lent = *state;
@@ -81,8 +79,7 @@ pub extern "C" fn rime_figures_take(state: &mut [u64; 20], held: &mut [u8; 49], 
 
 // The row of a log that ends here: ten numbers, as `rime_sheet` has them. Returns 19, and zeros, where one of the first nine would
 // pass 4,294,967,295.
-#[unsafe(no_mangle)]
-pub extern "C" fn rime_figures_end(state: &[u64; 20], row: &mut [u32; 10]) -> u8
+pub fn rime_figures_end(state: &[u64; 20], row: &mut [u32; 10]) -> u8
     ensures { FiguresEnded state.now result row.new }
 {
     let lent = *state;

@@ -48,8 +48,7 @@ fn numbers_of(listing: Listing) -> [u64; 15]
 }
 
 // A list before the first octet of a log, of which it takes up to 4,294,967,295. Refuses nothing, and returns 0.
-#[unsafe(no_mangle)]
-pub extern "C" fn rime_list_start(state: &mut [u64; 15], held: &mut [u8; 49]) -> u8
+pub fn rime_list_start(state: &mut [u64; 15], held: &mut [u8; 49]) -> u8
     ensures { ListStarted result state.new held.new }
 {
     *state = numbers_of(listing::start_longest());
@@ -59,8 +58,7 @@ pub extern "C" fn rime_list_start(state: &mut [u64; 15], held: &mut [u8; 49]) ->
 
 // Takes a piece of the log and writes the lines that it makes whole into the run, from its start, and how many octets they are.
 // Returns 21, and 0 octets, where the run is shorter than such a piece's lines can be, and then all else is as it was.
-#[unsafe(no_mangle)]
-pub extern "C" fn rime_list_take(
+pub fn rime_list_take(
     state: &mut [u64; 15],
     held: &mut [u8; 49],
     piece: &[u8],
@@ -84,8 +82,7 @@ pub extern "C" fn rime_list_take(
 
 // Writes what ends the list of a log that ends here, and how many octets that is. Returns 21, and 0 octets, for a run of fewer than
 // 216, and then it is as it was.
-#[unsafe(no_mangle)]
-pub extern "C" fn rime_list_end(
+pub fn rime_list_end(
     state: &[u64; 15],
     held: &[u8; 49],
     text: &mut [u8],

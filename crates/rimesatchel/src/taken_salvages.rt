@@ -55,8 +55,7 @@ fn numbers_of(salvaging: Salvaging) -> [u64; 16]
 }
 
 // A salvage before the first octet of a log of any length. Refuses nothing, and returns 0.
-#[unsafe(no_mangle)]
-pub extern "C" fn rime_salvage_start(state: &mut [u64; 16], held: &mut [u8; 49]) -> u8
+pub fn rime_salvage_start(state: &mut [u64; 16], held: &mut [u8; 49]) -> u8
     ensures { SalvageStarted result state.new held.new }
 {
     *state = numbers_of(salvaging::start());
@@ -77,8 +76,7 @@ fn has_both(piece: usize, out: usize, notes: usize) -> bool
 // Takes a piece of the log. Of what it makes whole the header and the sound records go into `out`, and a line for each record left
 // out into `notes`, each from the run's start; it writes how many octets of each. Returns 21, and zeros, where one of the runs is
 // shorter than what such a piece can make, and then all else is as it was.
-#[unsafe(no_mangle)]
-pub extern "C" fn rime_salvage_take(
+pub fn rime_salvage_take(
     state: &mut [u64; 16],
     held: &mut [u8; 49],
     piece: &[u8],
@@ -104,8 +102,7 @@ pub extern "C" fn rime_salvage_take(
 
 // Writes the last line of a log that ends here, and how many octets that is. Returns 21, and 0 octets, for a run of fewer than 216,
 // and then it is as it was.
-#[unsafe(no_mangle)]
-pub extern "C" fn rime_salvage_end(
+pub fn rime_salvage_end(
     state: &[u64; 16],
     held: &[u8; 49],
     notes: &mut [u8],

@@ -47,8 +47,7 @@ fn numbers_of(search: Search) -> [u64; 14]
 }
 
 // A search before the first octet of a log of any length. Refuses nothing, and returns 0.
-#[unsafe(no_mangle)]
-pub extern "C" fn rime_anything_start(state: &mut [u64; 14], held: &mut [u8; 49]) -> u8
+pub fn rime_anything_start(state: &mut [u64; 14], held: &mut [u8; 49]) -> u8
     ensures { SearchStarted result state.new held.new }
 {
     *state = numbers_of(presence::start());
@@ -57,8 +56,7 @@ pub extern "C" fn rime_anything_start(state: &mut [u64; 14], held: &mut [u8; 49]
 }
 
 // Takes a piece of the log, and writes 1 where more octets could change the answer, else 0. Refuses nothing, and returns 0.
-#[unsafe(no_mangle)]
-pub extern "C" fn rime_anything_take(
+pub fn rime_anything_take(
     state: &mut [u64; 14],
     held: &mut [u8; 49],
     piece: &[u8],
@@ -76,8 +74,7 @@ pub extern "C" fn rime_anything_take(
 }
 
 // The answer for a log that ends here, as `rime_anything` gives it.
-#[unsafe(no_mangle)]
-pub extern "C" fn rime_anything_end(state: &[u64; 14], held: &[u8; 49], answer: &mut [u64; 2]) -> u8
+pub fn rime_anything_end(state: &[u64; 14], held: &[u8; 49], answer: &mut [u64; 2]) -> u8
     ensures { SearchEnded state.now held.now result answer.new }
 {
     let lent = *state;

@@ -34,8 +34,7 @@ fn watch_octets(watch: Watch) -> [u8; 7]
 
 // Brings the watch forward by the report of a cell that was taken, writes what it tells and how many cells, and gives the refusal: 0,
 // or 4 or 31, where the watch is left as it was and `slip` is zeros.
-#[unsafe(no_mangle)]
-pub extern "C" fn rime_slip(watch: &mut [u8; 7], report: &[u8; 4], slip: &mut [u8; 2]) -> u8
+pub fn rime_slip(watch: &mut [u8; 7], report: &[u8; 4], slip: &mut [u8; 2]) -> u8
     ensures { SlippedOctets watch.old report.now result watch.new slip.new }
 {
     let lent = *watch;
