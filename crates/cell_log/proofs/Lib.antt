@@ -6,5 +6,4 @@ pub mod Laws
 pub mod One
 pub mod Places
 pub mod Refused
-pub mod Walks
 pub mod Wrong

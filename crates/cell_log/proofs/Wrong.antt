@@ -15,7 +15,7 @@ use lib.ListN.{length, get_or, take, replicate}
 use prog.Memory.{Memory}
 use prog.Routine.{Routine}
 use Rattle.runs.specs.Refusals.{or_else}
-use Rattle.runs.proofs.Wrong.{Never, Place, lent, ruled_out}
+use Rattle.runs.proofs.Wrong.{Never, Place, lent, lent_mut, ruled_out}
 use Rattle.formats.proofs.Wrong as formats
 use Rattle.cell_log.specs.declared.Number.{Number}
 use Rattle.cell_log.specs.declared.Header.{Header}
@@ -133,7 +133,7 @@ module _ (κs : Lfts 1) (p : Place) where
       let first : ◌≡◌ {A = ℕ} 1 9 = ap (λ (l : List ℕ). get_or l 0 0) (sym wrong ∙ q.0) in omega arith
 
   -- the right octets at another place in memory
-  pub cell_not_elsewhere : ReadingCell 0 (λ x. x.ptr ≡ p.ptr)
+  pub cell_not_elsewhere : ReadingCell 0 (λ x. x.ref_ptr ≡ p.ptr)
   unfolding unfolded
   cell_not_elsewhere x v wrong q = let on : p.ptr.1 ≡ 1 + p.ptr.1 = ap (λ (t : ℕ × ℕ). t.1) (sym wrong ∙ q.1) in omega arith
 
@@ -145,7 +145,7 @@ module _ (κs : Lfts 1) (p : Place) where
   -- a number written at the start of a run of three zeros
   abbrev WritingNumber : ℕ → (Kept → List ℕ → Type 0) → Type 0
   WritingNumber value Wrong =
-      Never write-number-kinds.ps write-number-kinds.r write-number-reads.Post κs (lent p (replicate 3 0), (0, (value, tt))) (λ x v. Wrong x v.0)
+      Never write-number-kinds.ps write-number-kinds.r write-number-reads.Post κs (lent_mut p (replicate 3 0), (0, (value, tt))) (λ x v. Wrong x v.0)
 
   -- 128 with the high group first
   pub written_not_high_group_first : WritingNumber 128 (λ x after. after ≡ 1 ∷ 128 ∷ 0 ∷ [])
@@ -167,7 +167,7 @@ module _ (κs : Lfts 1) (p : Place) where
   abbrev WritingHeader : ℕ → (Kept → List ℕ → Type 0) → Type 0
   WritingHeader channels Wrong =
       Never write-header-kinds.ps write-header-kinds.r write-header-reads.Post κs
-      (lent p (replicate 3 7), (0x56, (channels, (1, tt)))) (λ x v. Wrong x v.0)
+      (lent_mut p (replicate 3 7), (0x56, (channels, (1, tt)))) (λ x v. Wrong x v.0)
 
   -- nothing written
   pub header_not_left_out : WritingHeader 2 (λ x after. after ≡ replicate 3 7)
@@ -192,7 +192,7 @@ module _ (κs : Lfts 2) (p c : Place) where
   abbrev WritingRecord : ℕ → (Kept → List ℕ → Type 0) → Type 0
   WritingRecord room Wrong =
       Never write-record-kinds.ps write-record-kinds.r write-record-reads.Post κs
-      (lent p (replicate room 0), (0, (true, (lent c (replicate 48 9), tt)))) (λ x v. Wrong x v.0)
+      (lent_mut p (replicate room 0), (0, (true, (lent c (replicate 48 9), tt)))) (λ x v. Wrong x v.0)
 
   -- the indication left out
   pub record_not_without_its_indication : WritingRecord 49 (λ x after. get_or after 0 0 ≡ 0)

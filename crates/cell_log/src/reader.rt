@@ -29,7 +29,7 @@ pub fn record_here<'a>(r: Reader<'a>) -> Record
 // The cell where the reader stands, as that part of the log itself; an empty part where there is none.
 pub fn cell<'a>(r: Reader<'a>) -> &'a [u8]
     ensures { (result.now ≡ cell_at r.entry.log.now r.entry.place)
-        × (result.ref_ptr ≡ from r.entry.log.ptr (record_at r.entry.log.now r.entry.place).start) }
+        × (result.ref_ptr ≡ from r.entry.log.ref_ptr (record_at r.entry.log.now r.entry.place).start) }
 {
     crate::read_cell(r.log, r.place)
 }

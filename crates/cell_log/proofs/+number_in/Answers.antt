@@ -1,0 +1,32 @@
+-- A law for each return.
+use Rattle.std.proofs.Common.{ap, sym, ◌-◌, ◌∙◌, ◌+◌, arith}
+use Rattle.cell_log.specs.declared.Number.{Number}
+use Rattle.cell_log.specs.Code.{behind}
+use Rattle.cell_log.proofs.Laws.{number_none, number_some_groups, number_cut, number_whole, number_more, value_below}
+use Rattle.cell_log.proofs.+number_in.Goals as goal
+
+pub returns-then-groups-eq0 : goal.returns-then-groups-eq0
+returns-then-groups-eq0 t c = c.no_number.ensures ∙ sym (number_none _ _ _ c.if-groups-eq0.true)
+
+pub returns-then-log-place : goal.returns-then-log-place
+returns-then-log-place t c = c.no_number-then-log-place.ensures ∙ sym (number_cut _ _ _ c.if-log-place.true)
+
+pub returns-then-group-lt128 : goal.returns-then-group-lt128
+returns-then-group-lt128 t c =
+    sym (number_some_groups _ _ _ c.if-groups-eq0.false
+    ∙ number_whole _ _ _ c.wide-group.ensures.0 (omega arith) c.if-group-lt128.true)
+
+pub behind-requires : goal.behind-requires
+behind-requires t c =
+    omega (
+      arith,
+      ap (λ (x : Number). x.value) c.number_in.ensures,
+      value_below (c.args.groups - 1) c.args.log.now (c.args.place + 1) (omega (arith, c.requires)),
+    )
+
+pub returns : goal.returns
+returns t c =
+    c.behind.ensures
+    ∙ ap (behind c.wide-group.result) c.number_in.ensures
+    ∙ sym (number_some_groups _ _ _ c.if-groups-eq0.false
+    ∙ number_more _ _ _ c.wide-group.ensures.0 (omega arith) c.if-group-lt128.false)
