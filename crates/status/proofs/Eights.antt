@@ -2,8 +2,8 @@
 -- Assumes nothing.
 use mathlib.Core.List.{List}
 use mathlib.Core.Path.{◌≡◌, refl, sym, ◌∙◌, ap, subst}
-use Prim.Native.Nat.{ℕ, zero, suc, ◌+◌, ◌-◌, ◌*◌, ◌/◌, ◌%◌, ◌^◌, ◌≤◌, ◌<◌}
-use native.Mathlib.Nat.{zero-mul, suc-mul, mul-le-mul_right, pow-suc, eq-or-lt_of_le, le_of_suc-le-suc}
+use Prim.Native.Nat.{ℕ, suc, ◌+◌, ◌*◌, ◌/◌, ◌%◌, ◌^◌, ◌≤◌, ◌<◌}
+use native.Mathlib.Nat.{zero-mul, suc-mul, mul-le-mul_right, eq-or-lt_of_le, le_of_suc-le-suc}
 use native.Mathlib.Numerals.{add-one}
 use native.Mathlib.Omega.{arith}
 use mathlib.Core.Logic.{⊎_elim}
@@ -12,7 +12,6 @@ use lib.ListN.{length, get_or}
 use lib.Pow.{shl_exact, pow_mono}
 use Rattle.status.specs.Eight.{low_bits, entry, Adding, Eight, Eights, with_eight}
 use Rattle.status.specs.Step.{c_of, finished}
-use Rattle.status.specs.declared.run.Ran.{Ran}
 use Rattle.status.specs.declared.step.Block.{Block}
 use Rattle.status.proofs.Running.{low_lt, rest, past_eight, done_eight}
 

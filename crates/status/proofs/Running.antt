@@ -1,16 +1,16 @@
 -- Laws of many steps in one call: one step more, the end, and eight steps at once.
 -- Assumes nothing.
-use mathlib.Core.Bool.{Bool, true, false, cond, not, ◌||◌}
+use mathlib.Core.Bool.{true, false, cond}
 use mathlib.Core.List.{List, [], ◌∷◌}
-use mathlib.Core.Path.{◌≡◌, refl, sym, ◌∙◌, ap, subst}
+use mathlib.Core.Path.{◌≡◌, refl, sym, ◌∙◌, ap}
 use Prim.Native.Nat.{ℕ, zero, suc, ◌+◌, ◌-◌, ◌*◌, ◌/◌, ◌%◌, ◌^◌, ◌≤◌, ◌<◌}
 use native.Mathlib.Nat.{pos_of_ne-zero, suc-mul, zero-mul, mul-le-mul_right, pow-suc, div-one}
 use native.Mathlib.Omega.{arith}
 use borrow.Author.Tests.{eqb-true, eqb-false, ltb-true, ltb-false, lt-ltb, le-ltb, ne_eqb, eq-eqb}
 use lib.Arith.{digits_div, digits_mod}
 use lib.Dec.{ltb, eqb}
-use lib.ListN.{length, get_or, set, length-set}
-use lib.Pow.{pow_pos, shr-shr}
+use lib.ListN.{length, get_or, set}
+use lib.Pow.{shr-shr}
 use lib.Seq.{set-get_or, get_or-set_same}
 use Rattle.runs.proofs.Laws.{split}
 use Rattle.status.specs.Bits.{bit_of, octet_with, with_bit, zeros}

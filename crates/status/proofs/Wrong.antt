@@ -16,7 +16,7 @@ use prog.Memory.{Memory}
 use prog.Routine.{Routine}
 use Rattle.runs.specs.Division.{divided, taken_down}
 use Rattle.runs.specs.Runs.{tab}
-use Rattle.runs.proofs.Wrong.{Never, Place, lent, ruled_out}
+use Rattle.runs.proofs.Wrong.{Never, Place, lent, lent_mut, ruled_out}
 use Rattle.status.specs.Bits.{bit_of, octet_with, with_bit, zeros}
 use Rattle.status.specs.Check.{coefficient_of, check_character}
 use Rattle.status.specs.Run.{ran_from, ran_of}
@@ -116,7 +116,7 @@ module _ (κs : Lfts 0) where
 -- the lent block: stated over the clauses, as in One.antt
 module _ {M : Type 1} {𝓤 : Ura M} (𝓛 : Logic 𝓤) (mem : Memory → SProp 𝓤) (run : Routine → Fun 𝓤) (κs : Lfts 1) (b : Place) where
   abbrev called : ℕ → ℕ → Args bring-forward.signature κs
-  called ancillary mark = (lent b begun, (ancillary, (mark, tt)))
+  called ancillary mark = (lent_mut b begun, (ancillary, (mark, tt)))
 
   abbrev NeverForward : ℕ → ℕ → (Handed → Block → Type 0) → Type 1
   NeverForward ancillary mark Wrong =

@@ -4,14 +4,12 @@ use mathlib.Core.List.{List}
 use mathlib.Core.Path.{◌≡◌, sym, ◌∙◌}
 use Prim.Native.Nat.{ℕ, ◌%◌}
 use native.Mathlib.Nat.{div-one}
-use borrow.Author.Rules.{rules}
 use borrow.Author.Tests.{eq-eqb, ne_eqb}
 use lib.ListN.{get_or}
 use Rattle.status.specs.Bits.{bit_of}
 use Rattle.status.specs.Check.{check_character}
 use Rattle.status.specs.Step.{fit_of}
-use Rattle.status.proofs.step.answer_of.Statement.{statement}
-use Rattle.status.proofs.step.answer_of.Tie as tie
+use Rattle.status.proofs.step.answer_of.Goals as goal
 
 module _ (octets : List ℕ) where
   first_bit : get_or octets 0 0 % 2 ≡ bit_of octets 0
@@ -31,14 +29,11 @@ module _ (octets : List ℕ) where
     unfolding fit_of
     fits_not e = rw (← first_bit, ne_eqb (get_or octets 0 0 % 2) 0 carried, ne_eqb (get_or octets 23 0) (check_character octets) e)
 
-returns : tie.Need-returns
-returns c = none_carried _ c.if1.true
+pub returns-then-octets-eq0 : goal.returns-then-octets-eq0
+returns-then-octets-eq0 c = none_carried _ c.if-octets-eq0.true
 
-returns_2 : tie.Need-returns-2
-returns_2 c = fits _ c.before.before.if1.false (c.if2.true ∙ c.before.check-character.ensures)
+pub returns-then-octets-check_character : goal.returns-then-octets-check_character
+returns-then-octets-check_character c = fits _ c.if-octets-eq0.false (c.if-octets-check_character.true ∙ c.check_character.ensures)
 
-returns_3 : tie.Need-returns-3
-returns_3 c = fits_not _ c.before.before.if1.false (λ e. c.if2.false (e ∙ sym c.before.check-character.ensures))
-
-pub answer-of-spec : {M : Type 1} → statement M
-answer-of-spec = tie.close (tie.spec (search rules) returns (search rules) (search rules) returns_2 returns_3)
+pub returns : goal.returns
+returns c = fits_not _ c.if-octets-eq0.false (λ e. c.if-octets-check_character.false (e ∙ sym c.check_character.ensures))

@@ -5,16 +5,11 @@ use mathlib.Core.Path.{◌≡◌}
 use Prim.Native.Nat.{ℕ}
 use Rattle.status.specs.Step.{fit_of, no_block, finished}
 use Rattle.status.specs.declared.step.Stepped.{Stepped}
-use borrow.Author.Rules.{rules}
-use Rattle.status.proofs.step.finished_with.Statement.{statement}
-use Rattle.status.proofs.step.finished_with.Tie as tie
+use Rattle.status.proofs.step.finished_with.Goals as goal
 
 answered : (octets : List ℕ) {answer : ℕ} → answer ≡ fit_of octets
     → ◌≡◌ {A = Stepped} (record { block = no_block; handed = record { refusal = 0; answer = answer; octets = octets } }) (finished octets)
 answered octets e = rw e
 
-returns : tie.Need-returns
-returns c = answered _ c.answer_of_lem.ensures
-
-pub finished-with-spec : {M : Type 1} → statement M
-finished-with-spec = tie.close (tie.spec (search rules) returns)
+pub returns : goal.returns
+returns c = answered _ c.answer_of-answer.ensures
