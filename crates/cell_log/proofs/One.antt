@@ -70,7 +70,7 @@ write_header_one κs a x y v w pre p q = ((kept_one p q).0, λ i. ((kept_one p q
 pub write_record_one : One write-record-kinds.ps write-record-kinds.r write-record-reads.Pre write-record-reads.Post
 write_record_one κs a x y v w pre p q = ((kept_one p q).0, λ i. ((kept_one p q).1 i, (tt, (tt, (tt, tt)))))
 
--- a reference has a ghost name that no contract fixes: one place and the same octets are one answer
+-- of a reference: one place and the same octets are one answer
 abbrev Same : Bor (List ℕ) → Bor (List ℕ) → Type 0
 Same x y = (x.now ≡ y.now) × (x.ref_ptr ≡ y.ref_ptr)
 
@@ -81,7 +81,7 @@ pub read_cell_one : (κs : Lfts 1) (a : Dens κs read-cell-kinds.ps) (x y : Bor 
     → Same x y
 read_cell_one κs a x y v w pre p q = (p.0 ∙ sym q.0, p.1 ∙ sym q.1)
 
--- the borrow checker reads no contract with a struct that holds a slice, so these are stated over the clauses
+-- the reader's functions: stated over the clauses
 module _ {M : Type 1} {𝓤 : Ura M} (𝓛 : Logic 𝓤) (mem : Memory → SProp 𝓤) (run : Routine → Fun 𝓤) (κs : Lfts 1) where
   module _ (a : Args new.signature κs) where
     abbrev pub NewEnsures : Reader → SProp 𝓤

@@ -1,5 +1,5 @@
 // A reader over a lent log. Document 01: it "holds the octets and a place only". Its functions call those of lib.rt with the slice
-// and the place that it holds, and are proved by hand. A caller that has the log as a slice uses `read`.
+// and the place that it holds. A caller that has the log as a slice uses `read`.
 ghost use Rattle.std.specs.Prelude.{◌≡◌};
 ghost use Rattle.cell_log.specs.Code.{from};
 ghost use Rattle.cell_log.specs.Records.{record_at, place_after, cell_at};

@@ -1,4 +1,4 @@
--- `log::behind` meets its contract.
+-- `cell_log::behind` meets its contract.
 -- Assumes nothing.
 use Rattle.cell_log.specs.declared.Number.{Number}
 use Rattle.cell_log.specs.Code.{behind}

@@ -1,4 +1,4 @@
--- `log::next_place` meets its contract.
+-- `cell_log::next_place` meets its contract.
 -- Assumes nothing.
 use Rattle.cell_log.proofs.Places.{place_past, place_stays}
 use Rattle.cell_log.proofs.next_place.Goals as goal

@@ -1,4 +1,4 @@
--- `log::read_cell` meets its contract.
+-- `cell_log::read_cell` meets its contract.
 -- Assumes nothing.
 use Rattle.cell_log.proofs.Places.{room_of, part_cell, part_none}
 use native.Mathlib.Omega.{arith}

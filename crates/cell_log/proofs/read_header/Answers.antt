@@ -1,4 +1,4 @@
--- `log::read_header` meets its contract: a law for each return.
+-- `cell_log::read_header` meets its contract: a law for each return.
 -- Assumes nothing.
 use Rattle.cell_log.proofs.Headers.{header_first, header_second, header_third, header_unsettled, header_taken}
 use Rattle.cell_log.proofs.read_header.Goals as goal

@@ -1,4 +1,4 @@
--- `log::read_number` meets its contract: what is read in at most three groups is the paper's number.
+-- `cell_log::read_number` meets its contract: what is read in at most three groups is the paper's number.
 -- Assumes nothing.
 use mathlib.Core.Path.{sym, ◌∙◌}
 use Rattle.cell_log.proofs.Groups.{number_agrees}

@@ -1,4 +1,4 @@
--- `log::read_record` meets its contract: a law for each return.
+-- `cell_log::read_record` meets its contract: a law for each return.
 -- Assumes nothing.
 use Rattle.cell_log.proofs.Places.{record_end, record_11, record_12, record_cell}
 use native.Mathlib.Omega.{arith}

@@ -1,4 +1,4 @@
--- `log::keep::group_count` meets its contract.
+-- `cell_log::keep::group_count` meets its contract.
 -- Assumes nothing.
 use borrow.Author.Rules.{rules}
 use Rattle.cell_log.proofs.Laws.{groups_1, groups_2, groups_3}

@@ -1,6 +1,5 @@
--- `log::keep::put` meets its contract. The loop: so many octets are copied. The measure is what is left of them.
+-- `cell_log::keep::put` meets its contract. The loop: so many octets are copied.
 -- Assumes nothing.
-use Prim.Native.Nat.{◌-◌}
 use mathlib.Core.Path.{refl}
 use Rattle.runs.proofs.Filling.{begun, turned, done}
 use Rattle.cell_log.proofs.keep.put.Goals as goal

@@ -1,4 +1,4 @@
--- `log::keep::put` meets its contract. The loop: so many octets are copied. The measure is what is left of them.
+-- So many octets are copied. The measure is what is left of them.
 use Prim.Native.Nat.{◌+◌, ◌-◌, ◌≤◌}
 use lib.ListN.{length}
 use Rattle.runs.proofs.Filling.{Filled}

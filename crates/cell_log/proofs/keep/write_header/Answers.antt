@@ -1,4 +1,4 @@
--- `log::keep::write_header` meets its contract: a law for each return.
+-- `cell_log::keep::write_header` meets its contract: a law for each return.
 -- Assumes nothing.
 use mathlib.Core.Path.{◌≡◌}
 use native.Mathlib.Omega.{arith}

@@ -1,4 +1,4 @@
--- `log::keep::write_number` meets its contract: a law for each return.
+-- `cell_log::keep::write_number` meets its contract: a law for each return.
 -- Assumes nothing.
 use Rattle.cell_log.proofs.Laws.{groups_1, groups_many, groups_2, groups_3}
 use Rattle.cell_log.proofs.Keeping.{keeps_not, number_large, number_no_room, stored_1, stored_2, stored_3}
