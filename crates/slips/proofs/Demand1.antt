@@ -1,7 +1,6 @@
 -- Demand 1 for the step: it refuses exactly where the issue says so, under that number; the watch is then as it was, and nothing is told.
 -- Assumes nothing.
-use mathlib.Core.Bool.{Bool, true, false}
-use mathlib.Core.Path.{◌≡◌, refl, sym, ◌∙◌, ap}
+use mathlib.Core.Path.{◌≡◌, refl, ◌∙◌, ap}
 use Prim.Native.Nat.{ℕ, suc}
 use lib.Dec.{eqb}
 use Rattle.runs.proofs.Laws.{split}

@@ -1,14 +1,12 @@
 -- Slips over rows of cells that are taken, of any sender and of one that counts blocks: by two cells, and by the watch.
 -- Assumes nothing.
-use mathlib.Core.Bool.{Bool, true, false, cond}
-use mathlib.Core.List.{List, [], ◌∷◌, ◌++◌, map}
+use mathlib.Core.List.{List, [], ◌∷◌, map}
 use mathlib.Core.Path.{◌≡◌, refl, sym, ◌∙◌, ap, ap₂, subst}
-use Prim.Native.Nat.{ℕ, zero, suc, ◌+◌, ◌*◌, ◌/◌, ◌%◌, ◌-◌, ◌≤◌, ◌<◌}
+use Prim.Native.Nat.{ℕ, suc, ◌+◌, ◌*◌, ◌/◌, ◌%◌, ◌≤◌}
 use native.Mathlib.Omega.{arith}
-use Rattle.runs.proofs.Laws.{split}
 use Rattle.numbers.specs.Numbers.{difference_of}
 use Rattle.slips.specs.Slips.{starts_of, behind_of, slip_of}
-use Rattle.slips.specs.Reports.{Report, told_after, told_of, NeverLonger}
+use Rattle.slips.specs.Reports.{Report, told_after, NeverLonger}
 use Rattle.slips.proofs.Told.{behind_sixteens, never_too_long, exact_119}
 
 -- two cells that are taken one after the other, `k` being sent between them: `ups` cells after the first one raised the second number,

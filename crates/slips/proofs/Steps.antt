@@ -1,7 +1,7 @@
 -- A step of the watch, by what it goes by.
 -- Assumes nothing.
 use mathlib.Core.Bool.{true, false, cond}
-use mathlib.Core.Path.{◌≡◌, refl, sym, ◌∙◌, ap}
+use mathlib.Core.Path.{◌≡◌, sym, ◌∙◌, ap}
 use Prim.Native.Nat.{ℕ, suc, ◌+◌, ◌≤◌}
 use native.Mathlib.Omega.{arith}
 use lib.Dec.{eqb}
@@ -25,7 +25,6 @@ use Rattle.slips.specs.Watch.{
   step_of,
 }
 use Rattle.slips.specs.declared.Watch.{Watch}
-use Rattle.slips.specs.declared.Stepped.{Stepped}
 
 module _ (w : Watch) (number second by : ℕ) where
   pub sure_in_step : difference_of second w.second ≡ may_after w.may by

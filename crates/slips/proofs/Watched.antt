@@ -1,50 +1,24 @@
 -- The watch over rows of cells that are taken: what it tells is never more than what slipped, and of a sender that counts blocks it is
 -- what slipped, one cell later.
 -- Assumes nothing.
-use mathlib.Core.Bool.{Bool, true, false, cond}
-use mathlib.Core.List.{List, [], ◌∷◌, ◌++◌, map}
+use mathlib.Core.Bool.{false, cond}
+use mathlib.Core.List.{List, [], ◌∷◌}
 use mathlib.Core.Path.{◌≡◌, refl, sym, ◌∙◌, ap, ap₂, subst}
-use Prim.Native.Nat.{ℕ, zero, suc, ◌+◌, ◌*◌, ◌/◌, ◌%◌, ◌-◌, ◌≤◌, ◌<◌}
+use Prim.Native.Nat.{ℕ, suc, ◌+◌, ◌*◌, ◌/◌, ◌%◌, ◌-◌, ◌≤◌, ◌<◌}
 use native.Mathlib.Omega.{arith}
 use lib.Dec.{eqb, ltb}
-use borrow.Author.Tests.{eqb-true, eqb-false, eq-eqb, ne_eqb, le-ltb, lt-ltb, ltb-true, ltb-false}
+use borrow.Author.Tests.{eqb-true, eqb-false, ne_eqb, le-ltb, lt-ltb, ltb-true, ltb-false}
 use Rattle.runs.proofs.Laws.{split}
 use Rattle.numbers.specs.Numbers.{difference_of}
 use Rattle.slips.specs.Slips.{starts_of, behind_of}
-use Rattle.slips.specs.Watch.{
-  watch_refused,
-  report_refused,
-  begun,
-  in_step_of,
-  out_of_step,
-  told,
-  may_after,
-  agrees_with,
-  slipped,
-  sure_step,
-  new_step,
-  step_of,
-}
+use Rattle.slips.specs.Watch.{report_refused, begun, in_step_of, out_of_step, told, may_after, agrees_with, slipped, sure_step, new_step, step_of}
 use Rattle.slips.specs.declared.Watch.{Watch}
 use Rattle.slips.specs.declared.Stepped.{Stepped}
-use Rattle.slips.specs.Reports.{Report, watched_from, no_watch, NeverAhead, Spaced, SpacedOut}
+use Rattle.slips.specs.Reports.{Report, watched_from, no_watch, NeverAhead}
 use Rattle.slips.proofs.Laws.{CanBe, nothing_can, new_can, sure_can, not_refused, follows_first, follows_later}
-use Rattle.slips.proofs.Rows.{Follow, Chain, Any, Counted, second_up, number_up, goes_on}
-use Rattle.slips.proofs.Steps.{
-  step_first,
-  step_new,
-  step_sure,
-  new_agrees,
-  new_begins,
-  sure_in_step,
-  sure_slipped,
-  sure_out,
-  settled_in,
-  settled_out,
-  may_at_first,
-  agrees_with_lem,
-}
-use Rattle.slips.proofs.Told.{starts_on, same_sixteens, behind_sixteens, behind_below, behind_is, few_starts}
+use Rattle.slips.proofs.Rows.{Follow, Chain, second_up, number_up, goes_on}
+use Rattle.slips.proofs.Steps.{step_first, step_new, step_sure, new_agrees, new_begins, sure_in_step, sure_slipped, sure_out, settled_in, settled_out}
+use Rattle.slips.proofs.Told.{starts_on, same_sixteens, behind_sixteens, behind_below}
 
 starts_few : (n m : ℕ) → n ≤ 15 → m ≤ 15 → starts_of n m ≤ 2
 unfolding starts_of

@@ -7,23 +7,7 @@ use contract.Lifetimes.{Lfts}
 use Rattle.runs.proofs.Wrong.{Never}
 use Rattle.numbers.specs.Numbers.{difference_of}
 use Rattle.slips.specs.Slips.{starts_of, behind_of}
-use Rattle.slips.specs.Watch.{
-  is_too_large,
-  some_set,
-  unlike,
-  watch_refused,
-  report_refused,
-  begun,
-  in_step_of,
-  out_of_step,
-  may_after,
-  agrees_with,
-  slipped,
-  sure_step,
-  new_step,
-  taken_step,
-  step_of,
-}
+use Rattle.slips.specs.Watch.{is_too_large, some_set, unlike, watch_refused, report_refused, in_step_of, out_of_step, may_after, agrees_with, slipped, sure_step, new_step, taken_step, step_of}
 use Rattle.slips.specs.declared.Watch.{Watch}
 use Rattle.slips.specs.declared.Stepped.{Stepped}
 use Rattle.slips.proofs.step.Kinds as step-kinds
