@@ -8,7 +8,7 @@ use contract.Lifetimes.{Lfts}
 use lib.ListN.{get_or, replicate}
 use Rattle.runs.specs.Refusals.{or_else}
 use Rattle.runs.specs.Runs.{tab}
-use Rattle.runs.proofs.Wrong.{Never, Place, lent}
+use Rattle.runs.proofs.Wrong.{Never, Place, lent, lent_mut}
 use Rattle.formats.proofs.Wrong as formats
 use Rattle.circuits.specs.declared.Verdict.{Verdict}
 use Rattle.circuits.specs.Circuits.{answer_of, circuit_of, fits_slots, cells_per_second, judged_from, check_refusal, checked_of, planned_of, plan_refusal}
@@ -57,7 +57,7 @@ module _ (κs : Lfts 1) (s : Place) where
   -- over six circuits, lent as nines
   abbrev Planning : ℕ → (ℕ → List ℕ → Type 0) → Type 0
   Planning channels Wrong =
-      Never plan-kinds.ps plan-kinds.r plan-reads.Post κs (0x56, (channels, (lent s (replicate 6 9), tt))) (λ x v. Wrong x v.1.1.0)
+      Never plan-kinds.ps plan-kinds.r plan-reads.Post κs (0x56, (channels, (lent_mut s (replicate 6 9), tt))) (λ x v. Wrong x v.1.1.0)
 
   -- refused although there is room
   pub plan_not_always_refused : Planning 60 (λ x shares. x ≡ 0 → ⊥)

@@ -1,0 +1,27 @@
+-- `circuits::check` meets its contract.
+-- Assumes nothing.
+use mathlib.Core.Path.{sym, ◌∙◌}
+use Rattle.circuits.proofs.Laws.{check_said, check_refused, check_taken, check_passed, slots_given}
+use Rattle.circuits.proofs.check.Goals as goal
+
+pub returns-then-refusal-ne0 : goal.returns-then-refusal-ne0
+returns-then-refusal-ne0 c =
+    let a = c.args in
+    let given = c.settings-settled.ensures in
+    check_refused a.octet a.channels a.frequency a.shares.now a.allowances.now given
+    (check_said a.octet a.channels a.frequency a.shares.now a.allowances.now given c.check_refusal-refusal.ensures) c.if-refusal-ne0.true
+
+pub judge-requires : goal.judge-requires
+judge-requires c =
+    let a = c.args in
+    let given = c.settings-settled.ensures in
+    let said = check_said a.octet a.channels a.frequency a.shares.now a.allowances.now given c.check_refusal-refusal.ensures in
+    let passed = check_passed _ _ _ _ _ (sym said ∙ c.if-refusal-ne0.false) in
+    (slots_given _ given, passed.circuits_to, passed.equal)
+
+pub returns : goal.returns
+returns c =
+    let a = c.args in
+    let given = c.settings-settled.ensures in
+    let said = check_said a.octet a.channels a.frequency a.shares.now a.allowances.now given c.check_refusal-refusal.ensures in
+    check_taken a.octet a.channels a.frequency a.shares.now a.allowances.now given (sym said ∙ c.if-refusal-ne0.false) c.judge.ensures
