@@ -1,8 +1,8 @@
 -- Laws of the packing octet: what the two calls come to, there and back, and that 6.3.2 moves no slot.
 -- Assumes nothing.
-use mathlib.Core.Bool.{true, false, cond, ◌||◌}
+use mathlib.Core.Bool.{false, cond, ◌||◌}
 use mathlib.Core.List.{List, [], ◌∷◌}
-use mathlib.Core.Path.{◌≡◌, refl, sym, ◌∙◌, ap, ap₂}
+use mathlib.Core.Path.{◌≡◌, sym, ◌∙◌, ap, ap₂}
 use Prim.Native.Nat.{ℕ, ◌+◌, ◌*◌, ◌-◌, ◌/◌, ◌%◌, ◌≤◌, ◌<◌}
 use native.Mathlib.Nat.{div-add-mod'}
 use native.Mathlib.Omega.{arith}

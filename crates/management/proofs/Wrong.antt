@@ -6,7 +6,7 @@ use Prim.Native.Nat.{ℕ}
 use native.Mathlib.Omega.{arith}
 use contract.Lifetimes.{Lfts}
 use lib.ListN.{get_or, replicate}
-use Rattle.runs.proofs.Wrong.{Never, Place, lent}
+use Rattle.runs.proofs.Wrong.{Never, Place, lent, lent_mut}
 use Rattle.runs.specs.Runs.{read_on, over}
 use Rattle.formats.proofs.Wrong as formats
 use Rattle.management.specs.Controller.{configuration, noted, status_taken, controller_of}
@@ -77,7 +77,7 @@ module _ (κs : Lfts 4) (l m a r : Place) where
   abbrev Equipping : List ℕ → List ℕ → ℕ → (ℕ → List ℕ → List ℕ → List ℕ → Type 0) → Type 0
   Equipping ports message room Wrong =
       Never equipment-kinds.ps equipment-kinds.r equipment-reads.Post κs
-      (lent l ports, (lent m message, (lent a (replicate room 9), (lent r (replicate 4 9), tt))))
+      (lent_mut l ports, (lent m message, (lent_mut a (replicate room 9), (lent_mut r (replicate 4 9), tt))))
       (λ x v. Wrong x v.0 v.1.1.0 v.1.1.1.0)
 
   -- a second port changed
@@ -152,7 +152,7 @@ status code reference = 129 ∷ 0 ∷ 5 ∷ code ∷ 0x56 ∷ 2 ∷ 0x50 ∷ 0 �
 module _ (κs : Lfts 2) (l m : Place) where
   abbrev Controlling : List ℕ → (ℕ → List ℕ → Type 0) → Type 0
   Controlling message Wrong =
-      Never controller-kinds.ps controller-kinds.r controller-reads.Post κs (lent l (desk 0), (lent m message, tt)) (λ x v. Wrong x v.0)
+      Never controller-kinds.ps controller-kinds.r controller-reads.Post κs (lent_mut l (desk 0), (lent m message, tt)) (λ x v. Wrong x v.0)
 
   -- a second port changed
   pub second_record_not_changed : Controlling (status 0xE0 7) (λ x ports. get_or ports 30 0 ≡ 0xE0)
@@ -188,7 +188,7 @@ module _ (κs : Lfts 2) (l m : Place) where
   abbrev Settling : ℕ → ℕ → (ℕ → List ℕ → Type 0) → Type 0
   Settling format packing Wrong =
       Never port-settings-kinds.ps port-settings-kinds.r port-settings-reads.Post κs
-      (lent l ((9 ∷ 9 ∷ 9 ∷ format ∷ packing ∷ []) ++ replicate 23 9), (lent m (replicate 3 9), tt)) (λ x v. Wrong x v.1.0)
+      (lent l ((9 ∷ 9 ∷ 9 ∷ format ∷ packing ∷ []) ++ replicate 23 9), (lent_mut m (replicate 3 9), tt)) (λ x v. Wrong x v.1.0)
 
   -- multi-channel taken for temporal grouping
   pub multi_channel_not_taken : Settling 0x56 0x82 (λ x settings. x ≡ 0)
@@ -208,7 +208,7 @@ module _ (κs : Lfts 2) (l m : Place) where
 module _ (κs : Lfts 1) (l : Place) where
   abbrev Packing : ℕ → ℕ → ℕ → (ℕ → ℕ → Type 0) → Type 0
   Packing format channels order Wrong =
-      Never port-packing-kinds.ps port-packing-kinds.r port-packing-reads.Post κs (format, (channels, (order, (lent l 9, tt))))
+      Never port-packing-kinds.ps port-packing-kinds.r port-packing-reads.Post κs (format, (channels, (order, (lent_mut l 9, tt))))
       (λ x v. Wrong x v.1.1.1.0)
 
   -- grouping by channel coded as temporal grouping
