@@ -9,7 +9,7 @@ use contract.Lifetimes.{Lfts}
 use lib.ListN.{get_or, set, replicate}
 use Rattle.runs.specs.Refusals.{or_else}
 use Rattle.runs.specs.Runs.{tab, joined, octets_of, read_on, over}
-use Rattle.runs.proofs.Wrong.{Never, Place, lent}
+use Rattle.runs.proofs.Wrong.{Never, Place, lent, lent_mut}
 use Rattle.formats.specs.Formats.{format_of}
 use Rattle.formats.proofs.Wrong as formats
 use Rattle.numbers.specs.Numbers.{refusal_of, value_of, entry_of}
@@ -142,7 +142,7 @@ module _ (κs : Lfts 4) (c s a m : Place) where
   abbrev Indicated : Bool → Receiver → List ℕ → ℕ → (Received → List ℕ → List ℕ → List ℕ → Type 0) → Type 0
   Indicated indication st cell room Wrong =
       Never receive-kinds.ps receive-kinds.r receive-reads.Post κs
-      (st, (lent c cell, (indication, (lent s (replicate room 7), (lent a (replicate room 7), (lent m (replicate room 7), tt))))))
+      (st, (lent c cell, (indication, (lent_mut s (replicate room 7), (lent_mut a (replicate room 7), (lent_mut m (replicate room 7), tt))))))
       (λ x v. Wrong x v.1.1.1.0 v.1.1.1.1.0 v.1.1.1.1.1.0)
 
   abbrev Receiving : Receiver → List ℕ → ℕ → (Received → List ℕ → List ℕ → List ℕ → Type 0) → Type 0

@@ -1,0 +1,72 @@
+-- `receiver::receive_any` meets its contract.
+-- Assumes nothing.
+use mathlib.Core.Path.{◌≡◌, ◌∙◌, sym}
+use Prim.Native.Nat.{◌≤◌}
+use native.Mathlib.Nat.{mul-le-mul}
+use native.Mathlib.Omega.{arith}
+use Rattle.formats.specs.Sound.{Limits}
+use Rattle.receiver.proofs.Laws.{Call, early_of, judged_limits, judged_format, judged_whole_lem, early_refused, equal_early, judged_refused, set_limits, cell_whole, missing_few, roomy, judged_taken}
+use Rattle.receiver.proofs.receive_any.Goals as goal
+use Rattle.receiver.proofs.receive_any.Goals.{Start}
+
+-- the call
+abbrev call : Start → Call
+call s =
+    record {
+      state = s.args.state;
+      cell = s.args.cell.now;
+      indication = s.args.indication;
+      samples = s.args.samples.now;
+      ancillary = s.args.ancillary.now;
+      marks = s.args.marks.now;
+    }
+
+pub early_refusal-early-requires : goal.early_refusal-early-requires
+early_refusal-early-requires c = c.settings-set.ensures
+
+pub returns-then-early-ne0 : goal.returns-then-early-ne0
+returns-then-early-ne0 c =
+    rw c.refused.ensures (early_refused (call (goal.at.returns-then-early-ne0 c).Start) c.if-early-ne0.true c.early_refusal-early.ensures)
+
+pub found_now-found-requires : goal.found_now-found-requires
+found_now-found-requires c = let at = goal.at.found_now-found-requires c in
+    let early = equal_early (call at.Start) (sym c.early_refusal-early.ensures ∙ c.if-early-ne0.false) in (
+      (judged_limits c.args.state c.args.cell.now c.args.indication _ c.settings-set.ensures early).sound,
+      judged_whole_lem c.args.state c.args.cell.now c.args.indication _ c.settings-set.ensures early,
+    )
+
+pub judged-answer-requires : goal.judged-answer-requires
+judged-answer-requires c = let at = goal.at.judged-answer-requires c in
+    let early = equal_early (call at.Start) (sym c.early_refusal-early.ensures ∙ c.if-early-ne0.false) in (
+      c.settings-set.ensures,
+      early,
+      c.found_now-found.ensures c.args.state
+          (judged_format c.args.state c.args.cell.now c.args.indication _ c.settings-set.ensures early),
+    )
+
+pub returns-then-answer-ne0 : goal.returns-then-answer-ne0
+returns-then-answer-ne0 c = let at = goal.at.returns-then-answer-ne0 c in
+    judged_refused (call at.Start) (sym c.early_refusal-early.ensures ∙ c.if-early-ne0.false) c.judged-answer.ensures c.if-answer-ne0.true
+
+pub overflow_mul-place : goal.overflow_mul-place
+overflow_mul-place c = let at = goal.at.overflow_mul-place c in
+    omega (arith, (set_limits (call at.Start) (sym c.early_refusal-early.ensures ∙ c.if-early-ne0.false) c.judged-answer.ensures c.settings-set.ensures c.if-answer-ne0.false).used_to)
+
+pub overflow_mul-place-2 : goal.overflow_mul-place-2
+overflow_mul-place-2 c = let at = goal.at.overflow_mul-place-2 c in
+    let product
+    = mul-le-mul (missing_few (call at.Start) (sym c.early_refusal-early.ensures ∙ c.if-early-ne0.false) c.judged-answer.ensures c.settings-set.ensures c.if-answer-ne0.false)
+    (set_limits (call at.Start) (sym c.early_refusal-early.ensures ∙ c.if-early-ne0.false) c.judged-answer.ensures c.settings-set.ensures c.if-answer-ne0.false).used_to in
+    omega arith
+
+pub write-requires : goal.write-requires
+write-requires c = let at = goal.at.write-requires c in (
+  set_limits (call at.Start) (sym c.early_refusal-early.ensures ∙ c.if-early-ne0.false) c.judged-answer.ensures c.settings-set.ensures c.if-answer-ne0.false,
+  cell_whole (call at.Start) (sym c.early_refusal-early.ensures ∙ c.if-early-ne0.false) c.judged-answer.ensures c.settings-set.ensures c.if-answer-ne0.false,
+  roomy (call at.Start) (sym c.early_refusal-early.ensures ∙ c.if-early-ne0.false) c.judged-answer.ensures c.settings-set.ensures c.if-answer-ne0.false,
+)
+
+pub returns : goal.returns
+returns c = let at = goal.at.returns c in
+    judged_taken (call at.Start) (sym c.early_refusal-early.ensures ∙ c.if-early-ne0.false) c.judged-answer.ensures c.settings-set.ensures c.if-answer-ne0.false
+    c.write.ensures
