@@ -3,7 +3,7 @@
 use Rattle.std.proofs.Common.{◌≡◌, ℕ, Bool, true, false, List, [], ◌∷◌, ◌++◌, get_or, replicate, sym, ap, ◌∙◌, arith}
 use mathlib.Core.List.{flat_map}
 use contract.Lifetimes.{Lfts}
-use Rattle.runs.proofs.Wrong.{Never, Place, lent}
+use Rattle.runs.proofs.Wrong.{Never, Place, lent, lent_mut}
 use Rattle.sender.specs.declared.Sender.{Sender}
 use Rattle.sender.specs.declared.many.Batch.{Batch}
 use Rattle.sender.specs.Many.{sent_from, state_behind, stop_after, batch_refusal}
@@ -25,7 +25,7 @@ module _ (κs : Lfts 3) (s a l : Place) where
   abbrev Sending : ℕ → Bool → List ℕ → ℕ → (Batch → List ℕ → Type 0) → Type 0
   Sending number indications samples octets Wrong =
       Never many-kinds.ps many-kinds.r many-reads.Post κs
-      (studio number, (indications, (lent s samples, (lent a (replicate 16 0), (lent l (replicate octets 9), (0, tt))))))
+      (studio number, (indications, (lent s samples, (lent a (replicate 16 0), (lent_mut l (replicate octets 9), (0, tt))))))
       (λ x v. Wrong x v.1.1.1.1.0)
 
   -- a cell written half: the log has room for one record and half of another

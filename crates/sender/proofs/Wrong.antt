@@ -4,7 +4,7 @@ use Rattle.std.proofs.Common.{◌≡◌, ℕ, Bool, true, false, List, [], ◌�
 use contract.Lifetimes.{Lfts}
 use Rattle.runs.specs.Refusals.{or_else}
 use Rattle.runs.specs.Runs.{joined, octets_of}
-use Rattle.runs.proofs.Wrong.{Never, Place, lent}
+use Rattle.runs.proofs.Wrong.{Never, Place, lent, lent_mut}
 use Rattle.formats.proofs.Wrong as formats
 use Rattle.numbers.proofs.Wrong as numbers
 use Rattle.guards.proofs.Wrong as guards
@@ -77,7 +77,7 @@ module _ (κs : Lfts 3) (s a c : Place) where
   -- a call with these samples and ancillary numbers, and this cell lent to it
   abbrev SendingOf : List ℕ → List ℕ → Sender → Bool → List ℕ → (Sent → List ℕ → Type 0) → Type 0
   SendingOf samples ancillary st indication cell Wrong =
-      Never send-kinds.ps send-kinds.r send-reads.Post κs (st, (indication, (lent s samples, (lent a ancillary, (lent c cell, tt)))))
+      Never send-kinds.ps send-kinds.r send-reads.Post κs (st, (indication, (lent s samples, (lent a ancillary, (lent_mut c cell, tt)))))
       (λ x v. Wrong x v.1.1.1.1.0)
 
   abbrev Sending : Sender → Bool → List ℕ → (Sent → List ℕ → Type 0) → Type 0
@@ -88,7 +88,7 @@ module _ (κs : Lfts 3) (s a c : Place) where
   unfolding unfolded
   not_always_refused x v wrong p = wrong (ap (λ (r : Sent). r.refusal) p.answered)
 
-  -- the box that writes nothing: the cell left as it was lent
+  -- the box that writes nothing: the cell left as it was lent_mut
   pub not_left_as_it_was : Sending (studio 0) false (replicate 48 0) (λ x cell. cell ≡ replicate 48 0)
   unfolding unfolded
   not_left_as_it_was x v wrong p =

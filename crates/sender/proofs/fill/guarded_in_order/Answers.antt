@@ -1,0 +1,63 @@
+-- `sender::fill::guarded_in_order` meets its contract.
+-- Assumes nothing.
+use Rattle.std.proofs.Common.{ℕ, ◌-◌, ◌%◌, false, ap, arith}
+use lib.ListN as L
+use Rattle.sender.proofs.Filling.{Filling, filling_begun, filling_on, filling_done, bits_begun, bits_on, guard_ready}
+use Rattle.sender.proofs.Filling.{subframe_ready, used_room, put_ready, in_order, guarded_number}
+use Rattle.sender.proofs.fill.guarded_in_order.Goals as goal
+use Rattle.sender.proofs.fill.guarded_in_order.Goals.{After-loop-slot, In-loop-slot, Start}
+
+abbrev from : In-loop-slot → Start
+from c = (goal.at.In-loop-slot c).Start
+
+so_far : (c : In-loop-slot)
+    → let a = (from c).args in
+    Filling a.set a.sequence a.samples.now a.ancillary.now a.cell.now (L.length a.samples.now)
+    c.loop-slot.cell c.loop-slot.slot
+so_far c = let s = from c in c.loop-slot.invariant.0 s.args.set s.requires.0 s.requires.1 s.requires.2
+
+ended : (c : After-loop-slot)
+    → let a = c.args in
+    Filling a.set a.sequence a.samples.now a.ancillary.now a.cell.now (L.length a.samples.now)
+    c.loop-slot.cell c.loop-slot.slot
+ended c =
+    c.loop-slot.invariant.0 c.args.set c.requires.0 c.requires.1 c.requires.2
+
+pub loop-slot-init : goal.loop-slot-init
+loop-slot-init c = let a = c.args in (
+  λ set p by named. filling_begun set a.sequence a.samples.now a.ancillary.now a.cell.now (L.length a.samples.now),
+  bits_begun a.sequence,
+)
+
+pub guard_in-guard-requires : goal.guard_in-guard-requires
+guard_in-guard-requires c = let given = (from (goal.at.guard_in-guard-requires c).In-loop-slot).requires in guard_ready given.0 given.2 given.4 c.loop-slot.slot
+
+pub subframe-number-requires : goal.subframe-number-requires
+subframe-number-requires c = let given = (from (goal.at.subframe-number-requires c).In-loop-slot).requires in
+    subframe_ready given.0 given.2 c.loop-slot.slot c.guard_in-guard.ensures c.wide-few.ensures.0 (omega arith)
+
+pub overflow_mul-slot : goal.overflow_mul-slot
+overflow_mul-slot c = omega (arith, used_room (from (goal.at.overflow_mul-slot c).In-loop-slot).requires.0 (from (goal.at.overflow_mul-slot c).In-loop-slot).requires.2 c.loop-slot-test.true)
+
+pub put-requires : goal.put-requires
+put-requires c = let given = (from (goal.at.put-requires c).In-loop-slot).requires in put_ready given.0 given.2 c.loop-slot-test.true (so_far (goal.at.put-requires c).In-loop-slot).same given.3
+
+pub loop-slot-preserved : goal.loop-slot-preserved
+loop-slot-preserved c = let a = (from (goal.at.loop-slot-preserved c).In-loop-slot).args in
+    let here = c.loop-slot in
+    let few = c.wide-few in (
+      λ set p by named.
+          filling_on set a.sequence a.samples.now a.ancillary.now a.cell.now (here.invariant.0 set p by named)
+          c.loop-slot-test.true named.width_is
+          (guarded_number p named (in_order p by) c.loop-slot-test.true few.ensures.0 (ap (λ (n : ℕ). n % 2) here.invariant.1)
+          c.subframe-number.ensures)
+          c.put.ensures c.put.auto.cell,
+      bits_on a.sequence here.slot here.invariant.1,
+    )
+
+pub shape_of-cell : goal.shape_of-cell
+shape_of-cell c = (ended c).same
+
+pub returns : goal.returns
+returns c = let a = c.args in
+    filling_done a.set a.sequence a.samples.now a.ancillary.now a.cell.now (ended c) c.loop-slot-test.false

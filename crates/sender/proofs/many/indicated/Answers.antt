@@ -1,0 +1,10 @@
+-- `sender::many::indicated` meets its contract.
+-- Assumes nothing.
+use borrow.Author.Tests.{not-true, not-false}
+use Rattle.sender.proofs.many.indicated.Goals as goal
+
+pub returns-then-not-indications : goal.returns-then-not-indications
+returns-then-not-indications c = rw c.if-not-indications.true
+
+pub returns : goal.returns
+returns c = rw c.if-not-indications.false

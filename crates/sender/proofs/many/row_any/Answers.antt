@@ -1,0 +1,131 @@
+-- `sender::many::row_any` meets its contract. The loop: so many cells are sent. The measure is how many may still be.
+-- Assumes nothing.
+use Rattle.std.proofs.Common.{◌≡◌, ℕ, ◌+◌, ◌-◌, ◌*◌, ◌≤◌, List, length, take, drop, sym, refl, ◌∙◌, arith}
+use Rattle.sender.specs.Many.{next_of}
+use Rattle.sender.specs.Sender.{used_now}
+use Rattle.sender.proofs.Cellwise.{Standing, one_fewer, begun, used_now_lem, limits_now, number_now_lem, room_here, in_samples, known_sound, as_many}
+use Rattle.sender.proofs.Cellwise.{large_ends, can_pack_here, goes_on, ends_full}
+use Rattle.sender.proofs.Packing.{bits_in}
+use Rattle.sender.proofs.Parts.{part_is, cell_size, cell_part, log_kept}
+use Rattle.sender.proofs.many.row_any.Goals as goal
+use Rattle.sender.proofs.many.row_any.Goals.{In-loop-cells, Start}
+
+-- a turn of the loop: the parts of the runs, and their room
+module _ (l : In-loop-cells) where
+  abbrev s : Start
+  s = (goal.at.In-loop-cells l).Start
+
+  abbrev at : ℕ
+  at = l.loop-cells.at
+
+  abbrev to : ℕ
+  to = l.loop-cells.to
+
+  abbrev log : List ℕ
+  log = l.loop-cells.log
+
+  abbrev used : ℕ
+  used = s.args.set.channels * s.args.set.times
+
+  abbrev part : List ℕ → List ℕ
+  part run = take (at + used - at) (drop at run)
+
+  used_is : used ≡ used_now s.args.state
+  used_is = used_now_lem s.args.state s.requires.state_none s.requires.given
+
+  in-s : at + used ≤ length s.args.samples.now
+  in-s = omega (arith, in_samples _ _ _ _ _ _ _ _ s.requires l.loop-cells.invariant l.loop-cells-test.true, used_is)
+
+  in-a : at + used ≤ length s.args.ancillary.now
+  in-a = omega (arith, in-s, s.requires.same)
+
+  in_log : to + 49 ≤ length log
+  in_log = room_here _ _ _ _ _ _ _ _ s.requires l.loop-cells.invariant l.loop-cells-test.true
+
+  next_is : used ≡ used_now l.loop-cells.now
+  next_is = used_is ∙ sym l.loop-cells.invariant.used
+
+  first : part s.args.samples.now ≡ next_of l.loop-cells.now (drop at s.args.samples.now)
+  first = part_is s.args.samples.now at next_is
+
+  second : part s.args.ancillary.now ≡ next_of l.loop-cells.now (drop at s.args.ancillary.now)
+  second = part_is s.args.ancillary.now at next_is
+
+pub overflow_mul-used : goal.overflow_mul-used
+overflow_mul-used c = omega (arith, (limits_now c.args.state c.requires.state_none c.requires.given).used_to)
+
+pub loop-cells-init : goal.loop-cells-init
+loop-cells-init c = begun _ _ _ _ _ _ _ _ c.requires
+
+pub overflow_add-past : goal.overflow_add-past
+overflow_add-past c = omega (arith, in-s (goal.at.overflow_add-past c).In-loop-cells, c.well_formed)
+
+pub offset_bounds-samples-at : goal.offset_bounds-samples-at
+offset_bounds-samples-at c = omega (arith, in-s (goal.at.offset_bounds-samples-at c).In-loop-cells, c.well_formed)
+
+pub slice_bounds-too_large-end : goal.slice_bounds-too_large-end
+slice_bounds-too_large-end c = in-s (goal.at.slice_bounds-too_large-end c).In-loop-cells
+
+pub too_large-requires : goal.too_large-requires
+too_large-requires c = let b = c.requires in
+    let limits = limits_now c.args.state b.state_none b.given in (
+      limits.sample_to,
+      limits.ancillary_to,
+      as_many _ _ _ _ _ _ _ _ b c.loop-cells.invariant c.loop-cells-test.true (first (goal.at.too_large-requires c).In-loop-cells) (second (goal.at.too_large-requires c).In-loop-cells),
+      known_sound _ _ _ _ _ _ _ _ b c.loop-cells.invariant c.loop-cells-test.true (first (goal.at.too_large-requires c).In-loop-cells) (second (goal.at.too_large-requires c).In-loop-cells),
+    )
+
+pub shape_of-log-then-too_large : goal.shape_of-log-then-too_large
+shape_of-log-then-too_large c = c.loop-cells.invariant.same
+
+pub returns-then-too_large : goal.returns-then-too_large
+returns-then-too_large c = large_ends _ _ _ _ _ _ _ _ c.requires c.loop-cells.invariant c.loop-cells-test.true (first (goal.at.returns-then-too_large c).In-loop-cells) (second (goal.at.returns-then-too_large c).In-loop-cells)
+    (sym c.too_large.ensures ∙ c.if-too_large.true)
+
+pub overflow_add-start : goal.overflow_add-start
+overflow_add-start c = omega (arith, in_log (goal.at.overflow_add-start c).In-loop-cells, c.loop-cells.invariant.same, c.well_formed)
+
+pub overflow_add-end : goal.overflow_add-end
+overflow_add-end c = omega (arith, in_log (goal.at.overflow_add-end c).In-loop-cells, c.loop-cells.invariant.same, c.well_formed)
+
+pub bounds-log-to : goal.bounds-log-to
+bounds-log-to c = omega (arith, in_log (goal.at.bounds-log-to c).In-loop-cells)
+
+pub offset_bounds-samples-at-in-loop-cells : goal.offset_bounds-samples-at-in-loop-cells
+offset_bounds-samples-at-in-loop-cells c = omega (arith, in-s (goal.at.offset_bounds-samples-at-in-loop-cells c).In-loop-cells, c.well_formed)
+
+pub slice_bounds-pack-end : goal.slice_bounds-pack-end
+slice_bounds-pack-end c = in-s (goal.at.slice_bounds-pack-end c).In-loop-cells
+
+pub pack-requires : goal.pack-requires
+pack-requires c = let small = sym c.too_large.ensures ∙ c.if-too_large.false in (
+  can_pack_here _ _ _ _ _ _ _ _ c.requires c.loop-cells.invariant c.loop-cells-test.true (first (goal.at.pack-requires c).In-loop-cells) (second (goal.at.pack-requires c).In-loop-cells) small
+      c.indicated-indication.ensures,
+  cell_part (log (goal.at.pack-requires c).In-loop-cells) (to (goal.at.pack-requires c).In-loop-cells) c.octet_of.result (in_log (goal.at.pack-requires c).In-loop-cells),
+)
+
+pub behind-now-requires : goal.behind-now-requires
+behind-now-requires c = (number_now_lem c.loop-cells.now c.loop-cells.invariant.sound, c.second_now-second.ensures)
+
+pub overflow_add-cells : goal.overflow_add-cells
+overflow_add-cells c = omega (arith, c.loop-cells-test.true, c.ranges)
+
+pub loop-cells-smaller : goal.loop-cells-smaller
+loop-cells-smaller c = one_fewer c.loop-cells-test.true
+
+pub loop-cells-preserved : goal.loop-cells-preserved
+loop-cells-preserved c = let filled = c.pack in
+    let octet = c.octet_of.result in
+    let small = sym c.too_large.ensures ∙ c.if-too_large.false in
+    goes_on _ _ _ _ _ _ _ _ c.requires c.loop-cells.invariant c.loop-cells-test.true (first (goal.at.loop-cells-preserved c).In-loop-cells) (second (goal.at.loop-cells-preserved c).In-loop-cells) small
+    c.indicated-indication.ensures c.second_now-second.ensures c.octet_of.ensures
+    (bits_in c.args.set (part (goal.at.loop-cells-preserved c).In-loop-cells c.args.samples.now) (part (goal.at.loop-cells-preserved c).In-loop-cells c.args.ancillary.now) c.loop-cells.now.number
+    c.second_now-second.result c.sequence_in-sequence.ensures filled.ensures)
+    (cell_size (log (goal.at.loop-cells-preserved c).In-loop-cells) (to (goal.at.loop-cells-preserved c).In-loop-cells) octet (in_log (goal.at.loop-cells-preserved c).In-loop-cells)) (filled.auto.cell ∙ cell_part (log (goal.at.loop-cells-preserved c).In-loop-cells) (to (goal.at.loop-cells-preserved c).In-loop-cells) octet (in_log (goal.at.loop-cells-preserved c).In-loop-cells)) refl
+    (log_kept (log (goal.at.loop-cells-preserved c).In-loop-cells) (to (goal.at.loop-cells-preserved c).In-loop-cells) octet (in_log (goal.at.loop-cells-preserved c).In-loop-cells) filled.new.cell filled.auto.cell) refl refl c.behind-now.ensures
+
+pub shape_of-log : goal.shape_of-log
+shape_of-log c = c.loop-cells.invariant.same
+
+pub returns : goal.returns
+returns c = ends_full _ _ _ _ _ _ _ _ c.requires c.loop-cells.invariant c.loop-cells-test.false

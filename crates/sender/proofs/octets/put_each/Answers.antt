@@ -1,0 +1,23 @@
+-- `sender::octets::put_each` meets its contract.
+-- Assumes nothing.
+use Rattle.std.proofs.Common.{ℕ, ◌+◌, ◌-◌, ◌++◌, take, drop, ap, ◌∙◌, arith}
+use Rattle.runs.specs.Runs.{octets_of}
+use Rattle.runs.proofs.Filling.{begun, turned, done}
+use Rattle.runs.proofs.Laws.{length_octets, octet_at}
+use Rattle.sender.proofs.octets.put_each.Goals as goal
+
+pub loop-i-init : goal.loop-i-init
+loop-i-init c = begun c.args.cell.now c.args.at (octets_of c.args.width c.args.number)
+
+pub loop-i-preserved : goal.loop-i-preserved
+loop-i-preserved c = let a = c.args in
+    turned a.cell.now a.at (octets_of a.width a.number) c.loop-i.invariant
+    (omega (arith, length_octets a.width a.number)) (omega (arith, length_octets a.width a.number))
+    (octet_at a.width a.number c.loop-i.i c.loop-i-test.true)
+
+pub returns : goal.returns
+returns c = let a = c.args in
+    done a.cell.now a.at (octets_of a.width a.number) c.loop-i.invariant
+    (omega (arith, length_octets a.width a.number)) ∙ ap
+    (λ (n : ℕ). take a.at a.cell.now ++ (octets_of a.width a.number) ++ drop (a.at + n) a.cell.now)
+    (length_octets a.width a.number)
