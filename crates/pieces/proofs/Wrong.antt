@@ -3,7 +3,7 @@
 -- Assumes nothing.
 use Rattle.std.proofs.Common.{◌≡◌, ℕ, Bool, true, false, List, [], ◌∷◌, ◌++◌, length, replicate, sym, ap, ◌∙◌, true≢false, arith}
 use contract.Lifetimes.{Lfts}
-use Rattle.runs.proofs.Wrong.{Never, Place, lent}
+use Rattle.runs.proofs.Wrong.{Never, Place, lent, lent_mut}
 use Rattle.cell_log.proofs.Wrong as log
 use Rattle.reading.proofs.Computed as reading
 use Rattle.pieces.specs.declared.Found.{Found}
@@ -66,7 +66,7 @@ first (x ∷ l) = x
 module _ (κs : Lfts 2) (p q : Place) where
   abbrev Next : Standing → List ℕ → (Found → List ℕ → Type 0) → Type 0
   Next s piece Wrong =
-      Never next-kinds.ps next-kinds.r next-reads.Post κs (s, (lent p zeros, (lent q piece, (0, tt)))) (λ x v. Wrong x v.1.0)
+      Never next-kinds.ps next-kinds.r next-reads.Post κs (s, (lent_mut p zeros, (lent q piece, (0, tt)))) (λ x v. Wrong x v.1.0)
 
   -- the octet held is forgotten where the piece ends inside a record
   pub held_octet_not_forgotten : Next (among 0 100) (1 ∷ []) (λ x held. x.standing.count ≡ 0)
