@@ -8,7 +8,7 @@ use contract.Lifetimes.{Lfts}
 use lib.ListN.{length, get_or, take, replicate}
 use Rattle.runs.specs.Refusals.{or_else}
 use Rattle.runs.specs.Runs.{over}
-use Rattle.runs.proofs.Wrong.{Never, Place, lent}
+use Rattle.runs.proofs.Wrong.{Never, Place, lent, lent_mut}
 use Rattle.cell_log.proofs.Wrong as log
 use Rattle.receiver.proofs.Wrong as receiver
 use Rattle.reading.specs.Records.{octets_in}
@@ -34,7 +34,7 @@ torn = 0x56 ∷ 2 ∷ 0 ∷ replicate 54 0
 module _ (κs : Lfts 3) (p q r : Place) where
   abbrev Saving : List ℕ → List ℕ → List ℕ → (Salvaged → List ℕ → List ℕ → Type 0) → Type 0
   Saving log out list Wrong =
-      Never salvage-kinds.ps salvage-kinds.r salvage-reads.Post κs (lent p log, (lent q out, (lent r list, tt)))
+      Never salvage-kinds.ps salvage-kinds.r salvage-reads.Post κs (lent p log, (lent_mut q out, (lent_mut r list, tt)))
       (λ x v. Wrong x v.1.0 v.1.1.0)
 
   module _ (log out list : List ℕ) where
