@@ -2,11 +2,6 @@
 -- Assumes nothing.
 use Rattle.formats.proofs.Laws.{by_1, by_2, by_2_above, by_3, by_no}
 use Rattle.formats.proofs.refusal_of.Goals as goal
-use Rattle.formats.proofs.refusal_of.Goals.{Else-slots-channels, Start}
-
--- where only the order is left to judge: the call, and that nothing refused before
-abbrev from : Else-slots-channels → Start
-from c = c.before.before.before
 
 pub returns-then-slots-eq0 : goal.returns-then-slots-eq0
 returns-then-slots-eq0 c = let a = c.args in by_1 a.slots a.channels a.order c.if-slots-eq0.true
@@ -20,9 +15,9 @@ returns-then-slots-channels c = let a = c.args in
     by_2_above a.slots a.channels a.order c.if-slots-eq0.false c.if-channels-eq0.false c.if-slots-channels.true
 
 pub returns-then-order-gt1 : goal.returns-then-order-gt1
-returns-then-order-gt1 c = let a = (from (goal.at.returns-then-order-gt1 c).Else-slots-channels).args in
+returns-then-order-gt1 c = let a = c.args in
     by_3 a.slots a.channels a.order c.if-slots-eq0.false c.if-channels-eq0.false c.if-slots-channels.false c.if-order-gt1.true
 
 pub returns : goal.returns
-returns c = let a = (from (goal.at.returns c).Else-slots-channels).args in
+returns c = let a = c.args in
     by_no a.slots a.channels a.order c.if-slots-eq0.false c.if-channels-eq0.false c.if-slots-channels.false c.if-order-gt1.false
