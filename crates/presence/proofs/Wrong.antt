@@ -3,7 +3,7 @@
 use Rattle.std.proofs.Common.{◌≡◌, ℕ, Bool, true, false, List, [], ◌∷◌, ◌++◌, get_or, replicate, sym, ap, ◌∙◌, true≢false, arith}
 use contract.Lifetimes.{Lfts}
 use Rattle.runs.specs.Runs.{over}
-use Rattle.runs.proofs.Wrong.{Never, Place, lent}
+use Rattle.runs.proofs.Wrong.{Never, Place, lent, lent_mut}
 use Rattle.cell_log.proofs.Wrong as log
 use Rattle.receiver.proofs.Wrong as receiver
 use Rattle.reading.proofs.Computed as reading
@@ -95,7 +95,7 @@ zeros n = replicate n 0
 module _ (κs : Lfts 2) (p q : Place) where
   abbrev Take : List ℕ → (Search → Type 0) → Type 0
   Take piece Wrong =
-      Never take-kinds.ps take-kinds.r take-reads.Post κs (search_start, (lent p (zeros 49), (lent q piece, tt))) (λ x v. Wrong x)
+      Never take-kinds.ps take-kinds.r take-reads.Post κs (search_start, (lent_mut p (zeros 49), (lent q piece, tt))) (λ x v. Wrong x)
 
   -- a sample that isn't zero passed over
   pub sound_not_passed_over : Take (header ++ record_with 1) (λ x. x.sought.found ≡ false)
@@ -112,7 +112,7 @@ module _ (κs : Lfts 2) (p q : Place) where
 module _ (κs : Lfts 1) (p : Place) where
   abbrev Line : Presence → (Put → List ℕ → Type 0) → Type 0
   Line answer Wrong =
-      Never put-line-kinds.ps put-line-kinds.r put-line-reads.Post κs (answer, (lent p (zeros 100), tt))
+      Never put-line-kinds.ps put-line-kinds.r put-line-reads.Post κs (answer, (lent_mut p (zeros 100), tt))
       (λ x v. Wrong x v.1.0)
 
   -- a no written for a yes

@@ -7,7 +7,7 @@ use native.Mathlib.Omega.{arith}
 use contract.Lifetimes.{Lfts}
 use lib.ListN.{get_or, replicate}
 use Rattle.runs.specs.Runs.{over}
-use Rattle.runs.proofs.Wrong.{Never, Place, lent}
+use Rattle.runs.proofs.Wrong.{Never, Place, lent, lent_mut}
 use Rattle.pieces.proofs.Wrong as pieces
 use Rattle.pieces.specs.declared.Standing.{Standing}
 use Rattle.text.specs.declared.Put.{Put}
@@ -58,7 +58,7 @@ module _ (κs : Lfts 0) where
 module _ (κs : Lfts 1) (p : Place) where
   abbrev Line : Stop → (Put → List ℕ → Type 0) → Type 0
   Line stop Wrong =
-      Never put-line-kinds.ps put-line-kinds.r put-line-reads.Post κs (stop, (lent p (replicate 80 0), tt)) (λ x v. Wrong x v.1.0)
+      Never put-line-kinds.ps put-line-kinds.r put-line-reads.Post κs (stop, (lent_mut p (replicate 80 0), tt)) (λ x v. Wrong x v.1.0)
 
   -- a line for a log that ended well
   pub well_has_no_line : Line (stop_by 0 0 7) (λ x run. x.octets ≡ 80)
@@ -73,7 +73,7 @@ module _ (κs : Lfts 1) (p : Place) where
   -- two logs, nines before
   abbrev Keeps : ℕ → (List ℕ → Type 0) → Type 0
   Keeps log Wrong =
-      Never keep-kinds.ps keep-kinds.r keep-reads.Post κs (lent p (replicate 6 9), (log, (stop_by 2 12 7, tt))) (λ x v. Wrong v.0)
+      Never keep-kinds.ps keep-kinds.r keep-reads.Post κs (lent_mut p (replicate 6 9), (log, (stop_by 2 12 7, tt))) (λ x v. Wrong v.0)
 
   -- the second log's place left as it was, and the first one's written
   pub kept_at_its_place : Keeps 1 (λ run. get_or run 4 0 ≡ 9)

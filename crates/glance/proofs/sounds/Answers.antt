@@ -1,0 +1,32 @@
+-- `glance::sounds` meets its contract: a law for each return.
+-- Assumes nothing.
+use native.Mathlib.Omega.{arith}
+use Rattle.formats.proofs.Laws.{limits_of}
+use Rattle.glance.proofs.Laws.{refused_silent, short_silent, sounds_said}
+use Rattle.glance.proofs.Quiet.{quiet_silent}
+use Rattle.glance.proofs.sounds.Goals as goal
+
+pub returns-then-cell-ne48 : goal.returns-then-cell-ne48
+returns-then-cell-ne48 c = short_silent _ _ c.if-cell-ne48.true
+
+pub hushed-requires : goal.hushed-requires
+hushed-requires c = c.if-cell-ne48.false
+
+pub returns-then-hushed : goal.returns-then-hushed
+returns-then-hushed c = quiet_silent _ _ c.if-cell-ne48.false (c.hushed.ensures c.if-hushed.true)
+
+pub returns-then-set-ne0 : goal.returns-then-set-ne0
+returns-then-set-ne0 c = refused_silent _ _ c.settings-set.ensures c.if-set-ne0.true
+
+pub overflow_mul-used : goal.overflow_mul-used
+overflow_mul-used c =
+    let limits = limits_of _ _ _ c.settings-set.ensures c.if-set-ne0.false in
+    omega (arith, limits.used_to)
+
+pub among-requires : goal.among-requires
+among-requires c =
+    let limits = limits_of _ _ _ c.settings-set.ensures c.if-set-ne0.false in
+    (limits.sound, c.if-cell-ne48.false, limits.used_in_lem)
+
+pub returns : goal.returns
+returns c = sounds_said _ _ c.settings-set.ensures c.if-set-ne0.false c.if-cell-ne48.false c.among.ensures

@@ -1,0 +1,16 @@
+-- `presence::parts::past_header` meets its contract.
+-- Assumes nothing.
+use Rattle.std.proofs.Common.{◌≡◌, false, length, sym, ap, ◌∙◌, arith, length-take-le}
+use Rattle.receiver.specs.declared.Ready.{Ready}
+use Rattle.presence.specs.declared.Sought.{Sought}
+use Rattle.presence.specs.Taking.{fresh_sought}
+use Rattle.presence.proofs.parts.past_header.Goals as goal
+
+abbrev sought_of_lem : Ready → Sought
+sought_of_lem opened = record { state = opened.state; refusal = 0; found = false; number = 0 }
+
+pub slice_bounds-read_header-end : goal.slice_bounds-read_header-end
+slice_bounds-read_header-end c = ?
+
+pub returns : goal.returns
+returns c = ap sought_of_lem c.opened-opened.ensures ∙ ap fresh_sought c.read_header-header.ensures
