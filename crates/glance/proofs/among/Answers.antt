@@ -1,8 +1,6 @@
--- `glance::among` meets its contract. The loop: none before this slot. The measure is what is left.
+-- `glance::among` meets its contract.
 -- Assumes nothing.
-use mathlib.Core.Bool.{false}
 use mathlib.Core.Path.{refl, sym, ◌∙◌}
-use Prim.Native.Nat.{◌-◌}
 use native.Mathlib.Omega.{arith}
 use borrow.Author.Rules.{rules}
 use Rattle.glance.specs.Glance.{some}

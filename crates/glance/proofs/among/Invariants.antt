@@ -1,4 +1,4 @@
--- `glance::among` meets its contract. The loop: none before this slot. The measure is what is left.
+-- The loop of `glance::among`: none before this slot. The measure is what is left.
 use mathlib.Core.Bool.{false}
 use mathlib.Core.Path.{◌≡◌}
 use Prim.Native.Nat.{◌≤◌, ◌-◌}

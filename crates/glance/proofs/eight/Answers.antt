@@ -1,7 +1,7 @@
--- `glance::eight` meets its contract. The loop: the octets before this one, packed. The measure is what is left.
+-- `glance::eight` meets its contract.
 -- Assumes nothing.
 use mathlib.Core.Path.{◌≡◌, refl, subst}
-use Prim.Native.Nat.{ℕ, ◌+◌, ◌-◌}
+use Prim.Native.Nat.{ℕ, ◌+◌}
 use native.Mathlib.Omega.{arith}
 use borrow.Author.Rules.{rules}
 use Rattle.glance.specs.Code.{Eight}
@@ -22,10 +22,10 @@ overflow_shl-number c = omega (arith, c.loop-i-test.true)
 
 pub loop-i-preserved : goal.loop-i-preserved
 loop-i-preserved c = (
-      omega (arith, c.loop-i-test.true),
-      eight_on _ _ c.loop-i.invariant.1 c.loop-i-test.true refl
-          (c.shared_slice_known-1.given (c.args.at + c.loop-i.i)).fits,
-    )
+  omega (arith, c.loop-i-test.true),
+  eight_on _ _ c.loop-i.invariant.1 c.loop-i-test.true refl
+      (c.shared_slice_known-1.given (c.args.at + c.loop-i.i)).fits,
+)
 
 pub returns : goal.returns
 returns c = let l = c.loop-i in

@@ -1,4 +1,4 @@
--- `glance::eight` meets its contract. The loop: the octets before this one, packed. The measure is what is left.
+-- The loop of `glance::eight`: the octets before this one, packed. The measure is what is left.
 use Prim.Native.Nat.{◌-◌, ◌≤◌}
 use Rattle.glance.specs.Code.{Eight}
 use Rattle.glance.proofs.eight.Given as goal

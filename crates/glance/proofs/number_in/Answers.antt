@@ -2,7 +2,7 @@
 -- Assumes nothing.
 use native.Mathlib.Omega.{arith}
 use mathlib.Core.Path.{refl}
-use Prim.Native.Nat.{◌+◌, ◌-◌}
+use Prim.Native.Nat.{◌+◌}
 use Rattle.glance.proofs.Laws.{reads_begun, reads_small, reads_on, reads_done}
 use Rattle.glance.proofs.number_in.Goals as goal
 
@@ -17,10 +17,10 @@ overflow_cast-number c = omega (arith, c.shared_slice_known-1.given (c.args.at +
 
 pub overflow_add-number-in-loop-i : goal.overflow_add-number-in-loop-i
 overflow_add-number-in-loop-i c = omega (
-      arith,
-      c.shared_slice_known-1.given (c.args.at + c.loop-i.i),
-      reads_small _ _ _ c.loop-i.invariant c.requires.0 c.loop-i-test.true,
-    )
+  arith,
+  c.shared_slice_known-1.given (c.args.at + c.loop-i.i),
+  reads_small _ _ _ c.loop-i.invariant c.requires.0 c.loop-i-test.true,
+)
 
 pub loop-i-preserved : goal.loop-i-preserved
 loop-i-preserved c = reads_on _ _ _ c.loop-i.invariant c.requires.0 c.requires.1 c.loop-i-test.true refl

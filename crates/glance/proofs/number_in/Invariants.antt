@@ -1,4 +1,4 @@
--- `glance::number_in` meets its contract.
+-- The loop of `glance::number_in`: what is read so far. The measure is what is left.
 use Prim.Native.Nat.{◌-◌}
 use Rattle.glance.proofs.Laws.{Reads}
 use Rattle.glance.proofs.number_in.Given as goal

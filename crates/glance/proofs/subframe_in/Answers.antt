@@ -11,9 +11,9 @@ number_in-requires c = (omega arith, slot_at c.requires.0 c.args.cell.now c.requ
 
 pub returns-then-format-eq4 : goal.returns-then-format-eq4
 returns-then-format-eq4 c = (
-      by_width c.args.format c.args.cell.now c.args.slot c.if-format-eq4.true c.number_in.ensures.0,
-      c.number_in.ensures.1,
-    )
+  by_width c.args.format c.args.cell.now c.args.slot c.if-format-eq4.true c.number_in.ensures.0,
+  c.number_in.ensures.1,
+)
 
 pub overflow_mul-slot-2 : goal.overflow_mul-slot-2
 overflow_mul-slot-2 c = omega (arith, slot_room c.requires.0 c.requires.2)

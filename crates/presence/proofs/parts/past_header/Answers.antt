@@ -9,8 +9,5 @@ use Rattle.presence.proofs.parts.past_header.Goals as goal
 abbrev sought_of_lem : Ready → Sought
 sought_of_lem opened = record { state = opened.state; refusal = 0; found = false; number = 0 }
 
-pub slice_bounds-read_header-end : goal.slice_bounds-read_header-end
-slice_bounds-read_header-end c = ?
-
 pub returns : goal.returns
 returns c = ap sought_of_lem c.opened-opened.ensures ∙ ap fresh_sought c.read_header-header.ensures
