@@ -6,7 +6,7 @@ PROGRAMS := $(filter $(notdir $(wildcard crates/*)),linelist anything salvage sh
 
 all:
 	@echo 'Proves every crate that changed and builds the programs: up to 13 minutes from nothing, on two cores. `make help` has more.'
-	@bash tools/prove.sh check
+	@bash tools/prove.sh
 
 help:
 	@echo 'to use it'
@@ -49,11 +49,6 @@ include tests/face.mk
 include desk/desk.mk
 include web/web.mk
 
-# rt builds for x86-64. Elsewhere what an rt by hand left in target/ isn't taken for built (tools/native.py).
-ifneq ($(MACHINE),x86_64)
-$(shell python3 tools/native.py >&2)
-endif
-
 # The machine that `make lib` builds for.
 TARGET ?= $(MACHINE)
 LIBRARIES := rimesatchel management
@@ -69,7 +64,7 @@ programs: $(PROGRAMS:%=target/bin/%)
 
 $(PROGRAMS:%=target/bin/%) &: $(SOURCES)
 	@echo 'Proves and builds $(PROGRAMS): up to 8 minutes from nothing, on two cores.'
-	@bash tools/prove.sh check $(PROGRAMS)
+	@bash tools/prove.sh programs $(PROGRAMS)
 
 # These run the programs as well as the library.
 fuzz fuzz-list sheet-19 bench bench-list bench-anything bench-salvage: $(PROGRAMS:%=target/bin/%)
@@ -81,7 +76,7 @@ lib: target/$(TARGET)/librimesatchel.a target/$(TARGET)/librime_management.a
 endif
 	@echo 'library: $(^:$(CURDIR)/%=%)'
 
-target/$(TARGET)/lib%.a: target/module/%.bc tools/native.py
+target/$(TARGET)/lib%.a: $(SOURCES) tools/native.py
 	@python3 tools/native.py archive $* $(TARGET)
 
 target/$(TARGET)/librime_management.a: target/$(TARGET)/libmanagement.a

@@ -34,7 +34,7 @@ install:
 	install -m 644 $(INSTALL_HEADERS) $(DESTDIR)$(PREFIX)/include
 	install -m 644 $(INSTALL_ARCHIVES) $(DESTDIR)$(LIBDIR)
 	install -m 755 $(INSTALL_SHARED) $(DESTDIR)$(LIBDIR)
-	cp -P $(INSTALL_LINKS) $(DESTDIR)$(LIBDIR)
+	for file in $(notdir $(INSTALL_LINKS)); do ln -sf $$file.$(ABI) $(DESTDIR)$(LIBDIR)/$$file || exit 1; done
 	install -m 755 $(INSTALL_BIN) $(DESTDIR)$(PREFIX)/bin
 	install -m 644 $(INSTALL_MAN) $(DESTDIR)$(PREFIX)/share/man/man1
 	for file in $(INSTALL_PC); do \

@@ -1,5 +1,5 @@
-# Puts the libraries in place, under the names of bindings/names.mk; tests/face.mk includes this file. rt names an archive by its
-# crate, and its own stays where it is. Nothing but rime_* is visible in any of them, so that a program's own names, and those of
+# Puts the libraries in place, under the names of bindings/names.mk; tests/face.mk includes this file. The proved archives are
+# named by their crates, and stay where they are. Nothing but rime_* is visible in any of them, so that a program's own names, and those of
 # the two libraries, don't meet: rt's archives have no other name, and bindings/rime.map hides what the compiler adds.
 $(LIB)/librimesatchel.a: $(ARCHIVE)
 $(LIB)/librime_management.a: $(MANAGEMENT)
@@ -16,5 +16,6 @@ $(SHARED).$(ABI): $(LIB)/librimesatchel.a bindings/words.c include/rimesatchel.h
 $(SHARED_MANAGEMENT).$(ABI): $(LIB)/librime_management.a bindings/rime.map
 	gcc $(SHARED_FLAGS) -Wl,--whole-archive $< -Wl,--no-whole-archive -o $@
 
+# No link: `rt ci` refuses a folder that has one.
 $(SHARED) $(SHARED_MANAGEMENT): %: %.$(ABI)
-	ln -sf $(<F) $@
+	cp --remove-destination $< $@

@@ -1,7 +1,7 @@
 # The proved library in other languages: the comparison, the examples, the benchmark. The Makefile includes this file;
 # the gate runs it alone by `make -f tests/face.mk face-test`.
 #
-# RIME_LIB     the folder of rt's own librimesatchel.a and libmanagement.a
+# RIME_LIB     the folder of the proved librimesatchel.a and libmanagement.a
 # RIME_PARTS   the parts of the library that the comparison links
 # N, SEED      how many calls `make fuzz` compares, and from which seed
 # ROWS         a pattern that picks the benchmark's rows
@@ -44,11 +44,11 @@ BENCH_FLAGS := -O3 -std=gnu11 $(WARNINGS) -falign-functions=64 -falign-loops=32
 
 # The archives of this repository are made anew where a source is newer, so that nothing is measured or compared that isn't in the
 # crates. Those of another folder are taken as they are.
-SOURCES := $(shell find crates -name '*.rt' -o -name '*.antt') crates.txt
+SOURCES := $(shell find crates -name out -prune -o -name '*.rt' -print -o -name '*.antt' -print) crates.txt
 ifeq ($(RIME_LIB),$(CURDIR)/target/staticlib)
 $(ARCHIVE) $(MANAGEMENT): $(RIME_LIB)/lib%.a: $(SOURCES)
 	@echo 'Proves $* and what it needs, and writes its archive: up to 15 minutes from nothing, on two cores.'
-	@bash tools/prove.sh staticlib $*
+	@bash tools/prove.sh archive $*
 endif
 
 face-archive: $(ARCHIVE) $(MANAGEMENT)
@@ -117,7 +117,7 @@ face-bindings: $(LIB)/librimesatchel.a $(SHARED) $(SHARED_MANAGEMENT)
 	python3 tests/slips.py
 	@echo "bindings: the pages of the Rust crate and of the Python module say what is so"
 
-# Everything that links the archive. The gate builds it while `rt ci` goes on.
+# Everything that links the archive. The gate builds it before its tests.
 face-build: face-compare face-near $(EXAMPLES)/handover-c $(EXAMPLES)/handover-rust $(SHARED) $(SHARED_MANAGEMENT) \
     $(EXAMPLES)/cast-c $(EXAMPLES)/management-c target/bench/bench
 

@@ -1,8 +1,9 @@
 #!/usr/bin/env python3
 """Holds the faces of the library against each other: Rattle's functions marked `extern "C"`, the C headers, the Rust crate's
 `extern` blocks and the Python module's argument types. In all of them each call has the same arguments, by name where the face
-has names, in the same order, of the same width and length, lent to be read or to be written, and returns the same. The version
-is the header's everywhere.
+has names, in the same order, of the same width and length, lent to be read or to be written, and returns the same. A function for
+C has the clauses of the library's own function of its name, word for word. The version is the header's everywhere, and the header
+in the Rust crate is that of include/.
 
 usage: faces.py             compares; the first words of a line say which face differs
        faces.py --planted   plants a fault in each face, one after the other, and sees that each is noticed
@@ -15,7 +16,9 @@ import types
 
 HERE = pathlib.Path(__file__).resolve().parent.parent
 HEADERS = ['include/rimesatchel.h', 'include/rime_management.h']
-CRATES = ['crates/rimesatchel', 'crates/management']
+CRATES = ['crates/rimesatchel_c', 'crates/management_c']
+LIBRARIES = ['crates/rimesatchel', 'crates/management']
+COPY = 'bindings/rust/rimesatchel.h'
 RUST = ['bindings/rust/src/face.rs', 'bindings/rust/src/face/pieces.rs', 'bindings/rust/src/management.rs']
 PYTHON = 'bindings/python/rimesatchel/__init__.py'
 C_KINDS = {'uint8_t': 'u8', 'uint32_t': 'u32', 'uint64_t': 'u64', 'size_t': 'usize', 'bool': 'bool'}
@@ -24,8 +27,8 @@ CTYPES = {ctypes.c_uint8: 'u8', ctypes.c_uint32: 'u32', ctypes.c_uint64: 'u64', 
 
 def texts():
     """Every file that is looked at, by its name."""
-    names = [*HEADERS, *RUST, PYTHON, 'CHANGELOG.md', 'bindings/rust/Cargo.toml', 'examples/rust/Cargo.toml']
-    names += [str(path.relative_to(HERE)) for crate in CRATES for path in sorted((HERE / crate / 'src').glob('**/*.rt'))]
+    names = [*HEADERS, COPY, *RUST, PYTHON, 'CHANGELOG.md', 'bindings/rust/Cargo.toml', 'examples/rust/Cargo.toml']
+    names += [str(path.relative_to(HERE)) for crate in CRATES + LIBRARIES for path in sorted((HERE / crate / 'src').glob('**/*.rt'))]
     names += [f'{folder}/Cargo.lock' for folder in ('bindings/rust', 'examples/rust', 'tests/compare')]
     return {name: (HERE / name).read_text(encoding='utf-8') for name in names}
 
@@ -34,7 +37,7 @@ def rattle(files):
     """Each call: its arguments as (name, type), as C has them, and what it returns."""
     calls = {}
     for path, text in files.items():
-        if not path.endswith('.rt'):
+        if not path.endswith('.rt') or not path.startswith(tuple(f'{crate}/' for crate in CRATES)):
             continue
         for mark, name, parameters, answer in re.findall(r'^(.*)\npub extern "C" fn (\w+)\(([^)]*)\) -> (\w+)', text, re.M):
             arguments = []
@@ -47,8 +50,25 @@ def rattle(files):
                 arguments.append((word, f'{how} {width}[{lent[3][2:]}]' if lent[3] else f'{how} {width}*'))
                 if lent[2] and not lent[3]:
                     arguments.append((f'{word}_len', 'usize'))
-            calls[name] = (arguments, answer) if mark == '#[no_mangle]' else ([('no_mangle', 'missing')], answer)
+            calls[name] = (arguments, answer) if mark == '#[unsafe(no_mangle)]' else ([('no_mangle', 'missing')], answer)
     return calls
+
+
+def promised(files, crates):
+    """Each call's parameters and clauses, as they stand in front of its body."""
+    found = {}
+    for path, text in files.items():
+        if path.endswith('.rt') and path.startswith(tuple(f'{crate}/' for crate in crates)):
+            for name, said in re.findall(r'^pub (?:extern "C" )?fn (rime_\w+)(.*?)^\{$', text, re.M | re.S):
+                found[name] = re.sub(r'\s+', ' ', said).strip()
+    return found
+
+
+def clauses(files):
+    """Where a function for C promises something else than the library's function of its name, or one of the two is missing."""
+    ours, theirs = promised(files, LIBRARIES), promised(files, CRATES)
+    return [f'{name}: {" and ".join(CRATES)} say `{theirs.get(name, "nothing")}`, and the library says `{ours.get(name, "nothing")}`'
+            for name in sorted(ours.keys() | theirs.keys()) if ours.get(name) != theirs.get(name)]
 
 
 def c_header(files):
@@ -158,7 +178,9 @@ def shown(call):
 
 def differences(files):
     ours = rattle(files)
-    wrong = versions(files)
+    wrong = versions(files) + clauses(files)
+    if files[COPY] != files[HEADERS[0]]:
+        wrong.append(f'{COPY} is not {HEADERS[0]}')
     faces = [(', '.join(HEADERS), c_header(files), ours), (', '.join(RUST), rust(files), ours),
              (PYTHON, python(files), {name: bare(call) for name, call in ours.items()})]
     for face, theirs, expected in faces:
@@ -170,10 +192,13 @@ def differences(files):
 
 # A face, what stands there, and what is planted in its place.
 FAULTS = [
-    ('crates/rimesatchel/src/boxes.rt', 'report: &mut [u8; 4]', 'report: &mut [u8; 5]'),
-    ('crates/rimesatchel/src/boxes.rt', 'pub extern "C" fn rime_send(', 'pub extern "C" fn rime_sent('),
-    ('crates/management/src/controller.rt', 'message: &[u8]', 'message: &mut [u8]'),
-    ('crates/management/src/equipment.rt', '#[no_mangle]\n', ''),
+    ('crates/rimesatchel_c/src/boxes.rt', 'report: &mut [u8; 4]', 'report: &mut [u8; 5]'),
+    ('crates/rimesatchel_c/src/boxes.rt', 'pub extern "C" fn rime_send(', 'pub extern "C" fn rime_sent('),
+    ('crates/rimesatchel_c/src/boxes.rt', 'ensures { ReceivedOctets', 'ensures { AnyOctets'),
+    ('crates/rimesatchel/src/facts.rt', 'pub fn rime_format(', 'pub fn rime_formats('),
+    ('crates/management_c/src/controller.rt', 'message: &[u8]', 'message: &mut [u8]'),
+    ('crates/management_c/src/equipment.rt', '#[unsafe(no_mangle)]\n', ''),
+    (COPY, 'RIME_RECEIVER_STATE = 9', 'RIME_RECEIVER_STATE = 5'),
     ('include/rimesatchel.h', 'RIME_RECEIVER_STATE = 9', 'RIME_RECEIVER_STATE = 5'),
     ('include/rimesatchel.h', 'uint32_t channels, uint32_t order, uint8_t', 'uint32_t order, uint32_t channels, uint8_t'),
     ('include/rimesatchel.h', 'uint32_t rime_receiver_placed', 'uint64_t rime_receiver_placed'),

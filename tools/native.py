@@ -1,25 +1,25 @@
 #!/usr/bin/env python3
-"""Runs rt, keeps the LLVM module of what it builds, and makes of it what runs on this machine, or on the other one of the two.
+"""Builds what users link and run, of what rt proved: the archives for this machine and for the other one of the two, and the programs.
 
-  native.py rt WORD..              runs `rt WORD..`; make and the gate call rt by this wherever it builds something
-  native.py                        only looks for what rt built by another call (make begins with it, elsewhere than on x86-64)
-  native.py machine [MACHINE]      prints the name of this machine, or that name; refuses one for which nothing is built
-  native.py module NAME            writes target/module/NAME.bc, the module of the archive of NAME
-  native.py archive NAME MACHINE   writes target/MACHINE/libNAME.a, of this module
+  native.py machine [MACHINE]         prints the name of this machine, or that name; refuses one for which nothing is built
+  native.py programs [NAME..]         proves programs and what they need, and writes target/bin/NAME; all four where none is named
+  native.py archive NAME [MACHINE]    proves the archive of the library NAME and what it needs, and writes target/staticlib/libNAME.a and its
+                                      LLVM module, target/module/NAME.bc; for the other machine target/MACHINE/libNAME.a
+  native.py module NAME               writes target/module/NAME.bc if it isn't there
+  native.py proved                    the same archives and programs over what `rt ci` has just proved in this folder: the gate
   native.py build MODULE FILE [MACHINE]
-                                   builds an archive if FILE ends in .a, else a program (tools/quick_face.py, tools/quick.sh)
+                                      builds an archive if FILE ends in .a, else a program, of a module that needn't be proved
+                                      (tools/quick_face.py, tools/quick.sh)
 
-rt proves on both machines, but builds for x86-64. There its programs and archives are used as they are. On AArch64 the module that
-rt compiled is compiled once more, for this machine, and takes the file's place in target/bin or target/staticlib; rt's own goes to
-target/x86_64. What has no module, as after an `rt check` by hand, is removed, and proved and built again when it is asked for.
+An archive is that of a crate of its own, NAME_c, with a function for C for each call. `rattle build` proves that crate over the libraries
+that rt proved, and compiles it: it builds nothing that isn't proved. It is called here and not by rt for three reasons: rt's `rt lib`
+compiles for newer x86-64 processors alone, it keeps no LLVM module, and after `rt ci`, which leaves only the statements of the libraries
+that it proved, it would prove all of these once more.
 
-The module comes of a copy of the toolchain's folder, made of links, in which clang is a script: it calls clang as rt asks, and
-keeps the module under the checksum of the object that came of it. By this checksum each program and archive that rt wrote has the
-one module that was proved and compiled for it. On x86-64 only the archives are built by the copy, for their modules.
+The module comes of a folder of links to the toolchain's tools, in which clang is a script: it calls clang as rattle asks, and keeps the module
+and the object that came of it. The object has to be the one in the archive.
 """
-import contextlib
-import fcntl
-import hashlib
+import functools
 import os
 import pathlib
 import platform
@@ -31,18 +31,23 @@ import sys
 import tempfile
 
 HERE = pathlib.Path(__file__).resolve().parent
-ROOT = pathlib.Path.cwd()  # the folder that rt is called in
+ROOT = HERE.parent
 TARGET = ROOT / 'target'
 MODULES = TARGET / 'module'
 MACHINE = platform.machine()
+LIBRARIES = ('rimesatchel', 'management')
+PROGRAMS = ('linelist', 'anything', 'salvage', 'sheet')
 
-# The machines that there is code for, by their numbers in ELF. A third isn't added by a line here: LINKING.md, "Platforms".
-ELF = {'x86_64': 62, 'aarch64': 183}
+# The machines that there is code for, and the processors that rattle compiles for there: all of them. A third machine isn't added by a
+# line here: LINKING.md, "Platforms".
+CPU = {'x86_64': 'x86-64', 'aarch64': 'generic'}
 NARROW = re.compile(r'i[3-6]86|x86|x32|arm|arm(v[4-8]|hf|el|eb).*|riscv32|ppc|powerpc|mips|mipsel|s390|wasm32')
 
-# As rt calls clang, but for the machine: `native.py module` holds it to rt's own object.
-AS_RT = ['-fPIC', '-O3', '-ffunction-sections', '-fdata-sections', '-mllvm', '-trap-unreachable', '-mllvm',
-         '-no-trap-after-noreturn']
+# As rattle calls clang, but for the machine.
+AS_RATTLE = ['-fPIC', '-O3', '-ffunction-sections', '-fdata-sections']
+for word in ('-trap-unreachable', '-no-trap-after-noreturn', '-no-x86-call-frame-opt', '-disable-machine-licm',
+             '-disable-postra-machine-licm', '-sink-common-insts=false'):
+    AS_RATTLE += ['-mllvm', word]
 
 # The C functions that take and give the same on every Linux of 64 bits. One with a struct, as fstat, might not.
 ALIKE = {'memcpy', 'memmove', 'memset', 'read', 'write', 'close', 'isatty', '__xpg_strerror_r', 'rattle_arg', 'rattle_arg_count',
@@ -52,7 +57,7 @@ ALIKE = {'memcpy', 'memmove', 'memset', 'read', 'write', 'close', 'isatty', '__x
 
 def known(machine):
     """The machine's name, if it is one of the two."""
-    if machine in ELF:
+    if machine in CPU:
         return machine
     why = ('lengths have 64 bits in the library, and size_t has 32 there' if NARROW.fullmatch(machine) else
            'what the library promises a caller in C was seen for x86_64 and aarch64 alone')
@@ -60,7 +65,7 @@ def known(machine):
 
 
 def known_here():
-    if platform.system() != 'Linux' or MACHINE not in ELF:
+    if platform.system() != 'Linux' or MACHINE not in CPU:
         sys.exit(f'native: this machine is {platform.system()} on {MACHINE}, and Rimesatchel needs Linux on x86_64 or aarch64')
     return MACHINE
 
@@ -69,186 +74,200 @@ def printed_by(*words):
     return subprocess.run(words, stdout=subprocess.PIPE, check=True).stdout
 
 
+@functools.cache
 def kit():
     """The folder of the Rattle toolchain."""
-    return pathlib.Path(printed_by('rt', 'doc').decode().strip()).parent.parent
+    return pathlib.Path(printed_by('rt', 'doc').decode().strip()).parent
 
 
 def tool(name):
-    return kit() / 'on' / MACHINE / 'toolchain' / 'bin' / name
+    return kit() / 'toolchain' / 'bin' / name
 
 
-def compiled(module, code, machine):
-    """Compiles an LLVM module for a machine, if it may be compiled for another than rt's own."""
-    clang = [tool('clang'), f'--target={machine}-unknown-linux-gnu', '--no-default-config',
-             '-Werror', '-Wno-override-module', '-x', 'ir']
-    words = printed_by(*clang, '-S', '-emit-llvm', '-Xclang', '-disable-llvm-passes', module, '-o', '-').decode()
+@functools.cache
+def listed():
+    """What crates.txt says: of each crate the word behind its name, as staticlib, and what it needs."""
+    found = {}
+    for line in (ROOT / 'crates.txt').read_text(encoding='utf-8').splitlines():
+        head, _, needed = line.partition('#')[0].partition(':')
+        if head.strip():
+            name, *kind = head.split()
+            found[name] = kind, needed.replace(',', ' ').split()
+    return found
+
+
+def below(name):
+    """The libraries of this repository that a crate needs, each after those that it needs itself."""
+    found = []
+    for needed in listed()[name][1]:
+        if needed in listed():
+            found += [crate for crate in [*below(needed), needed] if crate not in found]
+    return found
+
+
+def rt(crate, *words, **how):
+    """Runs rt in a crate's folder."""
+    sys.stdout.flush()
+    ran = subprocess.run(['rt', *words], cwd=ROOT / 'crates' / crate, stdin=subprocess.DEVNULL, check=False, **how)
+    if ran.returncode:
+        sys.exit(f'native: {crate} is not proved')
+
+
+def libraries(name, by_ci):
+    """Has rt prove the libraries below a crate. `rt ci` has just done so, unless it gave back what an rt by hand had built there."""
+    rlibs = [ROOT / 'crates' / crate / 'out' / 'rlib' for crate in below(name)]
+    if by_ci and all((rlib / f'{crate}.rlib').is_dir() and not (rlib / 'stamp').exists() for crate, rlib in zip(below(name), rlibs)):
+        return
+    for crate in listed()[name][1]:
+        if crate in listed():
+            rt(crate, 'lib')
+
+
+def by_rattle(name, machine, out, toolchain):
+    """Proves a crate over the libraries below it, as they stand proved, and compiles it for a machine."""
+    kind, needed = listed()[name]
+    folder = ROOT / 'crates' / name
+    words = [kit() / 'bin' / 'rattle', 'build', '--crate-name', name]
+    words += ['src/main.rt' if (folder / 'src' / 'main.rt').exists() else 'src/lib.rt']
+    for crate in ['std', *needed]:
+        rlibs = ROOT / 'crates' / crate / 'out' / 'rlib' if crate in listed() else kit() / 'rlibs'
+        words += ['--extern', f'{crate}={rlibs}/{crate}.rlib']
+    for rlibs in [kit() / 'rlibs', *(ROOT / 'crates' / crate / 'out' / 'rlib' for crate in below(name))]:
+        words += ['-L', f'dependency={rlibs}']
+    words += ['--antt-project', kit() / 'rattle' / 'logic' / 'antt-project.json', '--logic-built', kit() / 'logic_built', '--links', f'{name}=']
+    words += ['--crate-type', 'staticlib'] if 'staticlib' in kind else []
+    words += ['--target', f'{machine}-unknown-linux-gnu', '--cpu', CPU[machine], '--jobs', str(min(4, len(os.sched_getaffinity(0))))]
+    sys.stdout.flush()
+    ran = subprocess.run([*words, '--toolchain', toolchain, '-o', out], cwd=folder, stdin=subprocess.DEVNULL, stderr=subprocess.STDOUT,
+                         check=False)
+    if ran.returncode:
+        sys.exit(f'native: {name} is not proved, or not built')
+
+
+def keeping(room):
+    """A toolchain that keeps the module and the object of each compilation in a folder. It lies there too."""
+    mine = room / 'toolchain'
+    (mine / 'bin').mkdir(parents=True)
+    (mine / 'lib').symlink_to(kit() / 'toolchain' / 'lib')
+    for path in (kit() / 'toolchain' / 'bin').iterdir():
+        if path.name != 'clang':
+            (mine / 'bin' / path.name).symlink_to(path)
+    clang = mine / 'bin' / 'clang'
+    clang.write_text(f'''#!/usr/bin/env bash
+set -eu
+{shlex.quote(str(tool('clang')))} "$@"
+last=
+for word in "$@"; do
+    case $word in *.bc) cp "$word" {shlex.quote(str(room))}/module.bc ;; esac
+    case $last$word in -o*.o) cp "$word" {shlex.quote(str(room))}/module.o ;; esac
+    last=$word
+done
+''', encoding='utf-8')
+    clang.chmod(0o755)
+    return mine
+
+
+def looked_at(module):
+    """A module's words, of which each function for C takes what C's callers give."""
+    words = printed_by(tool('clang'), '--no-default-config', '-Wno-override-module', '-x', 'ir', '-S', '-emit-llvm', '-Xclang',
+                       '-disable-llvm-passes', module, '-o', '-').decode()
     # C's callers needn't widen what they pass on AArch64, and no function for C may count on it
     if wide := re.search(r'^define (?!internal |private )[^@\n]*@([^(\n]*)\(.*\b(?:zero|sign)ext\b', words, re.M):
         sys.exit(f'native: {wide[1]} counts on a caller who widens a number, and C has none on AArch64')
-    if machine != 'x86_64':
-        module = code.with_suffix('.ll')
-        module.write_text(words.replace(' "target-cpu"="x86-64"', ''), encoding='utf-8')
-    subprocess.run(clang + AS_RT + ['-c', module, '-o', code], check=True)
+    return words
+
+
+def calls_alike(code):
+    """An object calls no C function but those that are alike on every machine."""
     called = printed_by('nm', '-u', code).decode().split()[1::2]
     if strange := sorted(set(called) - ALIKE):
         sys.exit(f'native: {" ".join(strange)} is called: is it alike on every machine? (ALIKE in tools/native.py)')
 
 
+def put(file, place):
+    """Puts a file in its place, whole."""
+    place.parent.mkdir(parents=True, exist_ok=True)
+    new = place.with_name(f'{place.name}.{os.getpid()}.new')
+    shutil.copyfile(file, new)
+    new.chmod(0o755 if place.parent.name == 'bin' else 0o644)
+    new.rename(place)
+
+
+def archive(name, machine, by_ci=False):
+    """The archive of a library, and for this machine its module."""
+    crate = f'{name}_c'
+    libraries(crate, by_ci)
+    with tempfile.TemporaryDirectory() as folder:
+        room = pathlib.Path(folder)
+        made, module, code = (room / part for part in ('made.a', 'module.bc', 'module.o'))
+        by_rattle(crate, machine, made, keeping(room))
+        if printed_by('ar', 'p', made) != code.read_bytes():
+            sys.exit(f'native: the archive of {name} is not of the module that was kept')
+        looked_at(module)
+        calls_alike(code)
+        if machine == MACHINE:
+            put(module, MODULES / f'{name}.bc')
+        put(made, TARGET / ('staticlib' if machine == MACHINE else machine) / f'lib{name}.a')
+
+
+def program(name):
+    """A program that rt built. Elsewhere than on x86-64 rt's is no use, and the same crate is compiled for this machine."""
+    made = ROOT / 'crates' / name / 'out' / name
+    if MACHINE == 'x86_64':
+        put(made, TARGET / 'bin' / name)
+        return
+    put(made, TARGET / 'x86_64' / name)
+    with tempfile.TemporaryDirectory() as folder:
+        code, made = pathlib.Path(folder) / 'program.o', pathlib.Path(folder) / 'made'
+        by_rattle(name, MACHINE, code, kit() / 'toolchain')
+        link(code, made)
+        put(made, TARGET / 'bin' / name)
+
+
+def link(code, made):
+    calls_alike(code)
+    subprocess.run(['gcc', '-O2', '-Wl,--gc-sections', code, HERE / 'native_os.c', '-o', made], check=True)
+
+
 def build(module, file, machine=MACHINE):
-    """A program or an archive for a machine, of an LLVM module. The file is put in its place last, whole."""
+    """A program or an archive for a machine, of an LLVM module."""
     file = pathlib.Path(file)
-    file.parent.mkdir(parents=True, exist_ok=True)
-    with tempfile.TemporaryDirectory(dir=file.parent) as folder:
-        code, made = (pathlib.Path(folder) / part for part in (f'{file.stem.removeprefix("lib")}.o', 'made'))
-        compiled(module, code, machine)
+    words = looked_at(module)
+    with tempfile.TemporaryDirectory() as folder:
+        # an archive's object has the crate's name
+        text, code, made = (pathlib.Path(folder) / part for part in ('module.ll', f'{file.stem.removeprefix("lib")}.o', 'made'))
+        text.write_text(re.sub(r' "target-cpu"="[^"]*"', '', words), encoding='utf-8')
+        subprocess.run([tool('clang'), f'--target={machine}-unknown-linux-gnu', '--no-default-config', '-Werror', '-Wno-override-module',
+                        '-x', 'ir', *AS_RATTLE, '-c', text, '-o', code], check=True)
         if file.suffix == '.a':
+            calls_alike(code)
             subprocess.run([tool('llvm-ar'), 'rcsD', made, code], check=True)
         else:
-            subprocess.run(['gcc', '-O2', '-Wl,--gc-sections', code, HERE / 'native_os.c', '-o', made], check=True)
-        made.rename(file)
-
-
-def inside(file):
-    """A program's octets, or those of the one object in an archive."""
-    return printed_by('ar', 'p', file) if file.suffix == '.a' else file.read_bytes()
-
-
-def by_rt(file):
-    """Is it for x86-64?"""
-    octets = inside(file)
-    return octets[:4] == b'\x7fELF' and int.from_bytes(octets[18:20], 'little') == ELF['x86_64']
-
-
-def module_of(file):
-    """The module that this program or archive of rt's was compiled from, if it was kept."""
-    code = file if file.suffix == '.a' else TARGET / 'obj' / f'{file.name}.o'
-    kept = MODULES / f'{hashlib.sha256(inside(code)).hexdigest()}.bc' if code.exists() else None
-    return kept if kept and kept.exists() else None
-
-
-def settle():
-    """Puts programs and archives for this machine in the place of those that rt built."""
-    if MACHINE == 'x86_64':
-        return
-    for file in [*TARGET.glob('bin/*'), *TARGET.glob('staticlib/*.a')]:
-        if not by_rt(file):
-            continue
-        module = module_of(file)
-        if module is None:
-            (TARGET / 'stamp' / file.name).unlink(missing_ok=True)  # by it rt would take the program for built
-            file.unlink()
-            continue
-        (TARGET / 'x86_64').mkdir(exist_ok=True)
-        shutil.copy2(file, TARGET / 'x86_64')
-        build(module, file)
-
-
-def keep_module(name):
-    """target/module/NAME.bc, of the archive that stands in target/. Built by rt alone, it has none, and is built once more."""
-    own = TARGET / ('staticlib' if MACHINE == 'x86_64' else 'x86_64') / f'lib{name}.a'
-    if not own.exists() or module_of(own) is None:
-        print(f'native: the module of {name} was not kept, so it is proved and built once more', flush=True)
-        subprocess.run([sys.executable, __file__, 'rt', 'staticlib', name], check=True)
-    module = module_of(own)
-    with tempfile.TemporaryDirectory(dir=MODULES) as folder:
-        code, made = pathlib.Path(folder) / 'as-rt.o', pathlib.Path(folder) / 'module.bc'
-        compiled(module, code, 'x86_64')
-        if code.read_bytes() != inside(own):
-            sys.exit('native: rt calls clang by other words than AS_RT in tools/native.py has')
-        shutil.copyfile(module, made)
-        made.rename(MODULES / f'{name}.bc')
-
-
-def archive(name, machine):
-    file = TARGET / known(machine) / f'lib{name}.a'
-    if machine != 'x86_64':
-        build(MODULES / f'{name}.bc', file, machine)
-    elif MACHINE == 'x86_64' or not file.exists():
-        sys.exit(f'native: {file} is written when {name} is proved, elsewhere than on x86_64')
-
-
-def linked(folder, other, names):
-    """FOLDER as OTHER is, by links, but for what its subfolder NAMES[0] has at NAMES[1].. ."""
-    folder.mkdir()
-    for path in other.iterdir():
-        if path.name != names[0]:
-            (folder / path.name).symlink_to(path.absolute())
-    if names[1:]:
-        linked(folder / names[0], other / names[0], names[1:])
-
-
-@contextlib.contextmanager
-def keeping_kit():
-    """A copy of the toolchain's folder that keeps each module."""
-    home = kit()
-    place = ['on', MACHINE, 'toolchain', 'bin', 'clang']
-    with tempfile.TemporaryDirectory() as folder:
-        os.chmod(folder, 0o755)  # root's rt runs a program as nobody, by the loader in the toolchain's folder
-        mine = pathlib.Path(folder) / 'kit'
-        linked(mine, home, place)
-        clang = mine.joinpath(*place)
-        clang.write_text(f'''#!/usr/bin/env bash
-set -eu
-{shlex.quote(str(home.joinpath(*place)))} "$@"
-module= object= last=
-for word in "$@"; do
-    case $word in *.bc) module=$word ;; esac
-    [ "$last" != -o ] || object=$word
-    last=$word
-done
-[ -n "$module" ] || exit 0
-kept={shlex.quote(str(MODULES))}
-mkdir -p "$kept" # here, since `rt ci` removes target/ at its start
-sum=$(sha256sum < "$object")
-install -m 644 "$module" "$kept/$$.new"
-mv "$kept/$$.new" "$kept/${{sum%% *}}.bc"
-''', encoding='utf-8')
-        clang.chmod(0o755)
-        yield mine
-
-
-def rt(words):
-    if MACHINE == 'x86_64' and words[:1] != ['staticlib']:
-        os.execvp('rt', ['rt', *words])
-    with keeping_kit() as mine:
-        ended = subprocess.run(['rt', *words], env=dict(os.environ, RATTLE_HOME=str(mine)), check=False).returncode
-    settle()
-    sys.exit(ended)
-
-
-@contextlib.contextmanager
-def alone(wait):
-    """Elsewhere than on x86-64: not while another rt of this folder goes on, which runs what stands in target/bin."""
-    if MACHINE == 'x86_64':
-        yield True
-        return
-    with open(ROOT / 'crates.txt', encoding='utf-8') as file:
-        free = True
-        try:
-            fcntl.flock(file, fcntl.LOCK_EX | (0 if wait else fcntl.LOCK_NB))
-        except BlockingIOError:
-            free = False
-        yield free
+            link(code, made)
+        file.parent.mkdir(parents=True, exist_ok=True)
+        shutil.copy(made, file)
 
 
 def main(words):
     known_here()
-    if words[:1] == ['rt']:
-        with alone(wait=True):
-            settle()
-            rt(words[1:])
-    elif not words:
-        with alone(wait=False) as nobody_else:
-            if nobody_else:
-                settle()
-    elif words[0] == 'machine':
+    if words[:1] == ['machine']:
         print(known(words[1] if words[1:] else MACHINE))
-    elif words[0] == 'module' and len(words) == 2:
-        keep_module(words[1])
-    elif words[0] == 'archive' and len(words) == 3:
-        archive(*words[1:])
-    elif words[0] == 'build' and len(words) in (3, 4):
+    elif words[:1] == ['programs']:
+        for name in words[1:] or PROGRAMS:
+            rt(name, 'run', stdout=subprocess.DEVNULL)
+            program(name)
+    elif words[:1] == ['archive'] and len(words) in (2, 3):
+        archive(words[1], known(words[2] if words[2:] else MACHINE))
+    elif words[:1] == ['module'] and len(words) == 2:
+        if not (MODULES / f'{words[1]}.bc').exists():
+            archive(words[1], MACHINE)
+        (MODULES / f'{words[1]}.bc').touch()
+    elif words == ['proved']:
+        for name in LIBRARIES:
+            archive(name, MACHINE, by_ci=True)
+        for name in PROGRAMS:
+            program(name)
+    elif words[:1] == ['build'] and len(words) in (3, 4):
         build(words[1], words[2], known(words[3] if words[3:] else MACHINE))
     else:
         sys.exit(__doc__)

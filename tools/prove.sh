@@ -1,15 +1,19 @@
 #!/usr/bin/env bash
-# Runs rt with a line for each crate as it is proved. All that the prover says goes to a file.
+# Proves and builds, with a line for each crate as it is proved. All that the prover says goes to a file.
 #
-#   bash tools/prove.sh check [CRATE..]     prove crates and what they need, and build the programs among them
-#   bash tools/prove.sh staticlib CRATE     prove a crate and what it needs, and write its archive
+#   bash tools/prove.sh                      prove every crate, and build the programs
+#   bash tools/prove.sh programs PROGRAM..   prove programs and what they need, and build them
+#   bash tools/prove.sh archive NAME         prove the archive of a library and what it needs, and build it
 set -u
 export LC_ALL=C
 cd "$(dirname "$0")/.." || exit 2
 log=target/prove.log
 mkdir -p target
 echo "what the prover says goes to $log; a line for each crate:"
-python3 tools/native.py rt "$@" 2>&1 | tee "$log" | grep --line-buffered '^rt: ' | sed -u 's/^rt: /  /'
+built() {
+    if [ $# != 0 ]; then python3 tools/native.py "$@"; else rt all check && python3 tools/native.py programs; fi
+}
+built "$@" 2>&1 | tee "$log" | sed -un 's/^rt: /  /p; s/^native: /  /p; s/^crate \([a-z_]*\): modules.*/  \1/p'
 status=${PIPESTATUS[0]}
 [ "$status" = 0 ] || {
     echo "not proved; the first errors of $log:" >&2
