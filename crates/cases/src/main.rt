@@ -1,27 +1,19 @@
 #![tactic(auto)]
 // The paper's cases that aren't proved, and Appendix 2's examples: a file for each section. What they write is compared with
 // the file `stdout`.
-use libc::STDOUT_FILENO;
-
 mod channel_status;
 mod missing_cells;
 mod subframe_formats;
 mod the_log;
 
-fn wide(octet: u8) -> u64 {
-    octet as u64
-}
-
 // A line: what is told, and a number.
-fn say(what: &[u8], number: u8) {
-    io::write_all(STDOUT_FILENO, what);
-    io::print_decimal(STDOUT_FILENO, wide(number));
-    io::write_all(STDOUT_FILENO, b"\n");
+fn say(rt: &impl Print, what: &str, number: u8) {
+    let _ = println!(rt; "{what}{number}");
 }
 
-fn main() {
-    subframe_formats::cases();
-    missing_cells::cases();
-    channel_status::cases();
-    the_log::cases();
+fn main(rt: HostRuntime) {
+    subframe_formats::cases(&rt);
+    missing_cells::cases(&rt);
+    channel_status::cases(&rt);
+    the_log::cases(&rt);
 }

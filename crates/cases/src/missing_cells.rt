@@ -1,6 +1,4 @@
 // Document 01, "What the receiver writes": the gap between the last number and the next.
-use super::{say, wide};
-use libc::STDOUT_FILENO;
 use receiver::Receiver;
 use sender::Sender;
 
@@ -39,15 +37,15 @@ fn taken(last: u8, next: u8) -> receiver::Received {
 }
 
 // A line: the refusal, and the missing count beside it, since a refused cell has none missing too.
-fn tell(what: &[u8], last: u8, next: u8) {
+fn tell(rt: &impl Print, what: &str, last: u8, next: u8) {
     let got = taken(last, next);
-    io::write_all(STDOUT_FILENO, what);
-    io::print_decimal(STDOUT_FILENO, wide(got.refusal));
-    say(b", missing ", got.missing);
+    let refusal = got.refusal;
+    let missing = got.missing;
+    let _ = println!(rt; "{what}{refusal}, missing {missing}");
 }
 
-pub(crate) fn cases() {
-    tell(b"last 15, next 0: refused ", 15, 0);
-    tell(b"last 3, next 2: refused ", 3, 2);
-    tell(b"last 3, next 3: refused ", 3, 3);
+pub(crate) fn cases(rt: &impl Print) {
+    tell(rt, "last 15, next 0: refused ", 15, 0);
+    tell(rt, "last 3, next 2: refused ", 3, 2);
+    tell(rt, "last 3, next 3: refused ", 3, 3);
 }

@@ -9,10 +9,9 @@ use borrow.Author.Tests.{eq-eqb, ne_eqb, lt-ltb, le-ltb, eqb-true, eqb-false, lt
 use lib.Dec.{eqb, ltb}
 use lib.IntN.{ℤ, pos, negsuc}
 use lib.Signed.{lt_z}
-use Rattle.io.specs.Counts.{clamp_len}
 use Rattle.runs.proofs.Laws.{both_true, split}
 use Rattle.source.specs.declared.turns.Turn.{Turn}
-use Rattle.source.specs.Turns.{without, came_of, turn_of, Reads}
+use Rattle.source.specs.Turns.{without, came_of, clamp_len, turn_of, Reads}
 
 -- a read that failed
 pub failed : (got : ℤ) (room left : ℕ) → lt_z got (pos 0) ≡ true → without 3 left ≡ turn_of got room left

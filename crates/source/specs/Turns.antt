@@ -17,6 +17,11 @@ came_of octets left =
     cond (eqb octets 0) (without 2 left)
     (cond (ltb left octets) (without 4 left) (record { what = 1; octets = octets; left = left - octets }))
 
+-- what a read answered, brought into a buffer of so many octets: none where it is below 0
+abbrev pub clamp_len : ℤ → ℕ → ℕ
+clamp_len (pos k) most = min k most
+clamp_len (negsuc k) most = 0
+
 -- what a read answered, with its sign: below 0 it failed, 3; else it is how many octets came, which the buffer holds
 unfoldable pub turn_of : ℤ → ℕ → ℕ → Turn
 turn_of (pos n) room left = came_of (min n room) left

@@ -4,20 +4,49 @@
 ghost use Rattle.std.specs.Prelude.{true, ◌≡◌, ◌≤◌, length};
 ghost use Rattle.source.specs.Kinds.{kind_of};
 
-use libc::{STDERR_FILENO, STDIN_FILENO};
+use std::fs::File;
+use std::io;
+use std::io::{IsTerminal, Read, Stdin};
 use stops::Stop;
 use text::Put;
 
+mod reasons; // reasons.rt: why something failed, in the system's words
 mod turns; // turns.rt: what a program does behind a read
+mod words; // words.rt: the words of the command line
 
 pub use turns::{Turn, answered, first, goes_on, read, well};
+pub use words::given;
 
-// A descriptor to read from, and how many octets of a lent name say what is read. Below 0: nothing is to be read, and why is said
-// already.
-#[derive(Clone, Copy)]
+// What is read: standard input, or a file that was opened, and is closed where this is dropped. Or nothing, and why is said already.
+#[derive(Drop)]
+pub enum Reader {
+    Nothing,
+    Standard(Stdin),
+    Opened(File),
+}
+
+impl Read for Reader {
+    fn read(&mut self, buf: &mut [u8]) -> io::Result<usize> {
+        match self {
+            Reader::Nothing => Ok(0),
+            Reader::Standard(input) => input.read(buf),
+            Reader::Opened(file) => file.read(buf),
+        }
+    }
+}
+
+// What to read from, and how many octets of a lent name say what is read.
+#[derive(Drop)]
 pub struct Source {
-    pub fd: i32,
+    pub from: Reader,
     pub length: usize,
+}
+
+impl Source {
+    // Whether there is nothing to read. Why is said already.
+    pub fn is_nothing(&self) -> bool {
+        matches!(self.from, Reader::Nothing)
+    }
 }
 
 // What a word of the command line is: 1 a file's name; 2 `-`, which is standard input; 3 another word that begins with `-`.
@@ -36,51 +65,64 @@ pub fn kind(word: &[u8]) -> u8
     3
 }
 
+// Writes octets to standard error. Where that fails there is nobody left to tell.
+fn say(rt: &HostRuntime, octets: &[u8]) {
+    let _ = rt.stderr().write_all(octets);
+}
+
 // Says how a program is called.
-fn usage(program: &[u8], words: &[u8]) {
-    io::write_all(STDERR_FILENO, b"usage: ");
-    io::write_all(STDERR_FILENO, program);
-    io::write_all(STDERR_FILENO, b" ");
-    io::write_all(STDERR_FILENO, words);
-    io::write_all(STDERR_FILENO, b"\n");
+fn usage(rt: &HostRuntime, program: &[u8], words: &[u8]) {
+    say(rt, b"usage: ");
+    say(rt, program);
+    say(rt, b" ");
+    say(rt, words);
+    say(rt, b"\n");
 }
 
 // Says what failed, and the system's reason, on standard error. It answers nothing and changes nothing lent, so it has no promise.
-pub fn told(program: &[u8], what: &[u8]) {
-    io::write_all(STDERR_FILENO, program);
-    io::write_all(STDERR_FILENO, b": ");
-    os::fail(what);
+pub fn told(rt: &HostRuntime, program: &[u8], what: &[u8], why: &io::Error) {
+    let mut text = [0u8; 128];
+    let octets = reasons::put_reason(why, &mut text);
+    say(rt, program);
+    say(rt, b": ");
+    say(rt, what);
+    say(rt, b": ");
+    say(rt, &text[..octets]);
+    say(rt, b"\n");
 }
 
 // Says a line of what is read, on standard error. It asks that the line is whole, and its callers prove that.
-pub(crate) fn said(program: &[u8], name: &[u8], line: &[u8], whole: bool)
+pub(crate) fn said(rt: &HostRuntime, program: &[u8], name: &[u8], line: &[u8], whole: bool)
     requires { whole ≡ true }
 {
     if !whole {
         return;
     }
-    io::write_all(STDERR_FILENO, program);
-    io::write_all(STDERR_FILENO, b": ");
-    io::write_all(STDERR_FILENO, name);
-    io::write_all(STDERR_FILENO, b": ");
-    io::write_all(STDERR_FILENO, line);
+    say(rt, program);
+    say(rt, b": ");
+    say(rt, name);
+    say(rt, b": ");
+    say(rt, line);
 }
 
 // Says where a log stopped, and why; nothing where it ended well. It answers nothing and changes nothing lent, so it has no promise.
-pub fn stopped(program: &[u8], name: &[u8], stop: Stop) {
+pub fn stopped(rt: &HostRuntime, program: &[u8], name: &[u8], stop: Stop) {
     if stop.what == 0 {
         return;
     }
     let mut text = [0u8; 128];
     let line = stops::put_line(stop, &mut text);
     let octets = line.octets;
-    said(program, name, &text[..octets], line.whole);
+    said(rt, program, name, &text[..octets], line.whole);
 }
 
 fn nothing() -> Source
     ensures { result.length ≡ 0 }
 {
-    Source { fd: -1, length: 0 }
+    Source {
+        from: Reader::Nothing,
+        length: 0,
+    }
 }
 
 // Puts words into a name, and answers how many octets of it they are.
@@ -108,10 +150,10 @@ pub fn numbered(log: usize, name: &mut [u8]) -> usize
 }
 
 // The name of the file, or of standard input, that a word of the command line names.
-pub fn name_of(index: usize, name: &mut [u8]) -> usize
+pub fn name_of(rt: &HostRuntime, index: usize, name: &mut [u8]) -> usize
     ensures { result ≤ length name.new }
 {
-    let length = os::arg(index, name);
+    let length = words::length_of(words::word(rt, index, name));
     if kind(&name[..length]) == 2 {
         return words_in(name, b"standard input");
     }
@@ -119,63 +161,85 @@ pub fn name_of(index: usize, name: &mut [u8]) -> usize
 }
 
 // Standard input, unless it is a terminal: who types no name is told how the program is called.
-pub fn input(program: &[u8], words: &[u8], name: &mut [u8]) -> Source
+pub fn input(rt: &HostRuntime, program: &[u8], words: &[u8], name: &mut [u8]) -> Source
     ensures { result.length ≤ length name.new }
 {
-    if libc::isatty(STDIN_FILENO) == 1 {
-        usage(program, words);
+    let input = rt.stdin();
+    if input.is_terminal() {
+        usage(rt, program, words);
         return nothing();
     }
     let length = words_in(name, b"standard input");
     Source {
-        fd: STDIN_FILENO,
+        from: Reader::Standard(input),
         length,
     }
 }
 
+// Opens a file for reading. The library takes a name that is text, so one that isn't is refused, by the reason that the system has
+// for octets that are none.
+fn opened(rt: &HostRuntime, name: &[u8]) -> io::Result<File> {
+    match std::str::from_utf8(name) {
+        Ok(path) => File::open(rt, path),
+        Err(_) => Err(reasons::no_text()),
+    }
+}
+
 // The file, or standard input, that a word of the command line names.
-pub fn named(program: &[u8], words: &[u8], index: usize, name: &mut [u8]) -> Source
+pub fn named(
+    rt: &HostRuntime,
+    program: &[u8],
+    words: &[u8],
+    index: usize,
+    name: &mut [u8],
+) -> Source
     ensures { result.length ≤ length name.new }
 {
-    let length = os::arg(index, name);
-    if os::errno() != 0 {
-        told(program, b"the name of the file");
-        return nothing();
-    }
+    let length = match words::word(rt, index, name) {
+        Ok(length) => length,
+        Err(why) => {
+            told(rt, program, b"the name of the file", &why);
+            return nothing();
+        }
+    };
     let what = kind(&name[..length]);
     if what == 2 {
-        return input(program, words, name);
+        return input(rt, program, words, name);
     }
     if what == 3 {
-        usage(program, words);
+        usage(rt, program, words);
         return nothing();
     }
-    let fd = os::open_read(&name[..length]);
-    if fd < 0 {
-        told(program, &name[..length]);
-        return nothing();
+    match opened(rt, &name[..length]) {
+        Ok(file) => Source {
+            from: Reader::Opened(file),
+            length,
+        },
+        Err(why) => {
+            told(rt, program, &name[..length], &why);
+            nothing()
+        }
     }
-    Source { fd, length }
 }
 
 // The same for a program that takes one word at most: without it, standard input.
-pub fn chosen(program: &[u8], words: &[u8], name: &mut [u8]) -> Source
+pub fn chosen(rt: &HostRuntime, program: &[u8], words: &[u8], name: &mut [u8]) -> Source
     ensures { result.length ≤ length name.new }
 {
-    let count = os::arg_count();
-    if count < 2 {
-        return input(program, words, name);
+    if !given(rt, 1) {
+        return input(rt, program, words, name);
     }
-    if 2 < count {
-        usage(program, words);
+    if given(rt, 2) {
+        usage(rt, program, words);
         return nothing();
     }
-    named(program, words, 1, name)
+    named(rt, program, words, 1, name)
 }
 
 // Closes what was opened. It answers nothing and changes nothing lent, so it has no promise.
 pub fn done(source: Source) {
-    if source.fd != STDIN_FILENO {
-        libc::close(source.fd);
+    let Source { from, length: _ } = source;
+    if let Reader::Opened(file) = from {
+        drop(file);
     }
 }

@@ -1,7 +1,10 @@
 // What a program does behind a read. The four programs read in one loop, `while goes_on(turn, ..) { turn = read(..); .. }`, and what
 // makes it end, and whether it ended well, is here.
-ghost use Rattle.std.specs.Prelude.{◌&&◌, ◌≡◌, eqb, ltb, length};
-ghost use Rattle.source.specs.Turns.{first_turn, turn_of, Reads};
+ghost use Rattle.std.specs.Prelude.{◌&&◌, ◌≡◌, eqb, ltb, length, pos, ◌≤ℤ◌};
+ghost use Rattle.source.specs.Turns.{first_turn, turn_of, clamp_len, Reads};
+
+use std::io;
+use std::io::Read;
 
 // What to do: 1 go on, 2 finish, since the input ends, 3 say that the read failed, 4 say that more octets came than can be counted.
 // Then how many octets came, which lie at the start of the buffer, and how many may still come.
@@ -41,7 +44,7 @@ pub fn answered(got: isize, buffer: &[u8], left: u64) -> Turn
     if got < 0 {
         return without(3, left);
     }
-    let octets = io::count(got, buffer);
+    let octets = count(got, buffer);
     if octets == 0 {
         return without(2, left);
     }
@@ -56,19 +59,56 @@ pub fn answered(got: isize, buffer: &[u8], left: u64) -> Turn
     }
 }
 
-// Reads once. Where that fails, it says so at once, while the system still knows why.
-pub fn read(program: &[u8], name: &[u8], fd: i32, buffer: &mut [u8], left: u64) -> Turn
+// How many octets of a buffer came, where a read answered so many: never more than there are.
+fn count(got: isize, buffer: &[u8]) -> usize
+    requires { pos 0 ≤ℤ got }
+    ensures { result ≡ clamp_len got (length buffer.now) }
+{
+    (got as usize).min(buffer.len())
+}
+
+// What a read answered, as a number: how many octets came, or -1 where it failed.
+fn number_of(outcome: &io::Result<usize>) -> isize {
+    match outcome {
+        Ok(octets) => isize::try_from(*octets).unwrap_or(isize::MAX),
+        Err(_) => -1,
+    }
+}
+
+// Reads once. Where that fails, it says so, in the system's words.
+pub fn read<R: Read>(
+    rt: &HostRuntime,
+    program: &[u8],
+    name: &[u8],
+    from: &mut R,
+    buffer: &mut [u8],
+    left: u64,
+) -> Turn
     ensures { Reads left (length buffer.new) result }
 {
-    let got = libc::read(fd, buffer);
+    let outcome = from.read(buffer);
+    let got = number_of(&outcome);
     let turn = answered(got, buffer, left);
     if turn.what == 3 {
-        crate::told(program, name);
+        say_failure(rt, program, name, outcome);
     }
     if turn.what == 4 {
-        crate::said(program, name, b"more octets than can be counted\n", true);
+        crate::said(
+            rt,
+            program,
+            name,
+            b"more octets than can be counted\n",
+            true,
+        );
     }
     turn
+}
+
+// Says why a read failed.
+fn say_failure(rt: &HostRuntime, program: &[u8], name: &[u8], outcome: io::Result<usize>) {
+    if let Err(why) = outcome {
+        crate::told(rt, program, name, &why);
+    }
 }
 
 // Whether to read on: where the last read brought octets, and the caller wants more.
