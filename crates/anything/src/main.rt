@@ -4,22 +4,21 @@
 ghost use Rattle.std.specs.Prelude.{true, ◌≡◌, ◌≤◌, length, take};
 ghost use Rattle.presence.specs.Taking.{Takes};
 
-use libc::STDOUT_FILENO;
 use presence::Search;
-use source::Turn;
+use source::{Reader, Turn};
+use std::io;
 
 // Says what failed, and the system's reason.
-fn told(what: &[u8]) {
-    source::told(b"anything", what);
+fn told(rt: &HostRuntime, what: &[u8], why: &io::Error) {
+    source::told(rt, b"anything", what, why);
 }
 
 // Writes the line to standard output. It asks that the line is whole, and its caller proves that.
-fn print(line: &[u8], whole: bool)
+fn print(rt: &HostRuntime, line: &[u8], whole: bool)
     requires { whole ≡ true }
 {
-    let written = io::write_all(STDOUT_FILENO, line);
-    if !written {
-        told(b"standard output");
+    if let Err(why) = rt.stdout().write_all(line) {
+        told(rt, b"standard output", &why);
     }
 }
 
@@ -34,44 +33,44 @@ fn take_read(search: Search, held: &mut [u8; 49], buffer: &[u8], turn: Turn) -> 
 
 // Writes the answer of a log that ends here, or behind a yes or a fault. Where no record says yes, it says where the log stopped: a yes
 // stays a yes whatever is behind it.
-fn finish(name: &[u8], search: Search, held: [u8; 49]) {
+fn finish(rt: &HostRuntime, name: &[u8], search: Search, held: [u8; 49]) {
     let answer = presence::end(search, held);
     let mut text = [0u8; 64];
     let line = presence::put_line(answer, &mut text);
     let octets = line.octets;
-    print(&text[..octets], line.whole);
+    print(rt, &text[..octets], line.whole);
     if !answer.found {
-        source::stopped(b"anything", name, stops::of(search.standing, held));
+        source::stopped(rt, b"anything", name, stops::of(search.standing, held));
     }
 }
 
 // Reads a log piece by piece, up to the first record that says yes. `name` is what a failed read is told of.
-fn find(fd: i32, name: &[u8], held: &mut [u8; 49], buffer: &mut [u8]) {
+fn find(rt: &HostRuntime, from: &mut Reader, name: &[u8], held: &mut [u8; 49], buffer: &mut [u8]) {
     let mut search = presence::start();
     let mut turn = source::first();
     while source::goes_on(turn, presence::reads_on(search)) {
-        turn = source::read(b"anything", name, fd, buffer, turn.left);
+        turn = source::read(rt, b"anything", name, from, buffer, turn.left);
         search = take_read(search, held, buffer, turn);
     }
     if source::well(turn) {
-        finish(name, search, *held);
+        finish(rt, name, search, *held);
     }
 }
 
-fn find_from(fd: i32, name: &[u8]) {
+fn find_from(rt: &HostRuntime, from: &mut Reader, name: &[u8]) {
     let mut held = [0u8; 49];
-    let mut buffer = io::large_buffer();
-    find(fd, name, &mut held, &mut buffer);
+    let mut buffer = [0u8; 65536];
+    find(rt, from, name, &mut held, &mut buffer);
 }
 
 // Answers for the log that the one argument names, or the one on standard input.
-fn main() {
-    let mut name = io::buffer();
-    let source = source::chosen(b"anything", b"[FILE]", &mut name);
-    if source.fd < 0 {
+fn main(rt: HostRuntime) {
+    let mut name = [0u8; 4096];
+    let mut source = source::chosen(&rt, b"anything", b"[FILE]", &mut name);
+    if source.is_nothing() {
         return;
     }
     let length = source.length;
-    find_from(source.fd, &name[..length]);
+    find_from(&rt, &mut source.from, &name[..length]);
     source::done(source);
 }

@@ -5,24 +5,26 @@
 ghost use Rattle.std.specs.Prelude.{true, ◌≡◌, ◌≤◌, length, take};
 ghost use Rattle.listing.specs.Taking.{Takes};
 
-use libc::STDOUT_FILENO;
 use listing::{Listing, Printed};
-use source::Turn;
+use source::{Reader, Turn};
+use std::io;
 
 // Says what failed, and the system's reason.
-fn told(what: &[u8]) {
-    source::told(b"linelist", what);
+fn told(rt: &HostRuntime, what: &[u8], why: &io::Error) {
+    source::told(rt, b"linelist", what, why);
 }
 
 // Writes lines to standard output, and answers whether it could. It asks that they are whole, and its callers prove that.
-fn print(lines: &[u8], whole: bool) -> bool
+fn print(rt: &HostRuntime, lines: &[u8], whole: bool) -> bool
     requires { whole ≡ true }
 {
-    let written = io::write_all(STDOUT_FILENO, lines);
-    if !written {
-        told(b"standard output");
+    match rt.stdout().write_all(lines) {
+        Ok(()) => true,
+        Err(why) => {
+            told(rt, b"standard output", &why);
+            false
+        }
     }
-    written
 }
 
 // Hands the list just what a read delivered: the first octets of the buffer, as many as came. The lines of so many are whole in the
@@ -44,50 +46,57 @@ fn take_read(
 }
 
 // Writes what ends the list.
-fn finish(listing: Listing, held: [u8; 49], text: &mut [u8])
+fn finish(rt: &HostRuntime, listing: Listing, held: [u8; 49], text: &mut [u8])
     requires { 131072 ≤ length text.old }
 {
     let listed = listing::end(listing, held, text);
     let octets = listed.octets;
-    print(&text[..octets], listed.whole);
+    print(rt, &text[..octets], listed.whole);
 }
 
 // Reads a log piece by piece, and writes its lines as it goes. `name` is what a failed read is told of.
-fn list(fd: i32, name: &[u8], held: &mut [u8; 49], buffer: &mut [u8], text: &mut [u8])
+fn list(
+    rt: &HostRuntime,
+    from: &mut Reader,
+    name: &[u8],
+    held: &mut [u8; 49],
+    buffer: &mut [u8],
+    text: &mut [u8],
+)
     requires { (length buffer.old ≤ 65536) × (131072 ≤ length text.old) }
 {
     let mut listing = listing::start_longest();
     let mut turn = source::first();
     while source::goes_on(turn, listing::reads_on(listing)) {
-        turn = source::read(b"linelist", name, fd, buffer, turn.left);
+        turn = source::read(rt, b"linelist", name, from, buffer, turn.left);
         let printed = take_read(listing, held, buffer, turn, text);
         let listed = printed.listed;
         let length = listed.octets;
-        if !print(&text[..length], listed.whole) {
+        if !print(rt, &text[..length], listed.whole) {
             return;
         }
         listing = printed.listing;
     }
     if source::well(turn) {
-        finish(listing, *held, text);
+        finish(rt, listing, *held, text);
     }
 }
 
-fn list_from(fd: i32, name: &[u8]) {
+fn list_from(rt: &HostRuntime, from: &mut Reader, name: &[u8]) {
     let mut held = [0u8; 49];
-    let mut buffer = io::large_buffer();
+    let mut buffer = [0u8; 65536];
     let mut text = [0u8; 131072];
-    list(fd, name, &mut held, &mut buffer, &mut text);
+    list(rt, from, name, &mut held, &mut buffer, &mut text);
 }
 
 // Lists the log that the one argument names, or the one on standard input.
-fn main() {
-    let mut name = io::buffer();
-    let source = source::chosen(b"linelist", b"[FILE]", &mut name);
-    if source.fd < 0 {
+fn main(rt: HostRuntime) {
+    let mut name = [0u8; 4096];
+    let mut source = source::chosen(&rt, b"linelist", b"[FILE]", &mut name);
+    if source.is_nothing() {
         return;
     }
     let length = source.length;
-    list_from(source.fd, &name[..length]);
+    list_from(&rt, &mut source.from, &name[..length]);
     source::done(source);
 }

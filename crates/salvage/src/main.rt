@@ -6,34 +6,37 @@ ghost use Rattle.std.specs.Prelude.{true, ◌≡◌, ◌≤◌, length, take};
 ghost use Rattle.salvaging.specs.Taking.{Takes};
 ghost use Rattle.salvage.specs.Whole.{Whole};
 
-use libc::{STDERR_FILENO, STDOUT_FILENO};
 use salvaging::{Salvaging, Wrote};
-use source::Turn;
+use source::{Reader, Turn};
+use std::io;
 use text::Put;
 
 // Says what failed, and the system's reason.
-fn told(what: &[u8]) {
-    source::told(b"salvage", what);
+fn told(rt: &HostRuntime, what: &[u8], why: &io::Error) {
+    source::told(rt, b"salvage", what, why);
 }
 
 // Writes octets, and answers whether it could. It asks that they are whole, and its callers prove that.
-fn print(fd: i32, name: &[u8], octets: &[u8], whole: bool) -> bool
+fn print(rt: &HostRuntime, to: &impl Print, name: &[u8], octets: &[u8], whole: bool) -> bool
     requires { whole ≡ true }
 {
-    let written = io::write_all(fd, octets);
-    if !written {
-        told(name);
+    match to.write_all(octets) {
+        Ok(()) => true,
+        Err(why) => {
+            told(rt, name, &why);
+            false
+        }
     }
-    written
 }
 
 // Writes what a piece made, the new log first, and answers whether it could.
-fn print_both(out: &[u8], saved: Put, notes: &[u8], noted: Put) -> bool
+fn print_both(rt: &HostRuntime, out: &[u8], saved: Put, notes: &[u8], noted: Put) -> bool
     requires { Whole saved (length out.now) × Whole noted (length notes.now) }
 {
     let octets = saved.octets;
     if !print(
-        STDOUT_FILENO,
+        rt,
+        &rt.stdout(),
         b"standard output",
         &out[..octets],
         saved.whole,
@@ -42,7 +45,8 @@ fn print_both(out: &[u8], saved: Put, notes: &[u8], noted: Put) -> bool
     }
     let lines = noted.octets;
     print(
-        STDERR_FILENO,
+        rt,
+        &rt.stderr(),
         b"standard error",
         &notes[..lines],
         noted.whole,
@@ -70,13 +74,14 @@ fn take_read(
 }
 
 // Writes what is said last.
-fn finish(salvaging: Salvaging, held: [u8; 49], notes: &mut [u8])
+fn finish(rt: &HostRuntime, salvaging: Salvaging, held: [u8; 49], notes: &mut [u8])
     requires { 131072 ≤ length notes.old }
 {
     let noted = salvaging::end(salvaging, held, notes);
     let octets = noted.octets;
     print(
-        STDERR_FILENO,
+        rt,
+        &rt.stderr(),
         b"standard error",
         &notes[..octets],
         noted.whole,
@@ -85,7 +90,8 @@ fn finish(salvaging: Salvaging, held: [u8; 49], notes: &mut [u8])
 
 // Reads a log piece by piece to its end, and writes what comes of it as it goes. `name` is what a failed read is told of.
 fn save(
-    fd: i32,
+    rt: &HostRuntime,
+    from: &mut Reader,
     name: &[u8],
     held: &mut [u8; 49],
     buffer: &mut [u8],
@@ -97,36 +103,36 @@ fn save(
     let mut salvaging = salvaging::start();
     let mut turn = source::first();
     while source::goes_on(turn, true) {
-        turn = source::read(b"salvage", name, fd, buffer, turn.left);
+        turn = source::read(rt, b"salvage", name, from, buffer, turn.left);
         let wrote = take_read(salvaging, held, buffer, turn, out, notes);
         let saved = wrote.saved;
         let noted = wrote.noted;
-        if !print_both(out, saved, notes, noted) {
+        if !print_both(rt, out, saved, notes, noted) {
             return;
         }
         salvaging = wrote.salvaging;
     }
     if source::well(turn) {
-        finish(salvaging, *held, notes);
+        finish(rt, salvaging, *held, notes);
     }
 }
 
-fn save_from(fd: i32, name: &[u8]) {
+fn save_from(rt: &HostRuntime, from: &mut Reader, name: &[u8]) {
     let mut held = [0u8; 49];
-    let mut buffer = io::large_buffer();
+    let mut buffer = [0u8; 65536];
     let mut out = [0u8; 131072];
     let mut notes = [0u8; 131072];
-    save(fd, name, &mut held, &mut buffer, &mut out, &mut notes);
+    save(rt, from, name, &mut held, &mut buffer, &mut out, &mut notes);
 }
 
 // Salvages the log that the one argument names, or the one on standard input.
-fn main() {
-    let mut name = io::buffer();
-    let source = source::chosen(b"salvage", b"[FILE]", &mut name);
-    if source.fd < 0 {
+fn main(rt: HostRuntime) {
+    let mut name = [0u8; 4096];
+    let mut source = source::chosen(&rt, b"salvage", b"[FILE]", &mut name);
+    if source.is_nothing() {
         return;
     }
     let length = source.length;
-    save_from(source.fd, &name[..length]);
+    save_from(&rt, &mut source.from, &name[..length]);
     source::done(source);
 }

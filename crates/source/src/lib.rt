@@ -4,6 +4,7 @@
 ghost use Rattle.std.specs.Prelude.{true, ◌≡◌, ◌≤◌, length};
 ghost use Rattle.source.specs.Kinds.{kind_of};
 
+use std::fmt::InlineText;
 use std::fs::File;
 use std::io;
 use std::io::{IsTerminal, Read, Stdin};
@@ -15,7 +16,7 @@ mod turns; // turns.rt: what a program does behind a read
 mod words; // words.rt: the words of the command line
 
 pub use turns::{Turn, answered, first, goes_on, read, well};
-pub use words::given;
+pub use words::{count, given, word};
 
 // What is read: standard input, or a file that was opened, and is closed where this is dropped. Or nothing, and why is said already.
 #[derive(Drop)]
@@ -50,6 +51,7 @@ impl Source {
 }
 
 // What a word of the command line is: 1 a file's name; 2 `-`, which is standard input; 3 another word that begins with `-`.
+#[tactic(auto, unfolding(crate::specs::Kinds::kind_of))]
 pub fn kind(word: &[u8]) -> u8
     ensures { result ≡ kind_of word.now }
 {
@@ -81,13 +83,13 @@ fn usage(rt: &HostRuntime, program: &[u8], words: &[u8]) {
 
 // Says what failed, and the system's reason, on standard error. It answers nothing and changes nothing lent, so it has no promise.
 pub fn told(rt: &HostRuntime, program: &[u8], what: &[u8], why: &io::Error) {
-    let mut text = [0u8; 128];
-    let octets = reasons::put_reason(why, &mut text);
+    let line = InlineText::<300>::of(why);
+    let reason = reasons::words_of(line.as_str());
     say(rt, program);
     say(rt, b": ");
     say(rt, what);
     say(rt, b": ");
-    say(rt, &text[..octets]);
+    say(rt, reason.as_bytes());
     say(rt, b"\n");
 }
 
@@ -153,7 +155,7 @@ pub fn numbered(log: usize, name: &mut [u8]) -> usize
 pub fn name_of(rt: &HostRuntime, index: usize, name: &mut [u8]) -> usize
     ensures { result ≤ length name.new }
 {
-    let length = words::length_of(words::word(rt, index, name));
+    let length = word(rt, index, name).unwrap_or(0);
     if kind(&name[..length]) == 2 {
         return words_in(name, b"standard input");
     }
@@ -195,7 +197,7 @@ pub fn named(
 ) -> Source
     ensures { result.length ≤ length name.new }
 {
-    let length = match words::word(rt, index, name) {
+    let length = match word(rt, index, name) {
         Ok(length) => length,
         Err(why) => {
             told(rt, program, b"the name of the file", &why);

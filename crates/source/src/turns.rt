@@ -38,6 +38,7 @@ fn without(what: u8, left: u64) -> Turn
 }
 
 // What is to be done when a read into this buffer answered `got`.
+#[tactic(auto, unfolding(crate::specs::Turns::turn_of, crate::specs::Turns::came_of))]
 pub fn answered(got: isize, buffer: &[u8], left: u64) -> Turn
     ensures { result ≡ turn_of got (length buffer.now) left }
 {

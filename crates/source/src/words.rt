@@ -13,7 +13,7 @@ pub fn given(rt: &impl Env, index: usize) -> bool {
 
 // Puts a word into a name, and answers how many octets of it the word is. One that isn't there, or is longer than the name, is
 // none: the system's reason says which.
-pub(crate) fn word(rt: &impl Env, index: usize, name: &mut [u8]) -> io::Result<usize>
+pub fn word(rt: &impl Env, index: usize, name: &mut [u8]) -> io::Result<usize>
     ensures { IfOk result (λ n. n ≤ length name.new) }
 {
     match rt.arg(index, name) {
@@ -23,7 +23,12 @@ pub(crate) fn word(rt: &impl Env, index: usize, name: &mut [u8]) -> io::Result<u
     }
 }
 
-// How many octets a word is: none, where it could not be taken.
-pub(crate) fn length_of(word: io::Result<usize>) -> usize {
-    word.unwrap_or(0)
+// How many words there are.
+pub fn count(rt: &impl Env) -> usize {
+    for i in 1..usize::MAX {
+        if !given(rt, i) {
+            return i - 1;
+        }
+    }
+    usize::MAX
 }
