@@ -1,16 +1,14 @@
 -- Laws of a whole call: how many cells may be sent, and why it stops.
 -- Assumes nothing.
-use Rattle.std.proofs.Common.{◌≡◌, ℕ, suc, ◌+◌, ◌-◌, ◌*◌, ◌/◌, ◌%◌, ◌<◌, ◌≤◌, Bool, true, false, cond, not, eqb, ltb, List, length, take, sym, refl, ap, ◌∙◌, subst, ap₂, mul-le-mul_right, mod-lt, suc-mul, div-add-mod', arith, length-take-le, ltb-false, ltb-true, le-ltb, lt-ltb, eq-eqb, ne_eqb, eqb-true}
-use native.Mathlib.Nat.{mul-div-le}
+use Rattle.std.proofs.Common.{◌≡◌, ℕ, suc, ◌+◌, ◌-◌, ◌*◌, ◌/◌, ◌<◌, ◌≤◌, Bool, not, eqb, ltb, List, length, take, sym, ap, ◌∙◌, subst, mul-le-mul_right, mod-lt, suc-mul, div-add-mod', arith, length-take-le, ltb-false, ltb-true, le-ltb, lt-ltb, eq-eqb, ne_eqb, eqb-true}
 use borrow.Author.Tests.{eqb-false, not-true}
-use Rattle.runs.specs.Runs.{written}
 use Rattle.runs.proofs.Laws.{split, first_refuses, then_later}
 use Rattle.formats.specs.declared.Settled.{Settled}
 use Rattle.formats.specs.Settings.{settings_of}
 use Rattle.sender.specs.declared.Sender.{Sender}
 use Rattle.sender.specs.declared.many.Batch.{Batch}
 use Rattle.sender.specs.declared.many.Reached.{Reached}
-use Rattle.sender.specs.Many.{SentCell, sent_into, state_behind, records_of, room_from, stop_after, batch_of, batch_not, batch_refusal, SendsMany}
+use Rattle.sender.specs.Many.{SentCell, sent_into, room_from, stop_after, batch_of, batch_not, batch_refusal, SendsMany}
 use Rattle.sender.specs.ManyCode.{Bounds, WritesMany, stop_by}
 use Rattle.sender.specs.Packing.{values_refused_by}
 use Rattle.sender.specs.Sender.{used_now, state_refusal}

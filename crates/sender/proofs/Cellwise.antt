@@ -1,11 +1,10 @@
 -- Laws of sending cell after cell: what the loops keep, and where they end.
 -- Assumes nothing.
-use Rattle.std.proofs.Common.{◌≡◌, ℕ, zero, suc, ◌+◌, ◌-◌, ◌*◌, ◌/◌, ◌%◌, ◌^◌, ◌<◌, ◌≤◌, Bool, true, false, cond, not, ◌&&◌, ◌||◌, eqb, ltb, List, [], ◌∷◌, ◌++◌, length, take, drop, replicate, sym, refl, ap, ◌∙◌, subst, ap₂, append_assoc, append-nil, mul-le-mul_right, suc-mul, zero-mul, arith, length-append, length-drop, length-take-le, take_all, drop-drop, ltb-false, ltb-true, le-ltb, lt-ltb, eq-eqb, ne_eqb}
+use Rattle.std.proofs.Common.{◌≡◌, ℕ, zero, suc, ◌+◌, ◌-◌, ◌*◌, ◌%◌, ◌<◌, ◌≤◌, Bool, true, false, cond, not, ◌&&◌, ◌||◌, eqb, ltb, List, [], ◌∷◌, ◌++◌, length, take, drop, replicate, sym, refl, ap, ◌∙◌, subst, ap₂, append_assoc, append-nil, mul-le-mul_right, suc-mul, zero-mul, arith, length-append, length-drop, length-take-le, take_all, drop-drop, ltb-false, ltb-true, le-ltb, eq-eqb, ne_eqb}
 use mathlib.Core.List.{flat_map}
 use borrow.Rule.Slice.PartMut.{put_mid}
 use lib.ListN.{length-replicate}
 use lib.ListN as L
-use Rattle.runs.specs.Refusals.{or_else}
 use Rattle.runs.specs.Runs.{written}
 use Rattle.runs.proofs.Laws.{split, then_later, past, past_both, neither}
 use Rattle.formats.specs.declared.Format.{Format}
@@ -18,9 +17,7 @@ use Rattle.cell_log.specs.Written.{octet_of, record_octets}
 use Rattle.numbers.specs.Code.{sequence_of}
 use Rattle.numbers.specs.Numbers.{entry_of, indication_refused}
 use Rattle.sender.specs.declared.Sender.{Sender}
-use Rattle.sender.specs.declared.Sent.{Sent}
-use Rattle.sender.specs.declared.many.Reached.{Reached}
-use Rattle.sender.specs.Many.{indicated, SentCell, next_of, rest_of, next_cell, sent_from, state_behind, records_of, room_from, sent_into}
+use Rattle.sender.specs.Many.{indicated, SentCell, next_of, rest_of, sent_from, state_behind, records_of, room_from, sent_into}
 use Rattle.sender.specs.ManyCode.{Bounds, WritesMany}
 use Rattle.sender.specs.Packing.{Packable, filled_cell, values_refused_by}
 use Rattle.sender.specs.Sender.{format_now, used_now, numbers_refused, state_refusal, lengths_refused, values_refused, send_refusal}

@@ -1,6 +1,6 @@
 -- Wrong answers of sending many cells: the contract rules them out. Stated over the contract itself.
 -- Assumes nothing.
-use Rattle.std.proofs.Common.{◌≡◌, ℕ, Bool, true, false, List, [], ◌∷◌, ◌++◌, get_or, replicate, sym, ap, ◌∙◌, arith}
+use Rattle.std.proofs.Common.{◌≡◌, ℕ, Bool, true, false, List, ◌++◌, get_or, replicate, ap, arith}
 use mathlib.Core.List.{flat_map}
 use contract.Lifetimes.{Lfts}
 use Rattle.runs.proofs.Wrong.{Never, Place, lent, lent_mut}

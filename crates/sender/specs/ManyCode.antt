@@ -1,6 +1,6 @@
 -- Words of the code that sends many cells.
 -- Assumes nothing.
-use Rattle.std.specs.Prelude.{◌≡◌, ℕ, ◌+◌, ◌-◌, ◌*◌, ◌%◌, ◌<◌, ◌≤◌, Bool, true, false, cond, List, length, take, ◌==◌, nat_lt}
+use Rattle.std.specs.Prelude.{◌≡◌, ℕ, ◌+◌, ◌*◌, ◌%◌, ◌<◌, ◌≤◌, Bool, true, false, cond, List, length, take, ◌==◌, nat_lt}
 use Rattle.runs.specs.Runs.{written}
 use Rattle.formats.specs.declared.Format.{Format}
 use Rattle.formats.specs.declared.Settled.{Settled}
@@ -9,7 +9,7 @@ use Rattle.numbers.specs.Code.{sequence_of}
 use Rattle.numbers.specs.Numbers.{entry_of}
 use Rattle.sender.specs.declared.Sender.{Sender}
 use Rattle.sender.specs.declared.many.Reached.{Reached}
-use Rattle.sender.specs.Many.{SentCell, sent_into, state_behind, records_of, room_from}
+use Rattle.sender.specs.Many.{sent_into, state_behind, records_of, room_from}
 use Rattle.sender.specs.Packing.{values_refused_by}
 use Rattle.sender.specs.Sender.{used_now, state_refusal, send_refusal}
 

@@ -7,7 +7,7 @@ use native.Mathlib.Omega.{arith}
 use contract.Lifetimes.{Lfts}
 use lib.ListN.{get_or, replicate}
 use Rattle.runs.specs.Runs.{tab, read_on, over}
-use Rattle.runs.proofs.Wrong.{Never, Place, lent}
+use Rattle.runs.proofs.Wrong.{Never, Place, lent, lent_mut}
 use Rattle.cells.specs.Cells.{subframe_at, sample_in, ancillary_in}
 use Rattle.sender.proofs.Wrong as sender
 use Rattle.units.specs.declared.Exported.{Exported}
@@ -49,7 +49,7 @@ module _ (κs : Lfts 3) (s a o : Place) where
   abbrev Exporting : ℕ → ℕ → List ℕ → List ℕ → (Exported → List ℕ → Type 0) → Type 0
   Exporting octet size samples ancillary Wrong =
       Never export-kinds.ps export-kinds.r export-reads.Post κs
-      (octet, (2, (size, (lent s samples, (lent a ancillary, (lent o (replicate 12 9), tt)))))) (λ x v. Wrong x v.1.1.1.1.1.0)
+      (octet, (2, (size, (lent s samples, (lent a ancillary, (lent_mut o (replicate 12 9), tt)))))) (λ x v. Wrong x v.1.1.1.1.1.0)
 
   -- three frames of four octets each
   abbrev six : List ℕ
@@ -102,7 +102,7 @@ module _ (κs : Lfts 3) (s a o : Place) where
   abbrev Reading : List ℕ → (Entered → List ℕ → List ℕ → Type 0) → Type 0
   Reading unit Wrong =
       Never read-kinds.ps read-kinds.r read-reads.Post κs
-      (0x43, (2, (lent s unit, (lent a (replicate 3 9), (lent o (replicate 3 9), tt))))) (λ x v. Wrong x v.1.1.1.0 v.1.1.1.1.0)
+      (0x43, (2, (lent s unit, (lent_mut a (replicate 3 9), (lent_mut o (replicate 3 9), tt))))) (λ x v. Wrong x v.1.1.1.0 v.1.1.1.1.0)
 
   -- one frame: sample 123 hex with ancillary 5, sample 678 hex with ancillary 9
   abbrev one : List ℕ

@@ -1,6 +1,6 @@
 -- `sender::fill::guarded_by_channel` meets its contract.
 -- Assumes nothing.
-use Rattle.std.proofs.Common.{ℕ, ◌-◌, ◌%◌, ◌<◌, ap, arith}
+use Rattle.std.proofs.Common.{ℕ, ◌%◌, ◌<◌, ap, arith}
 use lib.ListN as L
 use Rattle.sender.proofs.Filling.{filling_begun, filling_on, filling_done, bits_begun, bits_on, entry_first, entry_in, entry_on}
 use Rattle.sender.proofs.Filling.{used_few, as_many, guard_ready, subframe_ready, used_room, put_ready, guarded_number}

@@ -1,6 +1,6 @@
 -- `sender::fill::guarded_in_order` meets its contract.
 -- Assumes nothing.
-use Rattle.std.proofs.Common.{ℕ, ◌-◌, ◌%◌, false, ap, arith}
+use Rattle.std.proofs.Common.{ℕ, ◌%◌, ap, arith}
 use lib.ListN as L
 use Rattle.sender.proofs.Filling.{Filling, filling_begun, filling_on, filling_done, bits_begun, bits_on, guard_ready}
 use Rattle.sender.proofs.Filling.{subframe_ready, used_room, put_ready, in_order, guarded_number}

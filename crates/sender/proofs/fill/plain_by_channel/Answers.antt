@@ -1,6 +1,6 @@
 -- `sender::fill::plain_by_channel` meets its contract.
 -- Assumes nothing.
-use Rattle.std.proofs.Common.{◌-◌, ◌/◌, ◌%◌, ◌^◌, ◌<◌, arith}
+use Rattle.std.proofs.Common.{◌/◌, ◌%◌, ◌^◌, ◌<◌, arith}
 use lib.ListN as L
 use Rattle.sender.proofs.Filling.{filling_begun, filling_on, filling_done, entry_first, entry_in, entry_on, used_few}
 use Rattle.sender.proofs.Filling.{as_many, few_to, used_room, put_ready, plain_room, plain_number}

@@ -1,6 +1,6 @@
 -- `sender::fill::plain_in_order` meets its contract.
 -- Assumes nothing.
-use Rattle.std.proofs.Common.{◌-◌, ◌/◌, ◌%◌, ◌^◌, false, arith}
+use Rattle.std.proofs.Common.{◌/◌, ◌%◌, ◌^◌, arith}
 use lib.ListN as L
 use Rattle.sender.proofs.Filling.{Filling, filling_begun, filling_on, filling_done}
 use Rattle.sender.proofs.Filling.{few_to, used_room, put_ready, in_order, plain_room, plain_number}

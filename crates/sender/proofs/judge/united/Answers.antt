@@ -1,6 +1,6 @@
 -- `sender::judge::united` meets its contract.
 -- Assumes nothing.
-use Rattle.std.proofs.Common.{◌-◌, arith}
+use Rattle.std.proofs.Common.{arith}
 use Rattle.sender.proofs.Laws.{united_begun, united_on, united_done}
 use Rattle.sender.proofs.judge.united.Goals as goal
 

@@ -1,6 +1,5 @@
 -- `sender::many::indicated` meets its contract.
 -- Assumes nothing.
-use borrow.Author.Tests.{not-true, not-false}
 use Rattle.sender.proofs.many.indicated.Goals as goal
 
 pub returns-then-not-indications : goal.returns-then-not-indications

@@ -3,7 +3,7 @@
 use Rattle.std.proofs.Common.{◌≡◌, ℕ, ◌+◌, ◌-◌, ◌*◌, ◌≤◌, List, length, take, drop, sym, refl, ◌∙◌, arith}
 use Rattle.sender.specs.Many.{next_of}
 use Rattle.sender.specs.Sender.{used_now}
-use Rattle.sender.proofs.Cellwise.{Standing, one_fewer, begun, used_now_lem, limits_now, number_now_lem, room_here, in_samples, known_sound, as_many}
+use Rattle.sender.proofs.Cellwise.{one_fewer, begun, used_now_lem, limits_now, number_now_lem, room_here, in_samples, known_sound, as_many}
 use Rattle.sender.proofs.Cellwise.{large_ends, can_pack_here, goes_on, ends_full}
 use Rattle.sender.proofs.Packing.{bits_in}
 use Rattle.sender.proofs.Parts.{part_is, cell_size, cell_part, log_kept}

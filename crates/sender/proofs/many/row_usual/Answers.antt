@@ -5,7 +5,7 @@ use borrow.Rule.Slice.PartMut.{mid_of}
 use Rattle.sender.specs.Many.{next_of}
 use Rattle.sender.specs.Packing.{filled_cell}
 use Rattle.sender.specs.Sender.{used_now}
-use Rattle.sender.proofs.Cellwise.{Standing, one_fewer, begun, used_now_lem, limits_now, number_now_lem, room_here, in_samples, known_sound, as_many}
+use Rattle.sender.proofs.Cellwise.{one_fewer, begun, used_now_lem, limits_now, number_now_lem, room_here, in_samples, known_sound, as_many}
 use Rattle.sender.proofs.Cellwise.{large_ends, can_pack_here, goes_on, ends_full}
 use Rattle.sender.proofs.Packing.{set_twelve, set_in_order, set_named, set_filled}
 use Rattle.sender.proofs.Parts.{part_is, cell_size, cell_part, log_kept}

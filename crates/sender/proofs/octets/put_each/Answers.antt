@@ -1,6 +1,6 @@
 -- `sender::octets::put_each` meets its contract.
 -- Assumes nothing.
-use Rattle.std.proofs.Common.{ℕ, ◌+◌, ◌-◌, ◌++◌, take, drop, ap, ◌∙◌, arith}
+use Rattle.std.proofs.Common.{ℕ, ◌+◌, ◌++◌, take, drop, ap, ◌∙◌, arith}
 use Rattle.runs.specs.Runs.{octets_of}
 use Rattle.runs.proofs.Filling.{begun, turned, done}
 use Rattle.runs.proofs.Laws.{length_octets, octet_at}

@@ -1,6 +1,6 @@
 -- `sender::octets::put_low` meets its contract.
 -- Assumes nothing.
-use Rattle.std.proofs.Common.{ℕ, ◌+◌, ◌-◌, ◌++◌, take, drop, ap, ◌∙◌, arith}
+use Rattle.std.proofs.Common.{ℕ, ◌+◌, ◌++◌, take, drop, ap, ◌∙◌, arith}
 use Rattle.runs.proofs.Filling.{begun, turned, done}
 use Rattle.sender.specs.Packing.{low_octets}
 use Rattle.sender.proofs.Turning.{low_length, low_at_lem}

@@ -1,6 +1,6 @@
 -- `sender::pack::fill_idle` meets its contract.
 -- Assumes nothing.
-use Rattle.std.proofs.Common.{◌-◌, ◌/◌, ◌%◌, ◌^◌, refl, arith}
+use Rattle.std.proofs.Common.{◌/◌, ◌%◌, ◌^◌, refl, arith}
 use Rattle.cells.proofs.Subframes.{slot_room}
 use Rattle.sender.proofs.Filling.{filling_on, filling_done, used_in_lem, idle_number_lem}
 use Rattle.sender.proofs.pack.fill_idle.Goals as goal

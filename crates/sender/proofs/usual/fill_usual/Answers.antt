@@ -1,6 +1,6 @@
 -- `sender::usual::fill_usual` meets its contract.
 -- Assumes nothing.
-use Rattle.std.proofs.Common.{◌-◌, ◌<◌, ◌≤◌, false, refl, arith}
+use Rattle.std.proofs.Common.{◌<◌, ◌≤◌, refl, arith}
 use lib.ListN as L
 use Rattle.sender.proofs.Filling.{Filling, filling_begun, filling_on, filling_done}
 use Rattle.sender.proofs.Filling.{small_at, used_room, put_ready, subframe_ready, in_order, guarded_number}

@@ -1,0 +1,73 @@
+-- `units::export_units` meets its contract.
+-- Assumes nothing.
+use mathlib.Core.Path.{◌≡◌, sym, ◌∙◌}
+use Prim.Native.Nat.{◌*◌}
+use native.Mathlib.Nat.{div-mul-le_self}
+use native.Mathlib.Omega.{arith}
+use lib.ListN.{length}
+use Rattle.formats.specs.Sound.{Limits}
+use Rattle.units.specs.Units.{export_refusal}
+use Rattle.units.proofs.Laws.{frame_some, frame_small, subframes_fit}
+use Rattle.units.proofs.Answers.{exports_refused, export_bounds, fit_some, can_pack, exports_taken}
+use Rattle.units.proofs.export_units.Goals as goal
+use Rattle.units.proofs.export_units.Goals.{Else-refusal-ne0, Start}
+
+-- the way back from where nothing is refused
+abbrev start : Else-refusal-ne0 → Start
+start c = (goal.at.Else-refusal-ne0 c).Start
+
+none : (c : Else-refusal-ne0)
+    → 0
+    ≡ export_refusal (start c).args.octet (start c).args.channels (start c).args.size (start c).args.samples.now
+    (start c).args.ancillary.now (length (start c).args.out.now)
+none c = sym c.if-refusal-ne0.false ∙ c.export_refusal-refusal.ensures
+
+bounds : (c : Else-refusal-ne0) → Limits c.settings-set.result
+bounds c =
+    let a = (start c).args in
+    export_bounds a.octet a.channels a.size a.samples.now a.ancillary.now a.out.now c.settings-set.ensures (none c)
+
+pub export_refusal-refusal-requires : goal.export_refusal-refusal-requires
+export_refusal-refusal-requires c = c.settings-set.ensures
+
+pub returns-then-refusal-ne0 : goal.returns-then-refusal-ne0
+returns-then-refusal-ne0 c = let a = c.args in
+    exports_refused a.octet a.channels a.size a.samples.now a.ancillary.now a.out.now
+    c.if-refusal-ne0.true c.export_refusal-refusal.ensures
+    c.not_exported.ensures
+
+pub overflow_mul-frame : goal.overflow_mul-frame
+overflow_mul-frame c = omega (arith, frame_small (bounds (goal.at.overflow_mul-frame c).Else-refusal-ne0))
+
+pub nonzero_div-fit : goal.nonzero_div-fit
+nonzero_div-fit c = frame_some (bounds (goal.at.nonzero_div-fit c).Else-refusal-ne0)
+
+pub nonzero_div-samples : goal.nonzero_div-samples
+nonzero_div-samples c = (bounds (goal.at.nonzero_div-samples c).Else-refusal-ne0).channels_from
+
+pub units_of-units-requires : goal.units_of-units-requires
+units_of-units-requires c = let a = (start (goal.at.units_of-units-requires c).Else-refusal-ne0).args in
+    fit_some a.octet a.channels a.size a.samples.now a.ancillary.now a.out.now c.settings-set.ensures (none (goal.at.units_of-units-requires c).Else-refusal-ne0)
+
+pub pack-requires : goal.pack-requires
+pack-requires c = let a = (start (goal.at.pack-requires c).Else-refusal-ne0).args in
+    can_pack a.octet a.channels a.size a.samples.now a.ancillary.now a.out.now c.settings-set.ensures (none (goal.at.pack-requires c).Else-refusal-ne0)
+
+pub overflow_mul-result : goal.overflow_mul-result
+overflow_mul-result c = let s = start (goal.at.overflow_mul-result c).Else-refusal-ne0 in
+    record {
+      fits =
+          subframes_fit (length s.args.samples.now) c.settings-set.result.format.width
+          (bounds (goal.at.overflow_mul-result c).Else-refusal-ne0).sound.width_to (omega (arith, c.well_formed));
+    }
+
+pub overflow_mul-result-2 : goal.overflow_mul-result-2
+overflow_mul-result-2 c = let a = (start (goal.at.overflow_mul-result-2 c).Else-refusal-ne0).args in
+    let set = c.settings-set.result in
+    omega (arith, div-mul-le_self a.size (set.channels * set.format.width), (start (goal.at.overflow_mul-result-2 c).Else-refusal-ne0).ranges)
+
+pub returns : goal.returns
+returns c = let a = (start (goal.at.returns c).Else-refusal-ne0).args in
+    exports_taken a.octet a.channels a.size a.samples.now a.ancillary.now a.out.now
+    c.settings-set.ensures (none (goal.at.returns c).Else-refusal-ne0)
+    c.units_of-units.ensures c.pack.ensures
