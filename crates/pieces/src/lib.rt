@@ -184,6 +184,7 @@ fn begins_above(count: usize, octet: u8) -> bool
 }
 
 // Whether a record begins here and lies whole in what is ahead, and within the limit.
+#[tactic(auto, unfolding(crate::specs::Steps::lies_whole_lem))]
 fn lies_whole(count: usize, ahead: usize, left: u64) -> bool
     ensures { result ≡ lies_whole_lem count ahead left }
 {

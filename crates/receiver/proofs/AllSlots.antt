@@ -6,7 +6,6 @@ use mathlib.Core.Path.{◌≡◌, refl, sym, ◌∙◌, ap, subst}
 use Prim.Native.Nat.{ℕ, ◌+◌, ◌*◌, ◌/◌, ◌%◌, ◌^◌, ◌≤◌, ◌<◌}
 use native.Mathlib.Omega.{arith}
 use lib.Dec.{eqb}
-use lib.ListN as L
 use lib.ListN.{length, get_or, replicate}
 use Rattle.runs.specs.Runs.{tab, over}
 use Rattle.runs.proofs.Filling.{Filled, begun}

@@ -1,22 +1,21 @@
 -- Laws of cells unpacked one behind the other: what the loop keeps of the three runs, and what they are at its end.
 -- Assumes nothing.
-use mathlib.Core.List.{List, [], ◌++◌, append_assoc, append-nil}
+use mathlib.Core.List.{List, ◌++◌, append_assoc, append-nil}
 use mathlib.Core.Logic.{◌⊎◌, ⊎_elim}
-use mathlib.Core.Path.{◌≡◌, refl, sym, ◌∙◌, ap, ap₂, subst}
-use Prim.Native.Nat.{ℕ, zero, suc, ◌+◌, ◌*◌, ◌-◌, ◌≤◌, ◌<◌}
+use mathlib.Core.Path.{◌≡◌, refl, sym, ◌∙◌, ap}
+use Prim.Native.Nat.{ℕ, suc, ◌+◌, ◌*◌, ◌-◌, ◌≤◌, ◌<◌}
 use native.Mathlib.Nat.{suc-mul, mul-le-mul_right}
 use native.Mathlib.Numerals.{add-one}
 use native.Mathlib.Omega.{arith}
 use lib.ListN.{length, get_or, take, drop, replicate, length-append, length-drop, length-replicate, replicate-append-replicate}
-use lib.Seq.{take_at, drop_at, drop-append-add, drop-drop, length-take-le, get_or-drop, get_or-append-add}
+use lib.Seq.{drop_at, drop-append-add, drop-drop, length-take-le, get_or-drop, get_or-append-add}
 use Rattle.runs.specs.Runs.{joined, over, written}
 use Rattle.runs.proofs.Laws.{length_joined}
-use Rattle.formats.specs.declared.Format.{Format}
 use Rattle.formats.specs.declared.Settled.{Settled}
 use Rattle.cells.specs.Cells.{sample_in, ancillary_in, mark_in}
-use Rattle.receiver.specs.Unpacking.{used_in, own_entries, Unpacks, Room, Misses, blank_end, Blank}
+use Rattle.receiver.specs.Unpacking.{used_in, own_entries, Unpacks, Room, Misses, Blank}
 use Rattle.receiver.specs.Many.{cell_from, many_own, FillsMany}
-use Rattle.receiver.proofs.Unpacking.{own_length, over_then, from_front, blank_there}
+use Rattle.receiver.proofs.Unpacking.{own_length, over_then, from_front}
 
 -- entries over longer ones that were there before
 over_hides : (new old run : List ℕ) → length old ≤ length new → over new (over old run) ≡ over new run

@@ -1,6 +1,6 @@
 -- `pieces::copied` meets its contract. The loop fills the array from its start.
 -- Assumes nothing.
-use Rattle.std.proofs.Common.{◌≡◌, ℕ, ◌-◌, length, take, drop, sym, ◌∙◌, arith, length-drop, length-take-le, get_or-drop, get_or-take}
+use Rattle.std.proofs.Common.{◌≡◌, ℕ, length, take, drop, sym, ◌∙◌, arith, length-drop, length-take-le, get_or-drop, get_or-take}
 use Rattle.runs.proofs.Filling.{begun, turned_front, done_to_end}
 use Rattle.pieces.proofs.copied.Goals as goal
 use Rattle.pieces.proofs.copied.Goals.{Start}

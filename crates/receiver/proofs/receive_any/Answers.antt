@@ -1,11 +1,9 @@
 -- `receiver::receive_any` meets its contract.
 -- Assumes nothing.
-use mathlib.Core.Path.{◌≡◌, ◌∙◌, sym}
-use Prim.Native.Nat.{◌≤◌}
+use mathlib.Core.Path.{◌∙◌, sym}
 use native.Mathlib.Nat.{mul-le-mul}
 use native.Mathlib.Omega.{arith}
-use Rattle.formats.specs.Sound.{Limits}
-use Rattle.receiver.proofs.Laws.{Call, early_of, judged_limits, judged_format, judged_whole_lem, early_refused, equal_early, judged_refused, set_limits, cell_whole, missing_few, roomy, judged_taken}
+use Rattle.receiver.proofs.Laws.{Call, judged_limits, judged_format, judged_whole_lem, early_refused, equal_early, judged_refused, set_limits, cell_whole, missing_few, roomy, judged_taken}
 use Rattle.receiver.proofs.receive_any.Goals as goal
 use Rattle.receiver.proofs.receive_any.Goals.{Start}
 

@@ -1,6 +1,6 @@
 -- `pieces::ahead::whole_among` meets its contract. The loop goes from record to record; the measure is how many may still come.
 -- Assumes nothing.
-use Rattle.std.proofs.Common.{◌-◌, arith}
+use Rattle.std.proofs.Common.{arith}
 use Rattle.pieces.proofs.Stretches.{passing_start, passing_in, passing_turn, passing_stop, passing_end}
 use Rattle.pieces.proofs.ahead.whole_among.Goals as goal
 

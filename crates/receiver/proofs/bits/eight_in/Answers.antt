@@ -1,7 +1,6 @@
 -- `receiver::bits::eight_in` meets its contract.
 -- Assumes nothing.
 use mathlib.Core.Path.{◌≡◌, ◌∙◌, ap}
-use Prim.Native.Nat.{◌-◌}
 use native.Mathlib.Omega.{arith}
 use Rattle.numbers.specs.Numbers.{gathered}
 use Rattle.cells.specs.Cells.{bit_in, eight_in}

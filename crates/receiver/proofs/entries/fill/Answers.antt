@@ -1,7 +1,6 @@
 -- `receiver::entries::fill` meets its contract: the run is filled.
 -- Assumes nothing.
 use mathlib.Core.Path.{sym}
-use Prim.Native.Nat.{◌-◌}
 use lib.ListN.{replicate, length-replicate, get_or-replicate}
 use Rattle.runs.proofs.Filling.{begun}
 use Rattle.receiver.proofs.Unpacking.{fill_on, fill_done}

@@ -1,7 +1,6 @@
 -- `receiver::entries::split` meets its contract.
 -- Assumes nothing.
 use mathlib.Core.Path.{refl}
-use Prim.Native.Nat.{◌-◌}
 use native.Mathlib.Omega.{arith}
 use lib.ListN.{get_or}
 use Rattle.cells.specs.Cells.{ancillary_in, mark_in}

@@ -1,7 +1,7 @@
 -- `receiver::entries::split_bare` meets its contract.
 -- Assumes nothing.
 use mathlib.Core.Path.{ap}
-use Prim.Native.Nat.{ℕ, ◌-◌, ◌/◌, ◌%◌}
+use Prim.Native.Nat.{ℕ, ◌/◌, ◌%◌}
 use Rattle.runs.proofs.Filling.{begun}
 use Rattle.receiver.specs.Unpacking.{held}
 use Rattle.receiver.proofs.Unpacking.{held_on, held_done, held_ahead}

@@ -1,6 +1,6 @@
 -- `receiver::entries::split_without_v` meets its contract.
 -- Assumes nothing.
-use Prim.Native.Nat.{◌-◌, ◌≤◌}
+use Prim.Native.Nat.{◌≤◌}
 use native.Mathlib.Omega.{arith}
 use lib.ListN.{get_or}
 use Rattle.cells.specs.Cells.{mark_in}

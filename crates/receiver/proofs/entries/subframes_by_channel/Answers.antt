@@ -2,7 +2,6 @@
 -- Assumes nothing.
 use mathlib.Core.Bool.{Bool, true}
 use mathlib.Core.Path.{◌≡◌, sym, ◌∙◌, ap}
-use Prim.Native.Nat.{◌-◌}
 use Rattle.runs.proofs.Filling.{begun}
 use Rattle.formats.specs.declared.Settled.{Settled}
 use Rattle.cells.specs.Code.{step_on}

@@ -1,6 +1,5 @@
 -- `receiver::entries::subframes_by_time` meets its contract.
 -- Assumes nothing.
-use Prim.Native.Nat.{◌-◌}
 use Rattle.runs.proofs.Filling.{begun}
 use Rattle.receiver.specs.Unpacking.{own_entries}
 use Rattle.receiver.proofs.Unpacking.{own_on, own_done, slot_in, slot_straight}

@@ -1,7 +1,7 @@
 -- `receiver::entries::zeros` meets its contract: the run is filled from its start.
 -- Assumes nothing.
 use mathlib.Core.Path.{sym}
-use Prim.Native.Nat.{ℕ, ◌-◌}
+use Prim.Native.Nat.{ℕ}
 use native.Mathlib.Omega.{arith}
 use lib.ListN.{replicate, length-replicate, get_or-replicate}
 use Rattle.runs.proofs.Filling.{begun, turned_front, done_front}

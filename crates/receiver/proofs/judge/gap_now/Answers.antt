@@ -3,7 +3,7 @@
 use mathlib.Core.Bool.{Bool, cond, not, ◌||◌}
 use mathlib.Core.Path.{◌≡◌, sym, ◌∙◌, ap, ap₂}
 use Prim.Native.Nat.{ℕ}
-use borrow.Author.Tests.{eq-eqb, ne_eqb, not-true, not-false}
+use borrow.Author.Tests.{eq-eqb, ne_eqb, not-false}
 use Rattle.formats.specs.declared.Format.{Format}
 use Rattle.formats.specs.Formats.{format_of}
 use Rattle.numbers.specs.Numbers.{difference_of}

@@ -1,7 +1,7 @@
 -- `receiver::judge::last_refused` meets its contract.
 -- Assumes nothing.
 use mathlib.Core.Path.{ap}
-use borrow.Author.Tests.{lt-ltb, le-ltb, eq-eqb, ne_eqb, not-true, not-false}
+use borrow.Author.Tests.{lt-ltb, le-ltb, eq-eqb, ne_eqb}
 use lib.Dec.{eqb}
 use Rattle.formats.specs.declared.Format.{Format}
 use Rattle.receiver.specs.Receiver.{last_refused}

@@ -1,6 +1,6 @@
 -- `receiver::many::any_cells` meets its contract.
 -- Assumes nothing.
-use Prim.Native.Nat.{◌*◌, ◌-◌}
+use Prim.Native.Nat.{◌*◌}
 use native.Mathlib.Omega.{arith}
 use borrow.Author.Rules.{rules}
 use Rattle.receiver.specs.Unpacking.{used_in}

@@ -2,7 +2,6 @@
 -- Assumes nothing.
 use mathlib.Core.Logic.{inl}
 use mathlib.Core.Path.{refl}
-use Prim.Native.Nat.{◌-◌}
 use borrow.Author.Rules.{rules}
 use Rattle.receiver.specs.Unpacking.{straight}
 use Rattle.receiver.proofs.Spread.{cell_part, cell_long, spread_begun, spread_room, spread_on, spread_done}

@@ -1,7 +1,7 @@
 -- `receiver::usual::own_entries` meets its contract.
 -- Assumes nothing.
 use mathlib.Core.Path.{◌≡◌, refl, ◌∙◌}
-use Prim.Native.Nat.{◌*◌, ◌/◌, ◌%◌, ◌-◌}
+use Prim.Native.Nat.{◌*◌, ◌/◌, ◌%◌}
 use native.Mathlib.Omega.{arith}
 use Rattle.receiver.specs.Unpacking.{fours}
 use Rattle.receiver.proofs.Marking.{mark_on_top}
@@ -14,8 +14,11 @@ loop-i-init c = entered_begun c.args.cell.now c.args.at c.args.samples.now c.arg
     c.requires.1
 
 pub enter-requires : goal.enter-requires
-enter-requires c = room_here c.args.cell.now c.args.at c.args.samples.now c.args.ancillary.now c.args.marks.now
-    c.requires.1 c.loop-i.invariant c.loop-i-test.true
+enter-requires c =
+    let room
+    = room_here c.args.cell.now c.args.at c.args.samples.now c.args.ancillary.now c.args.marks.now c.requires.1
+    c.loop-i.invariant c.loop-i-test.true in
+    record { samples_room = omega arith; ancillary_room = omega arith; marks_room = omega arith }
 
 pub loop-i-preserved : goal.loop-i-preserved
 loop-i-preserved c = let less = c.loop-i-test.true in

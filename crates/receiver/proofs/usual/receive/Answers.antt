@@ -1,11 +1,10 @@
 -- `receiver::usual::receive` meets its contract.
 -- Assumes nothing.
 use mathlib.Core.Path.{◌≡◌, ◌∙◌, sym}
-use Prim.Native.Nat.{◌≤◌}
 use native.Mathlib.Omega.{arith}
 use Rattle.formats.specs.Settings.{settings_of}
 use Rattle.receiver.proofs.AllSlots.{usual_settles, usual_sound, usual_found, usual_room, usual_fills}
-use Rattle.receiver.proofs.Laws.{Call, early_of, judged_format, judged_whole_lem, early_refused, equal_early, judged_refused, cell_whole, missing_few, roomy, judged_taken}
+use Rattle.receiver.proofs.Laws.{Call, judged_format, judged_whole_lem, early_refused, equal_early, judged_refused, cell_whole, missing_few, roomy, judged_taken}
 use Rattle.receiver.proofs.usual.receive.Goals as goal
 use Rattle.receiver.proofs.usual.receive.Goals.{After-usual-set, Start}
 
