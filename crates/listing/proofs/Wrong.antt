@@ -3,7 +3,7 @@
 use Rattle.std.proofs.Common.{◌≡◌, ℕ, Bool, true, false, List, [], ◌∷◌, get_or, replicate, sym, ap, ◌∙◌, true≢false, arith}
 use contract.Lifetimes.{Lfts}
 use Rattle.runs.specs.Runs.{over}
-use Rattle.runs.proofs.Wrong.{Never, Place, lent}
+use Rattle.runs.proofs.Wrong.{Never, Place, lent, lent_mut}
 use Rattle.receiver.proofs.Wrong as receiver
 use Rattle.pieces.proofs.Wrong as pieces
 use Rattle.pieces.specs.Steps.{steps_from, stood_of}
@@ -52,7 +52,7 @@ module _ (κs : Lfts 3) (p q r : Place) where
   abbrev Taken : ℕ → List ℕ → ℕ → (Printed → List ℕ → Type 0) → Type 0
   Taken limit log room Wrong =
       Never take-kinds.ps take-kinds.r take-reads.Post κs
-      (start_of limit, (lent p (zeros 49), (lent q log, (lent r (zeros room), tt)))) (λ x v. Wrong x v.1.1.1.0)
+      (start_of limit, (lent_mut p (zeros 49), (lent q log, (lent_mut r (zeros room), tt)))) (λ x v. Wrong x v.1.1.1.0)
 
   -- the repeat told as sound
   pub repeat_not_sound : Taken 1000 twice 100 (λ x run.
@@ -94,7 +94,7 @@ module _ (κs : Lfts 3) (p q r : Place) where
 
 module _ (κs : Lfts 1) (p : Place) where
   abbrev Ended : Listing → (Put → List ℕ → Type 0) → Type 0
-  Ended l Wrong = Never end-kinds.ps end-kinds.r end_reads.Post κs (l, (zeros 49, (lent p (zeros 100), tt))) (λ x v. Wrong x v.1.1.0)
+  Ended l Wrong = Never end-kinds.ps end-kinds.r end_reads.Post κs (l, (zeros 49, (lent_mut p (zeros 100), tt))) (λ x v. Wrong x v.1.1.0)
 
   -- nothing said of a log that can't be read
   pub empty_log_not_passed_over : Ended (start_of 1000) (λ x run. x.octets ≡ 0)

@@ -3,7 +3,7 @@
 use Rattle.std.proofs.Common.{◌≡◌, ℕ, true, List, ◌∷◌, get_or, replicate, sym, ap, ◌∙◌, true≢false, arith}
 use contract.Lifetimes.{Lfts}
 use Rattle.runs.specs.Runs.{over}
-use Rattle.runs.proofs.Wrong.{Never, Place, lent}
+use Rattle.runs.proofs.Wrong.{Never, Place, lent, lent_mut}
 use Rattle.receiver.proofs.Wrong as receiver
 use Rattle.pieces.proofs.Wrong as pieces
 use Rattle.pieces.specs.Steps.{steps_from, stood_of}
@@ -38,7 +38,7 @@ module _ (κs : Lfts 4) (p q r s : Place) where
   abbrev Taken : ℕ → ℕ → (Wrote → List ℕ → List ℕ → Type 0) → Type 0
   Taken out notes Wrong =
       Never take-kinds.ps take-kinds.r take-reads.Post κs
-      (start_of, (lent p (zeros 49), (lent q torn, (lent r (zeros out), (lent s (zeros notes), tt)))))
+      (start_of, (lent_mut p (zeros 49), (lent q torn, (lent_mut r (zeros out), (lent_mut s (zeros notes), tt)))))
       (λ x v. Wrong x v.1.1.1.0 v.1.1.1.1.0)
 
   -- a refused record goes into the new log
@@ -74,7 +74,7 @@ behind =
 
 module _ (κs : Lfts 1) (p : Place) where
   abbrev Ended : Salvaging → (Put → List ℕ → Type 0) → Type 0
-  Ended u Wrong = Never end-kinds.ps end-kinds.r end_reads.Post κs (u, (zeros 49, (lent p (zeros 100), tt))) (λ x v. Wrong x v.1.1.0)
+  Ended u Wrong = Never end-kinds.ps end-kinds.r end_reads.Post κs (u, (zeros 49, (lent_mut p (zeros 100), tt))) (λ x v. Wrong x v.1.1.0)
 
   -- the octets cut not told
   pub cut_octets_told : Ended behind (λ x notes. notes ≡ over (words "end 0 kept 1 left out 0 cut\n") (zeros 100))

@@ -1,0 +1,10 @@
+-- `listing::parts::header_of` meets its contract.
+-- Assumes nothing.
+use Rattle.std.proofs.Common.{sym, arith, length-take-le}
+use Rattle.listing.proofs.parts.header_of.Goals as goal
+
+pub slice_bounds-read_header-end : goal.slice_bounds-read_header-end
+slice_bounds-read_header-end c = sym (length-take-le 3 c.args.held (omega (arith, c.well_formed)))
+
+pub returns : goal.returns
+returns c = c.read_header.ensures
