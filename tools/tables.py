@@ -57,21 +57,21 @@ ARMS, LAST = arms()
 # The protection bits of nine sample bits without V, by those with V = 0: the one fixes the other.
 WITHOUT_V = {protection(nine * 2): protection(nine) for nine in range(512)}
 
-HEAD = '''// Three tables by the nine top bits of a sample: the protection bits, which the sender writes, and the marks with V and
+HEAD = '''#![tactic(auto)]
+// Three tables by the nine top bits of a sample: the protection bits, which the sender writes, and the marks with V and
 // without it, which the receiver gives and a sheet counts. tools/tables.py prints this file: change that, and not this.
 //
 // A table is a `match` with constant arms. The compiler makes one load of it; a constant array it would copy to the stack first.
 // Three functions have the same table, because the compiler does so only where a function is called in one place of the program.
 // Where two loops call it, both make a call for every slot, which takes much longer. So each loop has its own.
-ghost use mathlib.Core.Path.{_≡_};
-ghost use Prim.Native.Nat.{_%_, _<_};
-ghost use Rattle·guards.specs.Guards.{vIn, protectedBits, tenGuard};
-ghost use Rattle·tables·specs.specs.Marks.{MarksOf, MarksWithoutV};
+ghost use Rattle.std.specs.Prelude.{◌≡◌, ◌%◌, ◌<◌};
+ghost use Rattle.guards.specs.Guards.{v_in, protected_bits, ten_guard};
+ghost use Rattle.tables.specs.Marks.{MarksOf, MarksWithoutV};
 '''
 
-GUARD = '⌜ r ≡ tenGuard (protectedBits (nine % 512) (vIn 0)) ⌝'
-MARKS = '⌜ MarksOf (nine % 512) r × (r < 4294967296) ⌝'
-BARE = '⌜ MarksWithoutV (nine % 512) r × (r < 4294967296) ⌝'
+GUARD = 'result ≡ ten_guard (protected_bits (nine % 512) (v_in 0))'
+MARKS = 'MarksOf (nine % 512) result × (result < 4294967296)'
+BARE = 'MarksWithoutV (nine % 512) result × (result < 4294967296)'
 
 # name, what it answers, the name of its key, comment
 FUNCTIONS = [
@@ -94,7 +94,7 @@ def function(name, kind, key, comment):
     lines = [
         '// ' + comment,
         'pub fn %s(nine: u64) -> u64' % name,
-        '    ensures { λ r. %s }' % {'guard': GUARD, 'marks': MARKS, 'bare': BARE}[kind],
+        '    ensures { %s }' % {'guard': GUARD, 'marks': MARKS, 'bare': BARE}[kind],
         '{',
         '    let %s = nine %% 512;' % key,
         '    match %s {' % key,
@@ -108,32 +108,31 @@ def source():
     return HEAD + ''.join('\n' + function(*f) for f in FUNCTIONS)
 
 
-def packed(parts, width=130):
-    """The parts on lines of about that width."""
-    lines, line = [], ''
-    for part in parts:
-        if line and len(line) + 1 + len(part) > width:
-            lines.append(line)
-            line = ''
-        line = (line + ' ' + part) if line else '    ' + part
-    return lines + [line]
+# by what an arm is answered, and the last one; where it is from
+ANSWERS = {
+    'guard': ('sym (of_nine %d _ c.in-%d.is)', 'sym (of_nine_last _ (mod-lt _ (omega arith)) c.in_default.in_default-own.rest)'),
+    'marks': ('marks_in_lem %d _ c.in-%d.is', 'marks_last _ c.in_default.in_default-own.rest'),
+    'bare': ('bare_in %d _ c.in-%d.is', 'bare_last _ c.in_default.in_default-own.rest'),
+}
+IMPORTS = {
+    'guard': ['use mathlib.Core.Path.{sym}', 'use native.Mathlib.Nat.{mod-lt}', 'use native.Mathlib.Omega.{arith}',
+              'use Rattle.tables.proofs.Classes.{of_nine, of_nine_last}'],
+    'marks': ['use Rattle.tables.proofs.Laws.{marks_in_lem, marks_last}'],
+    'bare': ['use Rattle.tables.proofs.Laws.{bare_in, bare_last}'],
+}
+
+
+def answer(goal, term):
+    """What an answer is: the goal's name says the arm by its first nine."""
+    return '\npub returns-in%s : goal.returns-in%s\nreturns-in%s c = %s\n' % (goal, goal, goal, term)
 
 
 def proof(name, kind):
-    spec = name.replace('_', '-') + '-spec'
+    each, last = ANSWERS[kind]
     head = ['-- `tables::%s` meets its contract: each arm by the test over its keys.' % name, '-- Assumes nothing.']
-    if kind == 'guard':
-        head += ['use mathlib.Core.Path.{sym}', 'use native.Mathlib.Nat.{mod-lt}', 'use native.Mathlib.Omega.{arith}',
-                 'use Rattle·tables·proofs.proofs.Classes.{of-nine, of-nine-last}']
-        each = ['(λ c. sym (of-nine %d _ (c .match .keys%d)))' % (i, i + 1) for i in range(len(ARMS))]
-        last = '(λ c. sym (of-nine-last _ (mod-lt _ (omega arith)) (c .match .rest))))'
-    else:
-        head += ['use Rattle·tables·proofs.proofs.Laws.{%s-in, %s-last}' % (kind, kind)]
-        each = ['(λ c. %s-in %d _ (c .match .keys%d))' % (kind, i, i + 1) for i in range(len(ARMS))]
-        last = '(λ c. %s-last _ (c .match .rest)))' % kind
-    head += ['use Rattle·tables·proofs.proofs.%s.Statement.{statement}' % name, 'use Rattle·tables·proofs.proofs.%s.Tie as tie' % name, '']
-    body = packed(['(tie.spec'] + each) + ['    ' + last]
-    return '\n'.join(head + ['pub %s : {M : Type 1} → statement M' % spec, spec + ' =', '    tie.close'] + body) + '\n'
+    head += IMPORTS[kind] + ['use Rattle.tables.proofs.%s.Goals as goal' % name]
+    body = [answer('-%d' % row[0], each % (i, row[0])) for i, (_, row) in enumerate(ARMS)] + [answer('_default', last)]
+    return '\n'.join(head) + '\n' + ''.join(body)
 
 
 def classes(old):
@@ -149,7 +148,8 @@ def sevens(old):
     start = 'const SEVENS: [u8; 128] = [\n'
     before, rest = old.split(start, 1)
     after = rest.split('];\n', 1)[1]
-    return before + start + ''.join('    %d,\n' % protection(ten) for ten in range(128)) + '];\n' + after
+    rows = [range(first, first + 32) for first in range(0, 128, 32)]
+    return before + start + ''.join('    %s,\n' % ', '.join('%d' % protection(ten) for ten in row) for row in rows) + '];\n' + after
 
 
 def read(path):
@@ -160,7 +160,7 @@ def read(path):
 def files():
     yield 'tables/src/lib.rt', source()
     for name, kind, _, _ in FUNCTIONS:
-        yield 'tables/proofs/%s/Proof.antt' % name, proof(name, kind)
+        yield 'tables/proofs/%s/Answers.antt' % name, proof(name, kind)
     for path, change in (('tables/proofs/Classes.antt', classes), ('guards/src/lib.rt', sevens)):
         yield path, change(read(path))
 
