@@ -18,7 +18,7 @@ use Rattle.receiver.specs.Receiver.{state_refusal, used_now, judged_of}
 use Rattle.receiver.proofs.Count.{opened_count}
 use Rattle.receiver.proofs.Onward.{opened_passes, opened_used, used_between}
 use Rattle.reading.specs.Heard.{heard_by, hear, onward, heard_from, is_sound, sound_in, missing_in, refused_with, marked_with}
-use Rattle.reading.specs.Reading.{Reading, fresh_of, reading_of}
+use Rattle.reading.specs.Reading.{Reading, fresh_of}
 use Rattle.reading.specs.Records.{Whole, records_in}
 use Rattle.reading.specs.Totals.{total_of}
 use Rattle.reading.proofs.Heard.{refused_missing}

@@ -6,7 +6,7 @@ use Prim.Native.Nat.{ℕ}
 use native.Mathlib.Omega.{arith}
 use contract.Lifetimes.{Lfts}
 use lib.ListN.{get_or, replicate}
-use Rattle.runs.proofs.Wrong.{Never, Place, lent}
+use Rattle.runs.proofs.Wrong.{Never, Place, lent, lent_mut}
 use Rattle.cell_log.proofs.Wrong as log
 use Rattle.receiver.proofs.Wrong as receiver
 use Rattle.reading.proofs.Computed as reading
@@ -79,7 +79,7 @@ module _ (κs : Lfts 3) (p q r : Place) where
   -- rows lent as so many nines
   abbrev Sheet : List ℕ → List ℕ → ℕ → (Answer → List ℕ → Type 0) → Type 0
   Sheet octets lengths rows Wrong =
-      Never sheet-kinds.ps sheet-kinds.r sheet-reads.Post κs (lent p octets, (lent q lengths, (lent r (replicate rows 9), tt)))
+      Never sheet-kinds.ps sheet-kinds.r sheet-reads.Post κs (lent p octets, (lent q lengths, (lent_mut r (replicate rows 9), tt)))
       (λ x v. Wrong x v.1.1.0)
 
   -- the repeat told as sound
@@ -115,7 +115,7 @@ module _ (κs : Lfts 3) (p q r : Place) where
 module _ (κs : Lfts 2) (p q : Place) where
   abbrev Taken : List ℕ → (Tally → List ℕ → Type 0) → Type 0
   Taken piece Wrong =
-      Never take-kinds.ps take-kinds.r take-reads.Post κs (start_tally, (lent p (replicate 49 0), (lent q piece, tt)))
+      Never take-kinds.ps take-kinds.r take-reads.Post κs (start_tally, (lent_mut p (replicate 49 0), (lent q piece, tt)))
       (λ x v. Wrong x v.1.0)
 
   -- samples of a cell that is taken left out
@@ -158,7 +158,7 @@ module _ (κs : Lfts 0) where
 module _ (κs : Lfts 1) (p : Place) where
   abbrev Added : (Counts → List ℕ → Type 0) → Type 0
   Added Wrong =
-      Never add-kinds.ps add-kinds.r add_reads.Post κs (lent p (replicate 20 9), (1, (sounds 3, (sounds 4, tt))))
+      Never add-kinds.ps add-kinds.r add_reads.Post κs (lent_mut p (replicate 20 9), (1, (sounds 3, (sounds 4, tt))))
       (λ x v. Wrong x v.0)
 
   -- a log that isn't added to the totals, and a row in the first log's place
