@@ -92,6 +92,7 @@ pub(crate) fn export_refusal(
 }
 
 // Check 5 of a reading.
+#[tactic(auto, unfolding(crate::specs::Units::unit_refused))]
 fn unit_refused(frame: usize, unit: usize, samples: usize, ancillary: usize) -> bool
     requires { 1 ≤ frame }
     ensures { result ≡ unit_refused frame unit samples ancillary }

@@ -1,6 +1,5 @@
 -- `units::judge::united` meets its contract.
 -- Assumes nothing.
-use Prim.Native.Nat.{◌-◌}
 use native.Mathlib.Omega.{arith}
 use Rattle.sender.proofs.Laws.{united_begun, united_on, united_done}
 use Rattle.units.proofs.judge.united.Goals as goal

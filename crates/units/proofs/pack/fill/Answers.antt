@@ -1,7 +1,6 @@
 -- `units::pack::fill` meets its contract.
 -- Assumes nothing.
 use mathlib.Core.Path.{refl}
-use Prim.Native.Nat.{◌-◌}
 use native.Mathlib.Omega.{arith}
 use Rattle.units.proofs.Packing.{filling_begun, entry_room, entry_fits, filling_on, filling_done}
 use Rattle.units.proofs.pack.fill.Goals as goal

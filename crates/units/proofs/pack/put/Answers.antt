@@ -1,7 +1,7 @@
 -- `units::pack::put` meets its contract: octets are filled with the octets of the number.
 -- Assumes nothing.
 use mathlib.Core.Path.{◌∙◌, ap}
-use Prim.Native.Nat.{ℕ, ◌+◌, ◌-◌}
+use Prim.Native.Nat.{ℕ, ◌+◌}
 use native.Mathlib.Omega.{arith}
 use lib.ListN.{take, drop}
 use mathlib.Core.List.{◌++◌}

@@ -1,7 +1,7 @@
 -- `units::unpack::number_at` meets its contract: the octets are read one after the other.
 -- Assumes nothing.
 use mathlib.Core.Path.{◌≡◌, ◌∙◌, ap}
-use Prim.Native.Nat.{ℕ, ◌-◌}
+use Prim.Native.Nat.{ℕ}
 use native.Mathlib.Omega.{arith}
 use lib.ListN.{take, drop}
 use Rattle.runs.specs.Runs.{number_of}
