@@ -1,7 +1,6 @@
 -- `saving::count` meets its contract. The loop goes along the records; the measure is what is left of the log.
 -- Assumes nothing.
 use mathlib.Core.Path.{refl}
-use Prim.Native.Nat.{◌-◌}
 use Rattle.saving.proofs.Walks.{start_again, walking_start, walking_less, walking_turn, counted}
 use Rattle.saving.proofs.count.Goals as goal
 

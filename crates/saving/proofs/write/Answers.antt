@@ -1,7 +1,6 @@
 -- `saving::write` meets its contract. The loop goes along the records; the measure is what is left of the log.
 -- Assumes nothing.
 use mathlib.Core.Path.{refl}
-use Prim.Native.Nat.{◌-◌}
 use native.Mathlib.Omega.{arith}
 use Rattle.saving.proofs.Walks.{start_again, room_again, walking_start, walking_less, walking_turn, walking_fits, counted, putting_start, putting_room, putting_turn, wrote}
 use Rattle.saving.proofs.write.Goals as goal
