@@ -26,6 +26,7 @@ pub struct Entered {
 }
 
 // How many units hold so many frames, `fit` in each but perhaps the last.
+#[tactic(auto, unfolding(crate::specs::Units::units_of))]
 fn units_of(frames: usize, fit: usize) -> usize
     requires { 1 ≤ fit }
     ensures { result ≡ units_of frames fit }
