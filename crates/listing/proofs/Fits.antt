@@ -1,6 +1,6 @@
 -- What a piece makes fits a run of `most_text`: so many records as it can make whole at 76 octets each, and 216. The end fits 216.
 -- Assumes nothing.
-use Rattle.std.proofs.Common.{◌≡◌, ℕ, suc, ◌+◌, ◌-◌, ◌*◌, ◌/◌, ◌%◌, ◌≤◌, true, false, cond, ◌&&◌, eqb, ltb, List, [], ◌∷◌, ◌++◌, length, take, ◌∙◌, arith, length-append, eqb-true}
+use Rattle.std.proofs.Common.{◌≡◌, ℕ, suc, ◌+◌, ◌*◌, ◌/◌, ◌%◌, ◌≤◌, true, false, cond, ◌&&◌, eqb, ltb, List, [], ◌∷◌, ◌++◌, length, take, ◌∙◌, arith, length-append, eqb-true}
 use Rattle.runs.proofs.Laws.{split}
 use Rattle.cell_log.specs.Records.{header_of}
 use Rattle.receiver.specs.declared.Received.{Received}
@@ -16,7 +16,6 @@ use Rattle.listing.specs.declared.Tally.{Tally}
 use Rattle.listing.specs.Lines.{format_line, broken_line, end_line, log_refused_line}
 use Rattle.listing.specs.List.{line_of}
 use Rattle.listing.specs.Taking.{judged_whole, end_text, part_text, text_of, tally_of, piece_text, end_of_text, most_text, Takes, Ends}
-use Rattle.text.specs.Put.{listed}
 use Rattle.text.specs.Text.{item}
 use Rattle.text.specs.Words.{words}
 use Rattle.text.proofs.Short.{take_to, with_words, one_item, three_short, two_short, listed_whole}

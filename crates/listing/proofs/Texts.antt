@@ -33,7 +33,6 @@ use Rattle.listing.specs.Taking.{
   Takes,
   Ends,
 }
-use Rattle.text.specs.Put.{listed}
 use Rattle.text.proofs.Laws.{puts_then, puts_same, puts_none, said_from_start, wrote_from_start}
 
 -- parts one after the other

@@ -11,8 +11,7 @@ use Rattle.reading.specs.Records.{Whole}
 use Rattle.reading.specs.Totals.{total_of}
 use Rattle.reading.proofs.Heard.{missing_few, refused_missing}
 use Rattle.reading.proofs.Records.{octets_counted}
-use Rattle.pieces.specs.Limit.{Part, whole, refused, records_to, fault_to, end_part, parts_of}
-use Rattle.pieces.specs.Steps as pieces
+use Rattle.pieces.specs.Limit.{Part, whole, records_to, fault_to, end_part, parts_of}
 use Rattle.pieces.specs.Steps.{taking_of, stood_of, handed_over}
 use Rattle.pieces.specs.Taken.{Taking, after, handed, joined_of}
 use Rattle.pieces.proofs.Octets.{handed_joined}

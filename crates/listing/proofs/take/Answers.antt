@@ -1,6 +1,6 @@
 -- `listing::take` meets its contract. The loop goes along the piece; the measure is what is left of it.
 -- Assumes nothing.
-use Rattle.std.proofs.Common.{◌-◌, length, sym, ap, ◌∙◌, arith}
+use Rattle.std.proofs.Common.{length, sym, ap, ◌∙◌, arith}
 use Rattle.pieces.proofs.Walks.{found_room}
 use Rattle.listing.proofs.Texts.{going_start, going_turn, going_on, going_end}
 use Rattle.listing.proofs.take.Goals as goal
