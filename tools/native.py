@@ -9,7 +9,7 @@
   native.py proved                    the same archives and programs over what `rt ci` has just proved in this folder: the gate
   native.py build MODULE FILE [MACHINE]
                                       builds an archive if FILE ends in .a, else a program, of a module that needn't be proved
-                                      (tools/quick_face.py, tools/quick.sh)
+                                      (tools/quick_face.py, tools/quick.py)
 
 An archive is that of a crate of its own, NAME_c, with a function for C for each call. `rattle build` proves that crate over the libraries
 that rt proved, and compiles it: it builds nothing that isn't proved. It is called here and not by rt for three reasons: rt's `rt lib`
@@ -167,10 +167,14 @@ done
     return mine
 
 
+def words_of(module):
+    return printed_by(tool('clang'), '--no-default-config', '-Wno-override-module', '-x', 'ir', '-S', '-emit-llvm', '-Xclang',
+                      '-disable-llvm-passes', module, '-o', '-').decode()
+
+
 def looked_at(module):
     """A module's words, of which each function for C takes what C's callers give."""
-    words = printed_by(tool('clang'), '--no-default-config', '-Wno-override-module', '-x', 'ir', '-S', '-emit-llvm', '-Xclang',
-                       '-disable-llvm-passes', module, '-o', '-').decode()
+    words = words_of(module)
     # C's callers needn't widen what they pass on AArch64, and no function for C may count on it
     if wide := re.search(r'^define (?!internal |private )[^@\n]*@([^(\n]*)\(.*\b(?:zero|sign)ext\b', words, re.M):
         sys.exit(f'native: {wide[1]} counts on a caller who widens a number, and C has none on AArch64')
@@ -225,6 +229,11 @@ def program(name):
 
 
 def link(code, made):
+    """A program of an object: with the toolchain's own C code, which there is for x86-64, or with native_os.c in its place."""
+    if MACHINE == 'x86_64':
+        subprocess.run([kit() / 'bin' / 'rattle-link', '--target', 'x86_64-unknown-linux-gnu', '--toolchain', kit() / 'toolchain', '-o', made, code,
+                        kit() / 'c' / 'libos_c.a', kit() / 'c' / 'liblibc_c.a'], stderr=subprocess.DEVNULL, check=True)
+        return
     calls_alike(code)
     subprocess.run(['gcc', '-O2', '-Wl,--gc-sections', code, HERE / 'native_os.c', '-o', made], check=True)
 

@@ -31,16 +31,16 @@ ROOT = pathlib.Path(__file__).resolve().parent.parent / "crates"
 TRUST = [ROOT / "line/proofs" / name for name in ("Demands.antt", "Ensures.antt")]
 # what the programs print: of a log, of a log, of a log, of many logs and of many files
 PRINTED = [
-    ("listing", "List", "listOf"),
-    ("presence", "Line", "lineOf"),
-    ("salvaging", "Said", "savedOf"),
-    ("salvaging", "Said", "notesOf"),
-    ("table", "Table", "printedOf"),
-    ("table", "Table", "printedOfFiles"),
+    ("listing", "List", "list_of"),
+    ("presence", "Line", "line_of"),
+    ("salvaging", "Said", "saved_of"),
+    ("salvaging", "Said", "notes_of"),
+    ("table", "Table", "printed_of"),
+    ("table", "Table", "printed_of_files"),
 ]
 LEGEND = ROOT.parent / "docs/PROMISES.md"
 CODE = {"Adding", "Code", "Packing", "Unpacking", "Marks", "Settings", "Sound", "Steps", "Stretch", "Taken", "Taking"}
-CONTRACTS = ("line", "Contracts")
+CONTRACTS = ("line", "Calls")
 MOST = 1455
 MOST_ALL = 3458
 
@@ -79,10 +79,9 @@ def imports(path):
     """What a file's names stand for: name to (crate, module, name), and other names of modules to (crate, module)."""
     names, modules = {}, {}
     text = re.sub(r"\s+", " ", path.read_text())
-    for crate, own, module, rest in re.findall(
-        r"use Rattle·(\w+)(·\w+)?\.(?:specs\.|proofs\.)((?:specs\.|proofs\.)?[\w.]+?)(\.\{[^}]*\}| as \w+)", text
+    for crate, module, rest in re.findall(
+        r"use Rattle\.(\w+)\.(?:specs|proofs)\.([\w.]+?)(\.\{[^}]*\}| as \w+)", text
     ):
-        module = re.sub(r"^(specs|proofs)\.", "", module) if own else module
         if rest.startswith(" as "):
             modules[rest[4:]] = (crate, module)
         else:
@@ -128,7 +127,7 @@ def file_of(crate, module):
 def struct(crate, name):
     """A declared type: its file in src/, its lines with the comment above it, and the types that its fields name with their crates."""
     for path in sorted((ROOT / crate / "src").glob("*.rt")):
-        lines = path.read_text().splitlines()
+        lines = [line for line in path.read_text().splitlines() if not line.startswith("#[")]
         elsewhere = {}
         for other, one, many in re.findall(r"^use (\w+)(?:::\w+)*::(?:(\w+)|\{([^}]*)\});", path.read_text(), re.M):
             for used in [one] if one else [word.strip() for word in many.split(",")]:
@@ -139,7 +138,7 @@ def struct(crate, name):
                 while first and lines[first - 1].startswith("//"):
                     first -= 1
                 last = at
-                while not lines[last].startswith("}") and not lines[last].endswith(";"):
+                while not lines[last].startswith("}") and not lines[last].endswith(";") and not (last == at and lines[last].endswith("}")):
                     last += 1
                 inner = re.findall(r"[(:] ?([A-Z]\w*)", " ".join(lines[at + 1 : last]))
                 return path, last - first + 1, [(elsewhere.get(other, crate), other) for other in inner]
@@ -149,8 +148,9 @@ def struct(crate, name):
 def resolve(said, names, modules, here):
     """The definition that a name in a file stands for, or None for a word of the kit or a local name."""
     module, name = said
-    if module:
-        return (*modules[module], name) if module in modules else None
+    if module in modules:
+        return *modules[module], name
+    name = module or name  # a field of what bears the name
     if name in names:
         return names[name]
     return (here.crate, here.module, name) if here and name in here.blocks else None
@@ -185,11 +185,12 @@ def statements(page):
 
 
 def promised():
-    """The C calls: for each its file, its name, its lines up to the body with the comment above, and the names in its `ensures`."""
+    """The C calls: for each its file, its name, its lines up to the body with the comment above, and the names in its `ensures`. They are
+    the library's own functions: those for C have the same clauses (tests/faces.py)."""
     for crate in ("rimesatchel", "management"):
         for path in sorted((ROOT / crate / "src").glob("*.rt")):
             names, modules = imports(path)
-            for call in re.findall(r"((?:^//[^\n]*\n)*)#\[no_mangle\]\n(.*?)\n\{", path.read_text(), re.S | re.M):
+            for call in re.findall(r"((?:^//[^\n]*\n)*)(?:^#\[[^\n]*\n)*(^pub fn rime_.*?)\n\{", path.read_text(), re.S | re.M):
                 name = re.search(r"fn (\w+)", call[1]).group(1)
                 said = [resolve(said, names, modules, None) for said in tokens(call[1].partition("ensures")[2])]
                 yield path, name, (call[0] + call[1]).count("\n") + 1, said
@@ -201,11 +202,11 @@ def kit_words(path, said, known):
         text = re.sub(r"\s+", " ", path.read_text())
         known[path] = {
             name.strip().split(" as ")[0]
-            for module, names in re.findall(r"use ([\w.·]+?)\.\{([^}]*)\}", text)
-            if not module.startswith("Rattle·") and ".Prim" not in module
+            for module, names in re.findall(r"use ([\w.]+?)\.\{([^}]*)\}", text)
+            if not (module.startswith("Rattle.") and (ROOT / module.split(".")[1]).is_dir()) and ".Prim" not in module
             for name in names.split(",")
         }
-    return {name for module, name in said if not module and name in known[path]}
+    return {module or name for module, name in said if (module or name) in known[path]}
 
 
 def reach(pages, more, behind_contracts):
@@ -225,7 +226,9 @@ def reach(pages, more, behind_contracts):
         seen.add(what)
         crate, module, name = what
         if module.startswith("declared"):
-            found = struct(crate, name) or struct(crate, module.split(".the-variants")[0].split(".")[-1])
+            if module.endswith(".TheVariants"):
+                name = module.split(".")[-2]  # a variant stands for its enum
+            found = struct(crate, name)
             if found:
                 path, lines, inner = found
                 reached.add((path, lines, name))
@@ -274,7 +277,7 @@ def main():
         told(answers)
     print(f"{more:5}  lines to know what each of the {len(calls)} C calls and every program answers, at most {MOST_ALL}")
     legend = LEGEND.read_text(encoding="utf-8").partition("## What to read")[0]
-    missing = sorted(word for word in words | all_words if not re.search(rf"(?<![\w-]){re.escape(word.strip('_'))}(?![\w-])", legend))
+    missing = sorted(word for word in words | all_words if not re.search(rf"(?<![\w-]){re.escape(word.strip('◌'))}(?![\w-])", legend))
     for word in missing:
         print(f"reading: the legend of docs/PROMISES.md doesn't have {word}", file=sys.stderr)
     wrong = sorted({path for path, _, _ in trusted if path.suffix == ".antt" and path.parent.name == "specs" and path.stem in CODE})

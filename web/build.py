@@ -42,7 +42,9 @@ def library(module, out):
         clang = [native.tool('clang'), '--target=wasm32-unknown-unknown', '--no-default-config', '-Wno-override-module',
                  '-x', 'ir']
         subprocess.run(clang + ['-S', '-emit-llvm', '-Xclang', '-disable-llvm-passes', module, '-o', words], check=True)
-        words.write_text(re.sub(r' "target-cpu"="[^"]*"', '', words.read_text(encoding='utf-8')), encoding='utf-8')
+        text = re.sub(r' "target-cpu"="[^"]*"', '', words.read_text(encoding='utf-8'))
+        # an address has 32 bits here, and ptrtoaddr gives no wider number
+        words.write_text(text.replace(' = ptrtoaddr ptr ', ' = ptrtoint ptr '), encoding='utf-8')
         subprocess.run(clang + ['-O3', '-mbulk-memory', '-c', words, '-o', code], check=True)
         os.symlink(native.tool('ld.lld').resolve(), linker)
         subprocess.run([linker, *LINKED, *(f'--export={name}' for name in calls()), code, '-o', out], check=True)

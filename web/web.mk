@@ -14,7 +14,7 @@ $(PAGE)/rimesatchel.html: target/module/rimesatchel.bc $(PAGE_SOURCES)
 
 page-quick:
 	@python3 tools/quick_face.py
-	@python3 web/build.py target/quick/face/face.ll target/page-quick/rimesatchel.html '$(UNPROVED)'
+	@python3 web/build.py target/quick/face.ll target/page-quick/rimesatchel.html '$(UNPROVED)'
 
 page-test: page desk
 	@bash tests/page/run.sh 1 200 browser
