@@ -1,6 +1,6 @@
 -- `salvaging::take` meets its contract.
 -- Assumes nothing.
-use Rattle.std.proofs.Common.{◌-◌, length, sym, ap, ◌∙◌, arith}
+use Rattle.std.proofs.Common.{length, sym, ap, ◌∙◌, arith}
 use Rattle.pieces.proofs.Walks.{found_room}
 use Rattle.salvaging.proofs.Going.{going_start, going_turn, going_on, going_end}
 use Rattle.salvaging.proofs.take.Goals as goal
