@@ -1,6 +1,6 @@
 // What a program does behind a read. The four programs read in one loop, `while goes_on(turn, ..) { turn = read(..); .. }`, and what
 // makes it end, and whether it ended well, is here.
-ghost use Rattle.std.specs.Prelude.{◌&&◌, ◌≡◌, eqb, ltb, length, pos, ◌≤ℤ◌};
+ghost use Rattle.std.specs.Prelude.{◌&&◌, ◌≡◌, eqb, ltb, length};
 ghost use Rattle.source.specs.Turns.{first_turn, turn_of, clamp_len, Reads};
 
 use std::io;
@@ -62,10 +62,13 @@ pub fn answered(got: isize, buffer: &[u8], left: u64) -> Turn
 
 // How many octets of a buffer came, where a read answered so many: never more than there are.
 fn count(got: isize, buffer: &[u8]) -> usize
-    requires { pos 0 ≤ℤ got }
     ensures { result ≡ clamp_len got (length buffer.now) }
 {
-    (got as usize).min(buffer.len())
+    if 0 < got {
+        (got as usize).min(buffer.len())
+    } else {
+        0
+    }
 }
 
 // What a read answered, as a number: how many octets came, or -1 where it failed.
