@@ -37,6 +37,7 @@ fn low_of(ancillary: u64) -> u64
 }
 
 // The same of an ancillary field of so many bits: nothing where there is no field.
+#[tactic(auto, unfolding(crate::specs::Packing::low_part))]
 fn low_in(ancillary_bits: u64, ancillary: u64) -> u64
     ensures { result ≡ low_part ancillary_bits ancillary }
 {

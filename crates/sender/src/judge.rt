@@ -18,6 +18,7 @@ use crate::Sender;
 use formats::{Format, Settled};
 
 // Check 4, of numbers as they stand.
+#[tactic(auto, unfolding(crate::specs::Packing::numbers_refused_by))]
 pub(crate) fn numbers(format: Format, number: u32, wanted: bool, second: u32) -> bool
     ensures { result ≡ numbers_refused_by format number wanted second }
 {
@@ -86,6 +87,7 @@ fn united(samples: &[u64], ancillary: &[u8]) -> AllBits
 }
 
 // Check 5.
+#[tactic(auto, unfolding(crate::specs::Packing::lengths_refused_by))]
 fn lengths_refused(used: usize, samples: &[u64], ancillary: &[u8], room: usize) -> bool
     ensures { result ≡ lengths_refused_by used samples.now ancillary.now room }
 {
@@ -148,6 +150,7 @@ pub(crate) fn send_refusal(
 }
 
 // The second number of the next cell.
+#[tactic(auto, unfolding(crate::specs::Sender::second_now))]
 pub(crate) fn second_now(state: Sender, indication: bool) -> u8
     ensures { result ≡ second_now state indication }
 {

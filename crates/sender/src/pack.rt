@@ -126,6 +126,7 @@ fn pack_used(set: Settled, sequence: u64, samples: &[u64], ancillary: &[u8], cel
 }
 
 // The subframe of an unused slot: sample and ancillary are 0, their protection bits 111.
+#[tactic(auto, unfolding(crate::specs::Packing::idle_number))]
 fn idle_subframe(overhead_bits: u64, bit: u64) -> u64
     requires { bit < 2 }
     ensures { result ≡ idle_number overhead_bits bit }
