@@ -38,16 +38,17 @@ def calls():
 def library(module, out):
     """The module as WebAssembly. It has no imports: a call that isn't in it fails here."""
     with tempfile.TemporaryDirectory() as folder:
-        words, code, linker = (pathlib.Path(folder) / name for name in ('module.ll', 'module.o', 'wasm-ld'))
-        clang = [native.tool('clang'), '--target=wasm32-unknown-unknown', '--no-default-config', '-Wno-override-module',
-                 '-x', 'ir']
+        words, code, wide, linker = (pathlib.Path(folder) / name for name in ('module.ll', 'module.o', 'wide.o', 'wasm-ld'))
+        plain = [native.tool('clang'), '--target=wasm32-unknown-unknown', '--no-default-config', '-Wno-override-module']
+        clang = [*plain, '-x', 'ir']
         subprocess.run(clang + ['-S', '-emit-llvm', '-Xclang', '-disable-llvm-passes', module, '-o', words], check=True)
         text = re.sub(r' "target-cpu"="[^"]*"', '', words.read_text(encoding='utf-8'))
         # an address has 32 bits here, and ptrtoaddr gives no wider number
         words.write_text(text.replace(' = ptrtoaddr ptr ', ' = ptrtoint ptr '), encoding='utf-8')
         subprocess.run(clang + ['-O3', '-mbulk-memory', '-c', words, '-o', code], check=True)
+        subprocess.run([*plain, '-O2', '-ffreestanding', '-c', HERE / 'wide.c', '-o', wide], check=True)
         os.symlink(native.tool('ld.lld').resolve(), linker)
-        subprocess.run([linker, *LINKED, *(f'--export={name}' for name in calls()), code, '-o', out], check=True)
+        subprocess.run([linker, *LINKED, *(f'--export={name}' for name in calls()), code, wide, '-o', out], check=True)
 
 
 def constants(wasm):

@@ -3,7 +3,7 @@
 # PAGE   the folder in which it is built
 
 PAGE ?= target/page
-PAGE_SOURCES := $(wildcard web/*.js web/*.html web/*.css) web/build.py include/rimesatchel.h
+PAGE_SOURCES := $(wildcard web/*.js web/*.html web/*.css web/*.c) web/build.py include/rimesatchel.h
 UNPROVED := This page was made of a library that was not proved (make page-quick): it is for a first look.
 
 .PHONY: page page-quick page-test

@@ -5,8 +5,9 @@
   run.py --prove [CRATE...]  what the prover says of the same edits: of those in a library it refuses each that changes an answer;
                              of those in a program it takes most, since no promise speaks of what a program reads and writes
 
-An edit has the format of a mutant (tests/mutants/README.md). What it changes is copied to target/edits, the programs that use the
-crate are built there, and the scripts of tests/gate that try programs run until one fails.
+An edit has the format of a mutant (tests/mutants/README.md). The crates are copied to a folder of their own, among the temporary files.
+What it changes is changed there, the programs that use the crate are built, and the scripts of tests/gate that try programs run until one
+fails.
 """
 import os
 import pathlib
@@ -14,13 +15,15 @@ import shutil
 import signal
 import subprocess
 import sys
+import tempfile
 
 ROOT = pathlib.Path(__file__).resolve().parent.parent.parent
 sys.path.insert(0, str(ROOT / 'tests' / 'mutants'))
+sys.path.insert(0, str(ROOT / 'tools'))
+import native  # noqa: E402
 import run as mutants  # noqa: E402
 
 EDITS = ROOT / 'tests' / 'edits'
-SCRATCH = ROOT / 'target' / 'edits'
 PROGRAMS = {
     'linelist': '20-linelist', 'anything': '22-anything', 'salvage': '25-salvage', 'sheet': '27-sheet',
 }
@@ -29,47 +32,37 @@ LOOPS = '28-programs'
 
 def programs_of(crate):
     """The programs that use a crate, by crates.txt."""
-    needs = {}
-    for line in (ROOT / 'crates.txt').read_text(encoding='utf-8').split('\n'):
-        name, colon, needed = line.partition(':')
-        if colon and not line.startswith('#'):
-            needs[name] = needed.split()
-
-    def uses(name):
-        return name == crate or any(uses(needed) for needed in needs.get(name, []))
-    return [program for program in PROGRAMS if uses(program)]
+    return [program for program in PROGRAMS if crate in [program, *native.below(program)]]
 
 
-def changed(crate, edit):
+def changed(crate, edit, scratch):
     """Puts the edit into the copy of the crates."""
-    shutil.rmtree(SCRATCH / 'crates', ignore_errors=True)
-    shutil.copytree(ROOT / 'crates', SCRATCH / 'crates', ignore=shutil.ignore_patterns('proofs', 'specs', 'must-fail'))
-    file = old = ''
-    for line in edit.read_text(encoding='utf-8').split('\n'):
-        if line.startswith('file: '):
-            file = SCRATCH / 'crates' / crate / line[6:]
-        elif line.startswith('old: '):
-            old = line[5:]
-        elif line.startswith('new:'):
-            file.write_text(file.read_text(encoding='utf-8').replace(old, line[4:].removeprefix(' ')), encoding='utf-8')
+    shutil.rmtree(scratch / 'crates')
+    copied(scratch)
+    mutants.apply(edit, scratch / 'crates' / crate)
 
 
-def built(program):
+def copied(scratch):
+    shutil.copytree(ROOT / 'crates', scratch / 'crates', ignore=shutil.ignore_patterns('proofs', 'must-fail', 'out'))
+
+
+def built(program, scratch):
     """Builds a program of the copy without proof; says what went wrong, or nothing."""
-    ran = subprocess.run(['bash', 'tools/quick.sh', program], cwd=SCRATCH, capture_output=True, text=True, check=False)
-    made = SCRATCH / 'target' / 'quick' / program
+    ran = subprocess.run([sys.executable, 'tools/quick.py', program], cwd=scratch, stdin=subprocess.DEVNULL, capture_output=True, text=True,
+                         check=False)
+    made = scratch / 'target' / 'quick' / program
     if ran.returncode or not made.exists():
         said = [line for line in (ran.stdout + ran.stderr).split('\n') if line.strip()]
         return f'the trial run of {program} as it is built: {said[-1][:160] if said else "no word"}'
-    shutil.copy(made, SCRATCH / 'programs' / program)
+    shutil.copy(made, scratch / 'programs' / program)
     return ''
 
 
-def stopped_by(programs):
+def stopped_by(programs, scratch):
     """The first script that fails, and its words; nothing where all pass."""
     for script in [PROGRAMS[program] for program in programs] + [LOOPS]:
         ran = subprocess.Popen(['bash', f'tests/gate/{script}.sh'], cwd=ROOT, stdout=subprocess.PIPE, stderr=subprocess.STDOUT,
-                               text=True, errors='replace', env={**os.environ, 'PROGRAMS': str(SCRATCH / 'programs')},
+                               text=True, errors='replace', env={**os.environ, 'PROGRAMS': str(scratch / 'programs')},
                                start_new_session=True)
         try:
             out, _ = ran.communicate(timeout=200)
@@ -83,33 +76,34 @@ def stopped_by(programs):
     return ''
 
 
-def prepare():
-    shutil.rmtree(SCRATCH, ignore_errors=True)
-    (SCRATCH / 'programs').mkdir(parents=True)
-    shutil.copy(ROOT / 'crates.txt', SCRATCH)
-    shutil.copytree(ROOT / 'tools', SCRATCH / 'tools')
+def prepare(scratch):
+    (scratch / 'programs').mkdir()
+    shutil.copy(ROOT / 'crates.txt', scratch)
+    shutil.copytree(ROOT / 'tools', scratch / 'tools')
+    copied(scratch)
     for program in PROGRAMS:
-        shutil.copytree(ROOT / 'crates', SCRATCH / 'crates', dirs_exist_ok=True)
-        wrong = built(program)
+        wrong = built(program, scratch)
         if wrong:
             sys.exit(f'edits: as it stands, {wrong}')
-    shutil.copytree(SCRATCH / 'programs', SCRATCH / 'unchanged')
-    said = stopped_by(list(PROGRAMS))
+    shutil.copytree(scratch / 'programs', scratch / 'unchanged')
+    said = stopped_by(list(PROGRAMS), scratch)
     if said:
         sys.exit(f'edits: the programs as they stand are stopped by {said}')
 
 
 def try_edits(crates):
-    prepare()
     stopped = passed = 0
-    for edit in [edit for crate in crates for edit in sorted((EDITS / crate).glob('*.edit'))]:
-        crate = edit.parent.name
-        changed(crate, edit)
-        shutil.copytree(SCRATCH / 'unchanged', SCRATCH / 'programs', dirs_exist_ok=True)
-        programs = programs_of(crate)
-        said = next(filter(None, map(built, programs)), '') or stopped_by(programs)
-        stopped, passed = stopped + bool(said), passed + (not said)
-        print(f'{"stopped" if said else "NOT STOPPED":12} {crate}/{edit.stem}: {mutants.what_is_wrong(edit)} ({said})', flush=True)
+    with tempfile.TemporaryDirectory(prefix='rimesatchel-') as folder:
+        scratch = pathlib.Path(folder)
+        prepare(scratch)
+        for edit in [edit for crate in crates for edit in sorted((EDITS / crate).glob('*.edit'))]:
+            crate = edit.parent.name
+            changed(crate, edit, scratch)
+            shutil.copytree(scratch / 'unchanged', scratch / 'programs', dirs_exist_ok=True)
+            programs = programs_of(crate)
+            said = next(filter(None, (built(program, scratch) for program in programs)), '') or stopped_by(programs, scratch)
+            stopped, passed = stopped + bool(said), passed + (not said)
+            print(f'{"stopped" if said else "NOT STOPPED":12} {crate}/{edit.stem}: {mutants.what_is_wrong(edit)} ({said})', flush=True)
     print(f'edits: {stopped} stopped, {passed} not')
     return not passed
 
@@ -126,9 +120,8 @@ def main():
     if '--prove' not in words:
         return try_edits(crates)
     mutants.MUTANTS = EDITS
-    if subprocess.run(['rt', 'check', *crates], cwd=ROOT, stdout=subprocess.DEVNULL, check=False).returncode != 0:
+    if not mutants.proved(crates):
         sys.exit('edits: a crate is not proved as it stands; see `rt check`')
-    mutants.prepare(crates)
     mutants.try_mutants(crates)
     return True
 

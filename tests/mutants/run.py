@@ -6,20 +6,21 @@
   run.py --applies      only see that each edit, those of tests/edits and the must-fail edits too, still fits the file that it changes:
                         the gate
 
-The crates are copied to target/mutants, with the mutants in the place of their must-fail edits; `rt must-fail` tries them
-there. It leaves what the prover said of each in target/mutants/target/must-fail/CRATE/NAME/.log. Joint edits of different crates are
-tried together, in target/joint/ABOVE-ROUND.
+The crates are copied to a folder of their own, among the temporary files, with the mutants in the place of their must-fail edits;
+`rt must-fail` tries them there. In this folder they couldn't lie: `rt ci` refuses one with crates that crates.txt doesn't name. Joint edits
+of different crates are tried together, in one copy.
 """
+import contextlib
 import os
 import pathlib
 import re
 import shutil
 import subprocess
 import sys
+import tempfile
 
 ROOT = pathlib.Path(__file__).resolve().parent.parent.parent
 MUTANTS = ROOT / 'tests' / 'mutants'
-SCRATCH = ROOT / 'target' / 'mutants'
 AT_A_TIME = '2'
 
 
@@ -85,21 +86,27 @@ def rounds_of(crates):
 
 
 def refused_in(scratch, crate):
-    """Proves a crate of the copy; gives the statements, as `CRATE/FILE LEMMA`, and the functions that are refused, or none if it is
-    proved."""
-    run = subprocess.run(['rt', 'check', crate], cwd=scratch, capture_output=True, text=True, errors='replace', check=False)
-    found = re.findall(r'crates/(\w+)/(?:proofs|specs)/(\S+?)\.antt:\S* error: `([^`]*)`([^\n]*)', run.stdout + run.stderr)
-    first = [f'{own}/{file} {lemma}' for own, file, lemma, rest in found if 'was not admitted' not in rest]
+    """Proves a crate of the copy and what it needs; gives the statements, as `CRATE/FILE LEMMA`, and the functions that are refused, or
+    none if it is proved."""
+    run = subprocess.run(['rt', 'check'], cwd=scratch / 'crates' / crate, stdin=subprocess.DEVNULL, stdout=subprocess.PIPE,
+                         stderr=subprocess.STDOUT, text=True, errors='replace', check=False)
+    lower = re.search(r'^rt: the library (\w+) did not build', run.stdout, re.M)
+    own = lower[1] if lower else crate
+    found = re.findall(r'^(?:\./)?(?:proofs|specs)/(\S+?)\.antt:\S* error: `([^`]*)`([^\n]*)', run.stdout, re.M)
+    first = [f'{own}/{file} {lemma}' for file, lemma, rest in found if 'was not admitted' not in rest]
     first += [f'function {name}' for name in re.findall(r'^fn (\S+): (?:not proved|no proof)', run.stdout, re.M)]
     return [] if run.returncode == 0 else first or ['no line named']
 
 
-def try_round(above, k, edits):
+def try_round(above, edits):
     """Tries the edits of a round together: each one's own crate must stay proved, and the crate above refuse the statements that they
     name. Where the statement is in the own crate, only statements may be refused in it, so that every function is proved. Says how many
     didn't do so."""
-    scratch = ROOT / 'target' / 'joint' / f'{above}-{k}'
-    prepare([], scratch)
+    with copied([]) as scratch:
+        return refused_round(above, edits, scratch)
+
+
+def refused_round(above, edits, scratch):
     for edit in edits:
         apply(edit, scratch / 'crates' / edit.parent.name)
     for edit in edits:
@@ -108,7 +115,7 @@ def try_round(above, k, edits):
             print(f'NOT COUNTED  {edit.parent.name}/{edit.stem}: its own crate refuses it ({errors[0]})', flush=True)
             return len(edits)
     bad, errors = 0, refused_in(scratch, above)
-    functions = [error for error in errors if '/Proof ' in error or error.startswith('function ')]
+    functions = [error for error in errors if re.match(r'\w+/\S+/(?:Answers|Invariants|Proof) |function ', error)]
     for edit in edits:
         statement = f'{above}/{line_of(edit, "refused")}'
         good = not errors if above_of(edit) == 'vectors' else statement in errors and not functions
@@ -123,7 +130,7 @@ def try_joint(crates):
     """Tries the joint edits, round after round; says whether each was refused as it says."""
     rounds = rounds_of(crates)
     # the rounds that prove most anew come last
-    bad = sum(try_round(*key, rounds[key]) for key in sorted(rounds, key=lambda key: (('line', 'pages').count(key[0]), key)))
+    bad = sum(try_round(key[0], rounds[key]) for key in sorted(rounds, key=lambda key: (('line', 'pages').count(key[0]), key)))
     print(f'joint edits: {sum(map(len, rounds.values())) - bad} refused as they say, {bad} not')
     return not bad
 
@@ -143,52 +150,46 @@ def check_edits():
     return not bad
 
 
-def prepare(crates, scratch):
-    """A copy of the repository's crates as they are proved, with mutants in the place of must-fail edits. What the copy proved in an
-    earlier run stays: rt proves anew what changed since."""
-    shutil.rmtree(scratch / 'crates', ignore_errors=True)
-    shutil.copytree(ROOT / 'crates', scratch / 'crates', ignore=shutil.ignore_patterns('must-fail'))
-    shutil.copy(ROOT / 'crates.txt', scratch)
-    for part in ('rlib', 'stamp'):
-        if not (scratch / 'target' / part).is_dir():
-            shutil.copytree(ROOT / 'target' / part, scratch / 'target' / part)
-    for crate in crates:
-        place = scratch / 'crates' / crate / 'must-fail'
-        place.mkdir()
-        for edit in (MUTANTS / crate).glob('*.edit'):
-            if not above_of(edit):
-                shutil.copy(edit, place)
+@contextlib.contextmanager
+def copied(crates):
+    """A copy of the repository's crates, with mutants in the place of must-fail edits. rt begins there with what it kept of the same crates
+    elsewhere on this machine."""
+    with tempfile.TemporaryDirectory(prefix='rimesatchel-') as folder:
+        scratch = pathlib.Path(folder)
+        shutil.copytree(ROOT / 'crates', scratch / 'crates', ignore=shutil.ignore_patterns('must-fail', 'out'))
+        for file in ('crates.txt', 'HANDLES'):
+            if (ROOT / file).exists():
+                shutil.copy(ROOT / file, scratch)
+        for crate in crates:
+            place = scratch / 'crates' / crate / 'must-fail'
+            place.mkdir()
+            for edit in (MUTANTS / crate).glob('*.edit'):
+                if not above_of(edit):
+                    shutil.copy(edit, place)
+        yield scratch
 
 
-def first_error(name):
-    """Where the prover refused a mutant first, and in which lemma."""
-    log = SCRATCH / 'target' / 'must-fail' / name / '.log'
-    found = re.search(r'^(\S*?): error: (?:`([^`]*)`)?', log.read_text(encoding='utf-8', errors='replace'), re.M)
-    if not found:
-        return 'no line named'
-    return (found[1].split(f'must-fail/{name}/')[-1] + ' ' + (found[2] or '')).strip()
+def proved(crates):
+    """Proves crates as they stand; says whether they are."""
+    return all(subprocess.run(['rt', 'check'], cwd=ROOT / 'crates' / crate, stdin=subprocess.DEVNULL, stdout=subprocess.DEVNULL,
+                              check=False).returncode == 0 for crate in crates)
 
 
 def try_mutants(crates):
     """Runs `rt must-fail`, and prints a line for each mutant; says whether all were refused."""
     refused = survived = 0
-    process = subprocess.Popen(['rt', 'must-fail', *crates], cwd=SCRATCH, stdout=subprocess.PIPE, text=True, errors='replace',
-                               env={'RT_JOBS': AT_A_TIME, **os.environ})
-    for line in process.stdout:
-        said = re.match(r'rt: must-fail (\S+): (refused|NOT REFUSED|BAD EDIT)(.*)', line)
-        if said:
-            name, verdict, rest = said.groups()
-            took = re.search(r'(\d+ s)\)', rest)
-            wrong = what_is_wrong(MUTANTS / f'{name}.edit')
-            if verdict == 'refused':
-                refused += 1
-                print(f'refused      {name}: {wrong} ({first_error(name)}; {took[1]})', flush=True)
-            else:
-                survived += 1
-                print(f'{verdict:12} {name}: {wrong}{rest if verdict == "BAD EDIT" else ""}', flush=True)
-        elif 'NOT PROVED' in line:
-            print(line, end='', flush=True)
-    ended = process.wait()
+    with copied(crates) as scratch:
+        process = subprocess.Popen(['rt', 'must-fail', *crates], cwd=scratch, stdin=subprocess.DEVNULL, stdout=subprocess.PIPE, text=True,
+                                   errors='replace', env={'RT_JOBS': AT_A_TIME, **os.environ})
+        for line in process.stdout:
+            said = re.match(r'rt: must-fail (\S+)\.edit: (refused|NOT REFUSED|BAD EDIT|NOT TRIED)(.*)', line)
+            if said:
+                name, verdict, rest = said.groups()
+                wrong = what_is_wrong(MUTANTS / f'{name}.edit')
+                refused, survived = refused + (verdict == 'refused'), survived + (verdict != 'refused')
+                told = rest.removeprefix(', as it must be').lstrip(': ') if verdict != 'NOT REFUSED' else ''
+                print(f'{verdict:12} {name}: {wrong}' + (f' ({told[:200]})' if told else ''), flush=True)
+        ended = process.wait()
     print(f'mutants: {refused} refused, {survived} not')
     return ended == 0 and not survived
 
@@ -210,15 +211,10 @@ def main():
         return False
     # What is changed must be proved as it is: rt proves what isn't yet.
     proves = {*crates, *(above for above, _ in rounds_of(crates))} if joint else crates
-    prove = [sys.executable, ROOT / 'tools' / 'native.py', 'rt', 'check', *sorted(proves)]
-    if subprocess.run(prove, cwd=ROOT, stdout=subprocess.DEVNULL, check=False).returncode != 0:
+    if not proved(sorted(proves)):
         print('mutants: a crate is not proved as it stands; see `rt check`', file=sys.stderr)
         return False
-    if joint:
-        return try_joint(crates)
-    shutil.rmtree(SCRATCH, ignore_errors=True)
-    prepare(crates, SCRATCH)
-    return try_mutants(crates)
+    return try_joint(crates) if joint else try_mutants(crates)
 
 
 if __name__ == '__main__':
