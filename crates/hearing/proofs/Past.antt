@@ -9,7 +9,6 @@ use native.Mathlib.Omega.{arith}
 use borrow.Author.Tests.{le-leb, lt-leb}
 use lib.Dec.{eqb, leb}
 use lib.ListN.{length, length-append}
-use Rattle.runs.specs.Runs.{over}
 use Rattle.cell_log.specs.Records.{record_at, cell_at}
 use Rattle.cell_log.proofs.Places.{cell_facts}
 use Rattle.receiver.specs.declared.Receiver.{Receiver}

@@ -7,7 +7,7 @@ use Prim.Native.Nat.{ℕ}
 use native.Mathlib.Omega.{arith}
 use contract.Lifetimes.{Lfts}
 use lib.ListN.{get_or, replicate}
-use Rattle.runs.proofs.Wrong.{Never, Place, lent}
+use Rattle.runs.proofs.Wrong.{Never, Place, lent, lent_mut}
 use Rattle.receiver.specs.declared.Receiver.{Receiver}
 use Rattle.reading.specs.Heard.{end_by}
 use Rattle.hearing.specs.declared.receiving.Batch.{Batch}
@@ -42,7 +42,7 @@ module _ (κs : Lfts 4) (p q r s : Place) where
   abbrev Receiving : List ℕ → ℕ → ℕ → (Batch → List ℕ → List ℕ → Type 0) → Type 0
   Receiving log room marks Wrong =
       Never receive-kinds.ps receive-kinds.r receive-reads.Post κs
-      (going, (lent p log, (0, (lent q (replicate room 9), (lent r (replicate room 9), (lent s (replicate marks 9), tt))))))
+      (going, (lent p log, (0, (lent_mut q (replicate room 9), (lent_mut r (replicate room 9), (lent_mut s (replicate marks 9), tt))))))
       (λ x v. Wrong x v.1.1.1.0 v.1.1.1.1.1.0)
 
   -- a gap's entries left out: eight are counted

@@ -19,7 +19,6 @@ use Rattle.hearing.specs.declared.receiving.Batch.{Batch}
 use Rattle.hearing.specs.Judging.{all_from, stop_of}
 use Rattle.hearing.specs.Receiving.{fitting, received_in, samples_of, ancillary_of, marks_of, received_to, begun_as, ReceivesOn}
 use Rattle.hearing.specs.Steps.{stopped_as, past_all_lem, Counted, Ready, Steps}
-use Rattle.hearing.proofs.Takes.{ancillary_long, marks_long}
 use Rattle.hearing.proofs.Walks.{over_on}
 use Rattle.hearing.proofs.Past.{flat_joined, fitting_past, past_twice, past_none, received_is}
 

@@ -1,29 +1,27 @@
 -- Laws of a record that is received: how many entries it has, where they are put, and what the state is then.
 -- Assumes nothing.
-use mathlib.Core.Bool.{Bool, true, false, true≢false, cond, ◌&&◌}
+use mathlib.Core.Bool.{Bool, true, ◌&&◌}
 use mathlib.Core.List.{List, [], ◌∷◌, ◌++◌, append_assoc, append-nil, flat_map}
 use mathlib.Core.Path.{◌≡◌, refl, sym, ◌∙◌, ap, ap₂, subst}
 use Prim.Native.Nat.{ℕ, ◌+◌, ◌*◌, ◌/◌, ◌-◌, ◌≤◌, ◌<◌}
 use native.Mathlib.Nat.{suc-mul, div-lt_iff_lt-mul}
 use native.Mathlib.Omega.{arith}
-use borrow.Author.Tests.{eq-eqb, le-leb, eqb-true, eqb-false, leb-false}
+use borrow.Author.Tests.{eq-eqb, le-leb, eqb-true, leb-false}
 use borrow.Rule.Slice.PartMut.{mid_of, post_of, put_mid}
 use lib.Dec.{eqb, leb}
 use lib.ListN.{length, take, drop, replicate, length-append, length-drop, length-replicate, drop_of_length-le, take-append-drop}
 use lib.Seq.{take_all, drop-drop}
 use Rattle.runs.specs.Runs.{joined, over, written}
 use Rattle.runs.proofs.Laws.{split, length_tab, past_both}
-use Rattle.cell_log.specs.declared.Record.{Record}
 use Rattle.cell_log.specs.Records.{record_at, cell_at}
 use Rattle.cell_log.proofs.Places.{record_cases, cell_facts}
 use Rattle.formats.specs.declared.Format.{Format}
 use Rattle.formats.specs.declared.Settled.{Settled}
 use Rattle.formats.specs.Formats.{format_of, settings_refusal}
-use Rattle.formats.specs.Settings.{settled, settings_of}
+use Rattle.formats.specs.Settings.{settled}
 use Rattle.formats.proofs.Laws.{settled_of_lem}
 use Rattle.cells.specs.Cells.{sample_in, ancillary_in, mark_in, entries_of}
 use Rattle.receiver.specs.declared.Receiver.{Receiver}
-use Rattle.receiver.specs.declared.Received.{Received}
 use Rattle.receiver.specs.Receiver.{
   state_refusal,
   times_now,
@@ -37,12 +35,11 @@ use Rattle.receiver.specs.Receiver.{
   after,
 }
 use Rattle.receiver.specs.Unpacking.{used_in, own_entries}
-use Rattle.receiver.specs.Many.{cell_from, many_own, fits_in, settings_now, many_given, UnpacksMany}
+use Rattle.receiver.specs.Many.{cell_from, fits_in, settings_now, many_given, UnpacksMany}
 use Rattle.receiver.proofs.Laws.{answer_missing, answer_refusal}
 use Rattle.receiver.proofs.Onward.{after_passes, used_between}
 use Rattle.reading.specs.Heard.{Heard, given, hear, onward}
 use Rattle.reading.specs.Records.{Whole}
-use Rattle.hearing.specs.Receiving.{samples_of, ancillary_of, marks_of}
 use Rattle.hearing.specs.Steps.{needed_of, heard_at, Puts}
 
 module _ (st : Receiver) (r : Whole) where

@@ -1,15 +1,11 @@
 -- Laws of the walk along a log's records: what the loop keeps, and where it ends.
 -- Assumes nothing.
-use mathlib.Core.Bool.{true, false, cond}
 use mathlib.Core.List.{List, [], ◌∷◌, ◌++◌, append_assoc, append-nil, flat_map}
-use mathlib.Core.Path.{◌≡◌, refl, sym, ◌∙◌, ap, ap₂, subst}
-use Prim.Native.Nat.{ℕ, zero, suc, ◌+◌, ◌*◌, ◌/◌, ◌-◌, ◌≤◌, ◌<◌}
-use native.Mathlib.Numerals.{add-one}
+use mathlib.Core.Path.{◌≡◌, refl, sym, ◌∙◌, ap, ap₂}
+use Prim.Native.Nat.{ℕ, suc, ◌+◌, ◌*◌, ◌/◌, ◌-◌, ◌≤◌, ◌<◌}
 use native.Mathlib.Omega.{arith}
-use borrow.Author.Tests.{eq-eqb, ne_eqb}
-use lib.Dec.{eqb}
 use lib.ListN.{length, take, drop, set, length-append}
-use lib.Seq.{take_at, take_all, take-append-le, drop-append-add, drop-drop}
+use lib.Seq.{take_at, take_all, drop-append-add, drop-drop}
 use Rattle.runs.specs.Runs.{over, written}
 use Rattle.runs.proofs.Filling.{stored}
 use Rattle.cell_log.specs.declared.Record.{Record}
@@ -19,7 +15,7 @@ use Rattle.receiver.specs.declared.Receiver.{Receiver}
 use Rattle.receiver.specs.declared.Received.{Received}
 use Rattle.receiver.specs.Receiver.{judged_of}
 use Rattle.reading.specs.Heard.{Heard, heard_by, end_by, hear, heard_from, end_of, onward}
-use Rattle.reading.specs.Records.{Whole, Walk}
+use Rattle.reading.specs.Records.{Walk}
 use Rattle.reading.proofs.Heard.{end_joined}
 use Rattle.reading.proofs.Places.{walk_at, stop_at}
 use Rattle.hearing.specs.Code.{ended_as}

@@ -9,7 +9,7 @@ use contract.Lifetimes.{Lfts}
 use lib.ListN.{get_or, replicate}
 use Rattle.runs.specs.Refusals.{or_else}
 use Rattle.runs.specs.Runs.{over}
-use Rattle.runs.proofs.Wrong.{Never, Place, lent}
+use Rattle.runs.proofs.Wrong.{Never, Place, lent, lent_mut}
 use Rattle.cell_log.proofs.Wrong as log
 use Rattle.receiver.specs.declared.Receiver.{Receiver}
 use Rattle.receiver.proofs.Wrong as receiver
@@ -36,7 +36,7 @@ module _ (κs : Lfts 2) (p q : Place) where
   -- nine octets of room, all of them nines: one record
   abbrev Judging : ℕ → List ℕ → (Judged → List ℕ → Type 0) → Type 0
   Judging format log Wrong =
-      Never judge-kinds.ps judge-kinds.r judge-reads.Post κs (fresh format, (lent p log, (0, (lent q (replicate 9 9), tt))))
+      Never judge-kinds.ps judge-kinds.r judge-reads.Post κs (fresh format, (lent p log, (0, (lent_mut q (replicate 9 9), tt))))
       (λ x v. Wrong x v.1.1.1.0)
 
   -- the stop of a cut record told as the end

@@ -1,6 +1,6 @@
 -- Words of the code: a step along a log's records that are received, and what is counted by it.
 -- Assumes nothing.
-use Rattle.std.specs.Prelude.{Bool, cond, List, [], ◌++◌, ◌≡◌, ℕ, ◌+◌, ◌*◌, ◌-◌, ◌≤◌, ◌^◌, ◌<◌, eqb, length}
+use Rattle.std.specs.Prelude.{cond, List, [], ◌++◌, ◌≡◌, ℕ, ◌+◌, ◌*◌, ◌-◌, ◌≤◌, eqb, length}
 use Rattle.runs.specs.Runs.{written}
 use Rattle.cell_log.specs.Records.{record_at, cell_at}
 use Rattle.receiver.specs.declared.Receiver.{Receiver}
