@@ -11,9 +11,6 @@ use Rattle.receiver.proofs.judged_any.Goals.{Else-early-ne0}
 none : (c : Else-early-ne0) → early_refusal c.args.state (length c.args.cell.now) 720 720 720 ≡ 0
 none c = sym c.early_refusal-early.ensures ∙ c.if-early-ne0.false
 
-pub early_refusal-early-requires : goal.early_refusal-early-requires
-early_refusal-early-requires c = c.settings-set.ensures
-
 pub returns-then-early-ne0 : goal.returns-then-early-ne0
 unfolding judged_of
 returns-then-early-ne0 c = c.refused.ensures

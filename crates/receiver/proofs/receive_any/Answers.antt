@@ -19,9 +19,6 @@ call s =
       marks = s.args.marks.now;
     }
 
-pub early_refusal-early-requires : goal.early_refusal-early-requires
-early_refusal-early-requires c = c.settings-set.ensures
-
 pub returns-then-early-ne0 : goal.returns-then-early-ne0
 returns-then-early-ne0 c =
     rw c.refused.ensures (early_refused (call (goal.at.returns-then-early-ne0 c).Start) c.if-early-ne0.true c.early_refusal-early.ensures)

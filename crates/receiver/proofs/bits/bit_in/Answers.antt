@@ -14,19 +14,6 @@ use Rattle.receiver.proofs.bits.bit_in.Goals as goal
 last_octet : (slot : ℕ) {width : ℕ} → 1 ≤ width → (slot + 1) * width - 1 ≡ slot * width + (width - 1)
 last_octet slot {width} some = let whole : (slot + 1) * width ≡ slot * width + width = omega arith in omega arith
 
-pub overflow_add-result : goal.overflow_add-result
-overflow_add-result c = omega (arith, slot_room c.requires.0 c.requires.2, c.requires.0.slots_to)
-
-pub overflow_mul-result : goal.overflow_mul-result
-overflow_mul-result c = omega (arith, slot_room c.requires.0 c.requires.2)
-
-pub overflow_sub-result : goal.overflow_sub-result
-overflow_sub-result c = omega (arith, c.requires.0.width_from)
-
-pub bounds-cell-slot : goal.bounds-cell-slot
-bounds-cell-slot c = let given = c.requires in
-    omega (arith, slot_room given.0 given.2, given.1, given.0.width_from)
-
 pub returns : goal.returns
 unfolding subframe_at bit_in
 returns c = (

@@ -10,10 +10,6 @@ use Rattle.receiver.proofs.bits.eight_in.Goals as goal
 pub loop-slot-init : goal.loop-slot-init
 loop-slot-init c = gathers_begun (bit_in c.args.format c.args.cell.now)
 
-pub bit_in-requires : goal.bit_in-requires
-bit_in-requires c = let given = c.requires in
-    (given.0, given.1, omega (arith, given.0.slots_from))
-
 pub loop-slot-preserved : goal.loop-slot-preserved
 loop-slot-preserved c = gathers_on (bit_in c.args.format c.args.cell.now)
     c.loop-slot.invariant c.loop-slot-test.true c.bit_in.ensures.0 c.bit_in.ensures.1

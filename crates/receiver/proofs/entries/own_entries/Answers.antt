@@ -1,12 +1,8 @@
 -- `receiver::entries::own_entries` meets its contract: subframes first, and then their parts.
 -- Assumes nothing.
 use Rattle.receiver.proofs.Unpacking.{unpacks}
-use borrow.Author.Rules.{rules}
 use Rattle.receiver.proofs.entries.own_entries.Goals as goal
 use Rattle.receiver.proofs.entries.own_entries.Goals.{After-subframes, Start}
-
-pub parts-requires : goal.parts-requires
-parts-requires c = (c.requires.0.sound, record { samples_room = search rules; ancillary_room = search rules; marks_room = search rules }, c.requires.3)
 
 pub returns : goal.returns
 returns c = unpacks c.args.set c.args.cell.now c.args.at c.args.samples.now c.args.ancillary.now c.args.marks.now

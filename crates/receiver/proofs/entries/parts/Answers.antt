@@ -1,17 +1,8 @@
 -- `receiver::entries::parts` meets its contract: each kind of format by its split.
 -- Assumes nothing.
-use Rattle.cells.proofs.Subframes.{four, four_ancillary}
+use Rattle.cells.proofs.Subframes.{four_ancillary}
 use Rattle.receiver.proofs.Unpacking.{splits_alone, splits_plain, splits_bare}
 use Rattle.receiver.proofs.entries.parts.Goals as goal
-
-pub split_without_v-requires : goal.split_without_v-requires
-split_without_v-requires c = (
-  c.requires.0,
-  c.if-format-eq0.true,
-  four c.requires.0 c.if-format-ne0.true,
-  c.requires.1.samples_room,
-  c.requires.1.marks_room,
-)
 
 pub returns-then-format-ne0 : goal.returns-then-format-ne0
 returns-then-format-ne0 c = splits_alone c.args.format c.if-format-eq0.true c.args.at c.args.used
@@ -21,9 +12,6 @@ returns-then-format-ne0 c = splits_alone c.args.format c.if-format-eq0.true c.ar
 pub returns-then-format-eq0 : goal.returns-then-format-eq0
 returns-then-format-eq0 c = splits_plain c.args.format c.if-format-ne0.false c.args.at c.args.used c.args.samples.now c.args.ancillary.now
     c.args.marks.now c.requires.1 c.fill.ensures c.if-format-eq0.true c.requires.2
-
-pub split-requires : goal.split-requires
-split-requires c = (c.requires.0, four_ancillary c.requires.0 c.if-format-eq0.false, four c.requires.0 c.if-format-ne0-2.true, c.requires.1)
 
 pub returns : goal.returns
 returns c = splits_bare c.args.format c.if-format-ne0-2.false c.args.at c.args.used c.args.samples.now c.args.ancillary.now

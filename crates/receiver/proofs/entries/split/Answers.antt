@@ -1,23 +1,12 @@
 -- `receiver::entries::split` meets its contract.
 -- Assumes nothing.
 use mathlib.Core.Path.{refl}
-use native.Mathlib.Omega.{arith}
 use lib.ListN.{get_or}
 use Rattle.cells.specs.Cells.{ancillary_in, mark_in}
 use Rattle.receiver.proofs.Marking.{sample_over, ancillary_over, mark_on_top}
-use Rattle.receiver.proofs.Unpacking.{parted_begun, parted_on, parted_done, beside_begun, beside_on, beside_done}
+use Rattle.receiver.proofs.Unpacking.{parted_on, parted_done, beside_on, beside_done}
 use Rattle.receiver.proofs.entries.split.Goals as goal
 use Rattle.receiver.proofs.entries.split.Goals.{At-loop-i, Start}
-
-pub loop-i-init : goal.loop-i-init
-loop-i-init c = let a = c.args in (
-  parted_begun a.format a.at a.used a.samples.now c.requires.3.samples_room,
-  beside_begun (ancillary_in a.format) a.at a.used a.samples.now a.ancillary.now c.requires.3.ancillary_room,
-  beside_begun (mark_in a.format) a.at a.used a.samples.now a.marks.now c.requires.3.marks_room,
-)
-
-pub overflow_mul-nine : goal.overflow_mul-nine
-overflow_mul-nine c = omega (arith, c.slice_known-in-loop-i-1.given c.loop-i.i)
 
 pub loop-i-preserved : goal.loop-i-preserved
 loop-i-preserved c = let a = c.args in

@@ -2,16 +2,8 @@
 -- Assumes nothing.
 use mathlib.Core.Path.{ap}
 use Prim.Native.Nat.{ℕ, ◌/◌, ◌%◌}
-use Rattle.runs.proofs.Filling.{begun}
-use Rattle.receiver.specs.Unpacking.{held}
 use Rattle.receiver.proofs.Unpacking.{held_on, held_done, held_ahead}
 use Rattle.receiver.proofs.entries.split_bare.Goals as goal
-
-pub loop-i-init : goal.loop-i-init
-loop-i-init c = (
-  begun c.args.samples.now c.args.at (held (λ x. x / 16) c.args.samples.now c.args.at c.args.used),
-  begun c.args.ancillary.now c.args.at (held (λ x. x % 16) c.args.samples.now c.args.at c.args.used),
-)
 
 pub loop-i-preserved : goal.loop-i-preserved
 loop-i-preserved c = let a = c.args in

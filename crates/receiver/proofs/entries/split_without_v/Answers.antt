@@ -5,22 +5,13 @@ use native.Mathlib.Omega.{arith}
 use lib.ListN.{get_or}
 use Rattle.cells.specs.Cells.{mark_in}
 use Rattle.receiver.proofs.Marking.{sample_alone, mark_alone}
-use Rattle.receiver.proofs.Unpacking.{parted_begun, parted_on, parted_done, beside_begun, beside_on, beside_done}
+use Rattle.receiver.proofs.Unpacking.{parted_on, parted_done, beside_on, beside_done}
 use Rattle.receiver.proofs.entries.split_without_v.Goals as goal
 use Rattle.receiver.proofs.entries.split_without_v.Goals.{At-loop-i, Start}
 
 -- a sample with overhead alone has nine bits
 nine : (s : Start) → 9 ≤ s.args.format.sample_bits
 nine s = omega (arith, s.requires.0.bits, s.requires.0.sample_from, s.requires.1, s.requires.2)
-
-pub loop-i-init : goal.loop-i-init
-loop-i-init c = (
-  parted_begun c.args.format c.args.at c.args.used c.args.samples.now c.requires.3,
-  beside_begun (mark_in c.args.format) c.args.at c.args.used c.args.samples.now c.args.marks.now c.requires.4,
-)
-
-pub overflow_sub-nine : goal.overflow_sub-nine
-overflow_sub-nine c = nine (goal.at.overflow_sub-nine c).Start
 
 pub loop-i-preserved : goal.loop-i-preserved
 loop-i-preserved c = let s = (goal.at.loop-i-preserved c).Start in

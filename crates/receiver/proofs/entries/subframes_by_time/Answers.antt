@@ -1,21 +1,8 @@
 -- `receiver::entries::subframes_by_time` meets its contract.
 -- Assumes nothing.
-use Rattle.runs.proofs.Filling.{begun}
-use Rattle.receiver.specs.Unpacking.{own_entries}
-use Rattle.receiver.proofs.Unpacking.{own_on, own_done, slot_in, slot_straight}
+use Rattle.receiver.proofs.Unpacking.{own_on, own_done, slot_straight}
 use Rattle.receiver.proofs.entries.subframes_by_time.Goals as goal
 use Rattle.receiver.proofs.entries.subframes_by_time.Goals.{At-loop-i, Start}
-
-pub loop-i-init : goal.loop-i-init
-loop-i-init c = begun c.args.run.now c.args.at (own_entries (λ x. x) c.args.set c.args.cell.now)
-
-pub subframe_in-requires : goal.subframe_in-requires
-subframe_in-requires c = (
-  c.requires.0.sound,
-  c.requires.1,
-  slot_in c.args.set c.args.cell.now c.requires.0 c.loop-i-test.true
-      (slot_straight c.args.set c.args.cell.now c.requires.3 c.loop-i.i),
-)
 
 pub loop-i-preserved : goal.loop-i-preserved
 loop-i-preserved c = own_on c.args.set c.args.cell.now c.args.run.now c.args.at c.requires.2 c.loop-i.invariant c.loop-i-test.true

@@ -2,9 +2,8 @@
 -- Assumes nothing.
 use mathlib.Core.Bool.{Bool, true}
 use mathlib.Core.Path.{◌≡◌, sym, ◌∙◌, ap, subst}
-use Prim.Native.Nat.{ℕ, ◌+◌, ◌-◌, ◌≤◌, ◌<◌}
+use Prim.Native.Nat.{ℕ, ◌-◌, ◌≤◌, ◌<◌}
 use native.Mathlib.Omega.{arith}
-use lib.ListN.{length-set}
 use Rattle.runs.proofs.Filling.{Filled, begun}
 use Rattle.formats.specs.declared.Settled.{Settled}
 use Rattle.cells.specs.Code.{step_on}
@@ -31,9 +30,6 @@ before_last l less =
     let set : Settled = l.args.set in
     subst (λ (k : ℕ). k < used_in set - 1) (sym l.loop-i.invariant.1)
     (slot_before true set.channels set.times l.requires.0.channels_from l.requires.0.times_from less)
-
-pub overflow_sub-last : goal.overflow_sub-last
-overflow_sub-last c = some (goal.at.overflow_sub-last c).Start
 
 pub loop-i-init : goal.loop-i-init
 loop-i-init c = (
@@ -67,15 +63,6 @@ loop-i-preserved c = let s = (goal.at.loop-i-preserved c).Start in
           ∙ slot_next s.args.set.channels s.args.set.times s.requires.0.channels_from (omega (arith, less)),
       omega (arith, less),
     )
-
-pub subframe_in-requires : goal.subframe_in-requires
-subframe_in-requires c = let s = (goal.at.subframe_in-requires c).Start in (s.requires.0.sound, s.requires.1, omega (arith, some s, s.requires.0.used_in_lem))
-
-pub bounds-run-at-2 : goal.bounds-run-at-2
-bounds-run-at-2 c = omega (arith, some (goal.at.bounds-run-at-2 c).Start, c.requires.2, c.loop-i.invariant.0.same)
-
-pub shape_of-run : goal.shape_of-run
-shape_of-run c = omega (arith, length-set c.loop-i.run (c.args.at + (used_in c.args.set - 1)) c.subframe_in.result, c.loop-i.invariant.0.same)
 
 pub returns : goal.returns
 returns c = let s = (goal.at.returns c).Start in

@@ -4,11 +4,8 @@ use mathlib.Core.Path.{sym}
 use Prim.Native.Nat.{ℕ}
 use native.Mathlib.Omega.{arith}
 use lib.ListN.{replicate, length-replicate, get_or-replicate}
-use Rattle.runs.proofs.Filling.{begun, turned_front, done_front}
+use Rattle.runs.proofs.Filling.{turned_front, done_front}
 use Rattle.receiver.proofs.entries.zeros.Goals as goal
-
-pub loop-i-init : goal.loop-i-init
-loop-i-init c = begun c.args.run.now 0 (replicate c.args.count 0)
 
 pub loop-i-preserved : goal.loop-i-preserved
 loop-i-preserved c = turned_front c.args.run.now (replicate c.args.count 0) c.loop-i.invariant

@@ -1,15 +1,11 @@
 -- `receiver::many::any_cells` meets its contract.
 -- Assumes nothing.
 use Prim.Native.Nat.{◌*◌}
-use native.Mathlib.Omega.{arith}
 use borrow.Author.Rules.{rules}
 use Rattle.receiver.specs.Unpacking.{used_in}
 use Rattle.receiver.proofs.Unpacking.{blank_either, blank_there}
-use Rattle.receiver.proofs.Spread.{next_within, cell_part, cell_long, spread_begun, spread_room, spread_blank, spread_on, spread_done}
+use Rattle.receiver.proofs.Spread.{cell_part, cell_long, spread_begun, spread_room, spread_blank, spread_on, spread_done}
 use Rattle.receiver.proofs.many.any_cells.Goals as goal
-
-pub overflow_mul-records : goal.overflow_mul-records
-overflow_mul-records c = omega (arith, c.requires.2.samples_room, c.well_formed)
 
 pub loop-k-init : goal.loop-k-init
 loop-k-init c = let used = used_in c.args.set in (
@@ -19,12 +15,6 @@ loop-k-init c = let used = used_in c.args.set in (
   blank_there c.args.set.format c.args.missing (c.args.records * used) c.args.ancillary.now c.requires.2.ancillary_room
       c.cleared.ensures.ancillary_is,
 )
-
-pub overflow_mul-at : goal.overflow_mul-at
-overflow_mul-at c = omega (arith, c.requires.2.samples_room, c.well_formed, next_within c.args.set c.args.octets.now c.args.place c.args.records c.args.missing c.loop-k-test.true)
-
-pub overflow_add-at : goal.overflow_add-at
-overflow_add-at c = omega (arith, c.requires.2.samples_room, c.well_formed, next_within c.args.set c.args.octets.now c.args.place c.args.records c.args.missing c.loop-k-test.true)
 
 pub own_entries-requires : goal.own_entries-requires
 own_entries-requires c = let inv = c.loop-k.invariant in

@@ -79,9 +79,3 @@ any_cells-requires c = let at = goal.at.any_cells-requires c in (
   there at.Else-not-fits,
   room at.Else-not-fits,
 )
-
-pub returns : goal.returns
-returns c =
-    unpacks_so c.args.state c.args.octets.now c.args.place c.args.records c.args.missing c.args.samples.now
-    c.args.ancillary.now c.args.marks.now c.settings-set.ensures c.if-set-ne0.false c.fits.ensures c.if-not-fits.false
-    c.any_cells.ensures

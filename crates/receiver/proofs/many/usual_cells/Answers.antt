@@ -4,20 +4,13 @@ use mathlib.Core.Logic.{inl}
 use mathlib.Core.Path.{refl}
 use borrow.Author.Rules.{rules}
 use Rattle.receiver.specs.Unpacking.{straight}
-use Rattle.receiver.proofs.Spread.{cell_part, cell_long, spread_begun, spread_room, spread_on, spread_done}
+use Rattle.receiver.proofs.Spread.{cell_part, spread_begun, spread_on, spread_done}
 use Rattle.receiver.proofs.many.usual_cells.Goals as goal
 
 pub loop-k-init : goal.loop-k-init
 loop-k-init c = (
   record { samples_room = search rules; ancillary_room = search rules; marks_room = search rules },
   spread_begun straight c.args.octets.now c.args.place c.args.records c.args.missing (inl refl) c.missing_entries.ensures,
-)
-
-pub own_entries-requires : goal.own_entries-requires
-own_entries-requires c = let less = c.loop-k-test.true in (
-  cell_long c.args.octets.now c.args.place c.args.records c.requires.0 less,
-  spread_room straight c.args.octets.now c.args.place c.args.records c.args.missing _ _ _ c.loop-k.invariant.0
-      c.loop-k.invariant.1 less,
 )
 
 pub loop-k-preserved : goal.loop-k-preserved

@@ -26,51 +26,21 @@ one c =
     one_left c.requires.0 c.if-width-eq4.false c.if-width-eq3.false
     c.if-width-eq2.false c.if-width-eq6.false
 
-pub overflow_mul-slot : goal.overflow_mul-slot
-overflow_mul-slot c = omega (arith, within (goal.at.overflow_mul-slot c).Start c.if-width-eq4.true)
-
-pub in4-requires : goal.in4-requires
-in4-requires c = within (goal.at.in4-requires c).Start c.if-width-eq4.true
-
 pub returns-then-width-eq4 : goal.returns-then-width-eq4
 returns-then-width-eq4 c = let is = c.if-width-eq4.true in
     by (goal.at.returns-then-width-eq4 c).Start is (c.in4.ensures.0 ∙ four_read c.args.cell.now (c.args.slot * 4) (within (goal.at.returns-then-width-eq4 c).Start is))
-
-pub overflow_mul-slot-then-width-eq3 : goal.overflow_mul-slot-then-width-eq3
-overflow_mul-slot-then-width-eq3 c = omega (arith, within (goal.at.overflow_mul-slot-then-width-eq3 c).Start c.if-width-eq3.true)
-
-pub in3-requires : goal.in3-requires
-in3-requires c = within (goal.at.in3-requires c).Start c.if-width-eq3.true
 
 pub returns-then-width-eq3 : goal.returns-then-width-eq3
 returns-then-width-eq3 c = let is = c.if-width-eq3.true in
     by (goal.at.returns-then-width-eq3 c).Start is (c.in3.ensures ∙ three_read c.args.cell.now (c.args.slot * 3) (within (goal.at.returns-then-width-eq3 c).Start is))
 
-pub overflow_mul-slot-then-width-eq2 : goal.overflow_mul-slot-then-width-eq2
-overflow_mul-slot-then-width-eq2 c = omega (arith, within (goal.at.overflow_mul-slot-then-width-eq2 c).Start c.if-width-eq2.true)
-
-pub in2-requires : goal.in2-requires
-in2-requires c = within (goal.at.in2-requires c).Start c.if-width-eq2.true
-
 pub returns-then-width-eq2 : goal.returns-then-width-eq2
 returns-then-width-eq2 c = let is = c.if-width-eq2.true in
     by (goal.at.returns-then-width-eq2 c).Start is (c.in2.ensures.0 ∙ two_read c.args.cell.now (c.args.slot * 2) (within (goal.at.returns-then-width-eq2 c).Start is))
 
-pub overflow_mul-slot-then-width-eq6 : goal.overflow_mul-slot-then-width-eq6
-overflow_mul-slot-then-width-eq6 c = omega (arith, within (goal.at.overflow_mul-slot-then-width-eq6 c).Start c.if-width-eq6.true)
-
-pub in6-requires : goal.in6-requires
-in6-requires c = within (goal.at.in6-requires c).Start c.if-width-eq6.true
-
 pub returns-then-width-eq6 : goal.returns-then-width-eq6
 returns-then-width-eq6 c = let is = c.if-width-eq6.true in
     by (goal.at.returns-then-width-eq6 c).Start is (c.in6.ensures ∙ six_read c.args.cell.now (c.args.slot * 6) (within (goal.at.returns-then-width-eq6 c).Start is))
-
-pub bounds-cell-slot : goal.bounds-cell-slot
-bounds-cell-slot c = omega (arith, within (goal.at.bounds-cell-slot c).Start (one (goal.at.bounds-cell-slot c).Else-width-eq6))
-
-pub overflow_cast-result : goal.overflow_cast-result
-overflow_cast-result c = omega (arith, c.shared_slice_known-2-1.given c.args.slot)
 
 pub returns : goal.returns
 returns c = let is = one (goal.at.returns c).Else-width-eq6 in

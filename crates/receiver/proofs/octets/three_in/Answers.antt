@@ -15,15 +15,9 @@ within s =
     let next = slot_at s.requires.0 {slot = s.args.slot + 1} s.args.cell.now s.requires.2 s.requires.3 s.requires.1 in
     omega (arith, next)
 
-pub overflow_mul-slot : goal.overflow_mul-slot
-overflow_mul-slot c = omega (arith, within (goal.at.overflow_mul-slot c).Start, c.requires.2)
-
-pub in4-requires : goal.in4-requires
-in4-requires c = within (goal.at.in4-requires c).Start
-
 pub returns : goal.returns
 returns c = let at : ℕ = c.args.slot * 3 in
-    let small : get_or c.args.cell.now (at + 3) 0 < 256 = omega (arith, c.shared_slice_known-1.given (at + 3)) in
+    let small : get_or c.args.cell.now (at + 3) 0 < 256 = omega (arith, c.type_inv.cell (at + 3)) in
     by_width c.args.format c.args.cell.now c.args.slot c.requires.1
     (ap (λ (n : ℕ). n / 256)
     (c.in4.ensures.0

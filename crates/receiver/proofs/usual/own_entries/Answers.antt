@@ -6,19 +6,8 @@ use native.Mathlib.Omega.{arith}
 use Rattle.receiver.specs.Unpacking.{fours}
 use Rattle.receiver.proofs.Marking.{mark_on_top}
 use Rattle.receiver.proofs.Reading.{by_width, four_read}
-use Rattle.receiver.proofs.AllSlots.{entered_begun, room_here, entered_on, entered_done}
+use Rattle.receiver.proofs.AllSlots.{entered_on, entered_done}
 use Rattle.receiver.proofs.usual.own_entries.Goals as goal
-
-pub loop-i-init : goal.loop-i-init
-loop-i-init c = entered_begun c.args.cell.now c.args.at c.args.samples.now c.args.ancillary.now c.args.marks.now
-    c.requires.1
-
-pub enter-requires : goal.enter-requires
-enter-requires c =
-    let room
-    = room_here c.args.cell.now c.args.at c.args.samples.now c.args.ancillary.now c.args.marks.now c.requires.1
-    c.loop-i.invariant c.loop-i-test.true in
-    record { samples_room = omega arith; ancillary_room = omega arith; marks_room = omega arith }
 
 pub loop-i-preserved : goal.loop-i-preserved
 loop-i-preserved c = let less = c.loop-i-test.true in

@@ -1,10 +1,9 @@
 -- `receiver::usual::receive` meets its contract.
 -- Assumes nothing.
 use mathlib.Core.Path.{◌≡◌, ◌∙◌, sym}
-use native.Mathlib.Omega.{arith}
 use Rattle.formats.specs.Settings.{settings_of}
 use Rattle.receiver.proofs.AllSlots.{usual_settles, usual_sound, usual_found, usual_room, usual_fills}
-use Rattle.receiver.proofs.Laws.{Call, judged_format, judged_whole_lem, early_refused, equal_early, judged_refused, cell_whole, missing_few, roomy, judged_taken}
+use Rattle.receiver.proofs.Laws.{Call, judged_format, judged_whole_lem, early_refused, equal_early, judged_refused, cell_whole, roomy, judged_taken}
 use Rattle.receiver.proofs.usual.receive.Goals as goal
 use Rattle.receiver.proofs.usual.receive.Goals.{After-usual-set, Start}
 
@@ -49,10 +48,6 @@ judged-answer-requires c = let at = goal.at.judged-answer-requires c in
 pub returns-then-answer-ne0 : goal.returns-then-answer-ne0
 returns-then-answer-ne0 c = let at = goal.at.returns-then-answer-ne0 c in
     judged_refused (call at.Start) (sym c.early_refusal-early.ensures ∙ c.if-early-ne0.false) c.judged-answer.ensures c.if-answer-ne0.true
-
-pub overflow_mul-place : goal.overflow_mul-place
-overflow_mul-place c = let at = goal.at.overflow_mul-place c in
-    omega (arith, missing_few (call at.Start) (sym c.early_refusal-early.ensures ∙ c.if-early-ne0.false) c.judged-answer.ensures (settles at.After-usual-set) c.if-answer-ne0.false)
 
 pub write-requires : goal.write-requires
 write-requires c = let at = goal.at.write-requires c in (
