@@ -57,6 +57,7 @@ fn told_by(message: [u8; 29]) -> Enquiry
 
 // Where the octets of a status message end that go to the record: past 8 of an input port's; of an output port's past 28 with E0, and else
 // past 6.
+#[tactic(auto, unfolding(crate::specs::Code::taken_to))]
 fn taken_to(subsystem_code: u8, status: u8) -> usize
     ensures { (result ≡ taken_to subsystem_code status) × (7 ≤ result) × (result ≤ 29) }
 {

@@ -26,6 +26,7 @@ pub fn rime_port_settings(port: &[u8; 28], settings: &mut [u32; 3]) -> u8
 }
 
 // 6.3.2: the order that is coded, which is 0 for one channel and for as many channels as slots.
+#[tactic(auto, unfolding(crate::specs::Packing::order_coded))]
 fn order_coded(slots: usize, channels: u32, order: u32) -> u32
     ensures { result ≡ order_coded slots channels order }
 {

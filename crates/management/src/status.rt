@@ -13,6 +13,7 @@ use crate::octets::{put, put_both};
 use crate::ports::{Enquiry, Fit, best_fit, unsupported};
 
 // A code with which octets 4 to 6 indicate how the port is currently configured.
+#[tactic(auto, unfolding(crate::specs::Status::configured))]
 pub(crate) fn configured(subsystem_code: u8, status: u8) -> bool
     ensures { result ≡ configured subsystem_code status }
 {
@@ -32,6 +33,7 @@ pub(crate) fn configured(subsystem_code: u8, status: u8) -> bool
 }
 
 // A code of the table: those, 00, and 81 to 87.
+#[tactic(auto, unfolding(crate::specs::Status::recognised))]
 pub(crate) fn recognised(subsystem_code: u8, status: u8) -> bool
     ensures { result ≡ recognised subsystem_code status }
 {
@@ -112,6 +114,7 @@ fn write_output_status(ports: &[u8], asked: Enquiry, answer: &mut [u8])
     put_both(answer, 0, &head, &ports[from..to]);
 }
 
+#[tactic(auto, unfolding(crate::specs::Code::status_length))]
 fn status_length(subsystem_code: u8) -> usize
     ensures { result ≡ status_length subsystem_code }
 {
