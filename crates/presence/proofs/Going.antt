@@ -16,7 +16,6 @@ use Rattle.pieces.specs.Limit.{Part, head, whole, refused, broken, records_to, f
 use Rattle.pieces.specs.Steps.{taking_of, stood_of, Steps, found_parts, is_record, found_octets, handed_over}
 use Rattle.pieces.specs.Taken.{Taking, handed, end_fault, end_parts, joined_of}
 use Rattle.pieces.proofs.Walks.{Along, along_start, along_turn, along_end, turn_on, division_parts, found_record, no_record}
-use Rattle.presence.specs.declared.Presence.{Presence}
 use Rattle.presence.specs.declared.Search.{Search}
 use Rattle.presence.specs.declared.Sought.{Sought}
 use Rattle.presence.specs.declared.sounds.Said.{Said}

@@ -2,8 +2,8 @@
 -- Assumes nothing.
 use mathlib.Core.Bool.{true}
 use mathlib.Core.List.{List, [], ◌++◌}
-use mathlib.Core.Path.{◌≡◌, sym}
-use Prim.Native.Nat.{ℕ, ◌*◌, ◌/◌, ◌≤◌, ◌<◌}
+use mathlib.Core.Path.{◌≡◌}
+use Prim.Native.Nat.{ℕ, ◌≤◌}
 use native.Mathlib.Omega.{arith}
 use borrow.Author.Tests.{eq-eqb, ne_eqb}
 use lib.Dec.{eqb}
@@ -14,7 +14,7 @@ use Rattle.text.specs.Put.{Puts}
 use Rattle.text.specs.Text.{item}
 use Rattle.text.specs.Words.{words}
 use Rattle.text.proofs.Laws.{puts_same, said_from_start, wrote_from_start}
-use Rattle.text.proofs.Short.{with_words, one_item, two_short, listed_whole}
+use Rattle.text.proofs.Short.{with_words, one_item, listed_whole}
 use Rattle.pieces.specs.declared.Standing.{Standing}
 use Rattle.pieces.specs.Steps.{taking_of}
 use Rattle.pieces.specs.Taken.{end_fault}

@@ -1,6 +1,6 @@
 -- Where logs stopped, three numbers each, one log behind the other in a lent run.
 -- Assumes nothing.
-use Rattle.std.specs.Prelude.{cond, List, [], ◌∷◌, ℕ, ◌+◌, ◌*◌, ◌/◌, ◌%◌, leb, length, get_or, set}
+use Rattle.std.specs.Prelude.{cond, List, ℕ, ◌+◌, ◌*◌, ◌/◌, ◌%◌, leb, length, get_or, set}
 use Rattle.stops.specs.declared.Stop.{Stop}
 use Rattle.stops.specs.Stops.{stop_by}
 

@@ -12,7 +12,7 @@ pub loop-i-init : goal.loop-i-init
 loop-i-init c = (search rules, eight_begun _ _)
 
 pub overflow_cast-number : goal.overflow_cast-number
-overflow_cast-number c = omega (arith, c.shared_slice_known-1.given (c.args.at + c.loop-i.i))
+overflow_cast-number c = omega (arith, c.type_inv.cell (c.args.at + c.loop-i.i))
 
 pub overflow_mul-number : goal.overflow_mul-number
 overflow_mul-number c = omega (arith, c.loop-i-test.true)
@@ -24,10 +24,11 @@ pub loop-i-preserved : goal.loop-i-preserved
 loop-i-preserved c = (
   omega (arith, c.loop-i-test.true),
   eight_on _ _ c.loop-i.invariant.1 c.loop-i-test.true refl
-      (c.shared_slice_known-1.given (c.args.at + c.loop-i.i)).fits,
+      (c.type_inv.cell (c.args.at + c.loop-i.i)).fits,
 )
 
 pub returns : goal.returns
-returns c = let l = c.loop-i in
+returns c =
+    let l = c.loop-i in
     let all : l.i ≡ 8 = omega (arith, l.invariant.0, c.loop-i-test.false) in
     subst (λ (n : ℕ). Eight c.args.cell.now c.args.at n l.number) all l.invariant.1

@@ -13,18 +13,18 @@ pub overflow_mul-number : goal.overflow_mul-number
 overflow_mul-number c = omega (arith, reads_small _ _ _ c.loop-i.invariant c.requires.0 c.loop-i-test.true)
 
 pub overflow_cast-number : goal.overflow_cast-number
-overflow_cast-number c = omega (arith, c.shared_slice_known-1.given (c.args.at + c.loop-i.i))
+overflow_cast-number c = omega (arith, c.type_inv.cell (c.args.at + c.loop-i.i))
 
 pub overflow_add-number-in-loop-i : goal.overflow_add-number-in-loop-i
 overflow_add-number-in-loop-i c = omega (
   arith,
-  c.shared_slice_known-1.given (c.args.at + c.loop-i.i),
+  c.type_inv.cell (c.args.at + c.loop-i.i),
   reads_small _ _ _ c.loop-i.invariant c.requires.0 c.loop-i-test.true,
 )
 
 pub loop-i-preserved : goal.loop-i-preserved
 loop-i-preserved c = reads_on _ _ _ c.loop-i.invariant c.requires.0 c.requires.1 c.loop-i-test.true refl
-    (c.shared_slice_known-1.given (c.args.at + c.loop-i.i)).fits
+    (c.type_inv.cell (c.args.at + c.loop-i.i)).fits
 
 pub returns : goal.returns
 returns c = reads_done _ _ _ c.loop-i.invariant c.requires.0 c.loop-i-test.false

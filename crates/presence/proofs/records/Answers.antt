@@ -15,7 +15,7 @@ returns-then-said c =
 
 pub overflow_add-number : goal.overflow_add-number
 overflow_add-number c =
-    omega (arith, c.loop-here.invariant.few, next_is c.loop-here.invariant c.loop-here-test.true, c.struct_known-1.given)
+    omega (arith, c.loop-here.invariant.few, next_is c.loop-here.invariant c.loop-here-test.true)
 
 pub loop-here-smaller : goal.loop-here-smaller
 loop-here-smaller c =

@@ -1,4 +1,4 @@
--- `presence::take` meets its contract. The loop goes along the piece; the measure is what is left of it.
+-- The loop of `presence::take` goes along the piece; the measure is what is left of it.
 use Rattle.std.proofs.Common.{◌-◌, length}
 use Rattle.presence.proofs.Going.{Going}
 use Rattle.presence.proofs.take.Given as goal

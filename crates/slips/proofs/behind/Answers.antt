@@ -12,6 +12,7 @@ returns-then-told-may c = rw (le-leb _ _ c.if-told-may.true)
 
 pub returns : goal.returns
 unfolding behind_of
-returns c = let a = c.args in
+returns c =
+    let a = c.args in
     let more : a.may < a.told = omega arith in
     rw (lt-leb a.told a.may more)

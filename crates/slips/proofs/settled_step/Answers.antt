@@ -10,17 +10,20 @@ use Rattle.slips.proofs.Steps.{settled_in, settled_out}
 use Rattle.slips.proofs.settled_step.Goals as goal
 
 pub returns-then-up-by : goal.returns-then-up-by
-returns-then-up-by c = let a = c.args in
+returns-then-up-by c =
+    let a = c.args in
     let p = c.requires in
     c.told_with.ensures ∙ ap (λ (w : Watch). told w 0 0) c.in_step.ensures
     ∙ sym (settled_in a.watch a.number a.second a.by p.0 p.1 p.2 (sym c.difference-up.ensures ∙ c.if-up-by.true))
 
 pub behind-requires : goal.behind-requires
-behind-requires c = let a = c.args in
+behind-requires c =
+    let a = c.args in
     subst (λ (d : ℕ). d ≤ 15) (sym c.difference-up.ensures) (difference_to a.second a.watch.second)
 
 pub returns : goal.returns
-returns c = let a = c.args in
+returns c =
+    let a = c.args in
     let p = c.requires in
     c.told_with-2.ensures
     ∙ ap₂ (λ (w : Watch) (n : ℕ). told w 3 n) c.out_of_step.ensures

@@ -12,7 +12,8 @@ pub returns-then-watch-ne0 : goal.returns-then-watch-ne0
 returns-then-watch-ne0 c = some_refuses c.args.watch _ c.if-watch-ne0.true (λ k. omega arith)
 
 pub returns-else-watch-ne0 : goal.returns-else-watch-ne0
-returns-else-watch-ne0 c = let w = c.args.watch in
+returns-else-watch-ne0 c =
+    let w = c.args.watch in
     none_decides w w.other (λ z. sure_can w c.requires.1 (omega arith) c.requires.0 c.requires.2 (omega arith) (omega arith) (omega arith)) (λ k. omega arith)
 
 pub returns-then-watch-ne1-2 : goal.returns-then-watch-ne1-2
@@ -22,5 +23,6 @@ pub returns-then-watch-gt15 : goal.returns-then-watch-gt15
 returns-then-watch-gt15 c = large_refuses c.args.watch _ c.if-watch-gt15.true (λ k. omega arith)
 
 pub returns-else-watch-gt15 : goal.returns-else-watch-gt15
-returns-else-watch-gt15 c = let w = c.args.watch in
+returns-else-watch-gt15 c =
+    let w = c.args.watch in
     small_decides w w.other (λ z. sure_can w c.requires.1 (omega arith) c.requires.0 c.requires.2 (omega arith) (omega arith) (omega arith)) (λ k. omega arith)

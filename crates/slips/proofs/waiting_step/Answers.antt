@@ -10,17 +10,20 @@ use Rattle.slips.proofs.Steps.{waiting_in, sure_slipped, sure_out, agrees_with_l
 use Rattle.slips.proofs.waiting_step.Goals as goal
 
 pub returns-then-up-may : goal.returns-then-up-may
-returns-then-up-may c = let a = c.args in
+returns-then-up-may c =
+    let a = c.args in
     c.told_with.ensures ∙ ap (λ (w : Watch). told w 2 0) c.in_step.ensures
     ∙ sym (waiting_in a.watch a.number a.second a.by c.requires.0
     (sym c.difference-up.ensures ∙ c.if-up-may.true ∙ c.may_after-may.ensures))
 
 pub behind-requires : goal.behind-requires
-behind-requires c = let a = c.args in
+behind-requires c =
+    let a = c.args in
     subst (λ (d : ℕ). d ≤ 15) (sym c.difference-then-difference-by.ensures) (difference_to a.watch.other a.watch.second)
 
 pub returns-then-difference-by : goal.returns-then-difference-by
-returns-then-difference-by c = let a = c.args in
+returns-then-difference-by c =
+    let a = c.args in
     c.slipped_by.ensures
     ∙ ap (slipped a.number a.second)
     (c.behind.ensures ∙ ap (λ (d : ℕ). behind_of d a.watch.may) c.difference-then-difference-by.ensures)
@@ -29,11 +32,13 @@ returns-then-difference-by c = let a = c.args in
     (agrees_with_lem a.watch a.second a.by c.requires.0 (sym c.difference.ensures ∙ c.if-difference-by.true)))
 
 pub behind-requires-2 : goal.behind-requires-2
-behind-requires-2 c = let a = c.args in
+behind-requires-2 c =
+    let a = c.args in
     subst (λ (d : ℕ). d ≤ 15) (sym c.difference-up.ensures) (difference_to a.second a.watch.second)
 
 pub returns : goal.returns
-returns c = let a = c.args in
+returns c =
+    let a = c.args in
     c.told_with-2.ensures
     ∙ ap₂ (λ (w : Watch) (n : ℕ). told w 3 n)
     (c.out_of_step.ensures ∙ ap (λ (m : ℕ). out_of_step a.number a.watch.second m a.second) c.may_after-may.ensures)

@@ -36,11 +36,13 @@ pub returns-then-watch-ne1-2 : goal.returns-then-watch-ne1-2
 returns-then-watch-ne1-2 c = not_1_refuses c.args.watch _ c.if-watch-ne1-2.true (λ k. omega arith)
 
 pub returns-else-watch-ne0-5 : goal.returns-else-watch-ne0-5
-returns-else-watch-ne0-5 c = let w = c.args.watch in
+returns-else-watch-ne0-5 c =
+    let w = c.args.watch in
     none_decides w w.other
     (λ z. nothing_can w c.if-watch-gt15.false (omega arith) (omega arith) (omega arith) (omega arith) (omega arith) (omega arith) z) (λ k. omega arith)
 
 pub returns-else-watch-ne1-2 : goal.returns-else-watch-ne1-2
-returns-else-watch-ne1-2 c = let w = c.args.watch in
+returns-else-watch-ne1-2 c =
+    let w = c.args.watch in
     small_decides w w.other
     (λ z. new_can w c.if-watch-gt15.false (omega arith) (omega arith) (omega arith) (omega arith) (omega arith) z) (λ k. omega arith)

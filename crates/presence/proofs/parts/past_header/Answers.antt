@@ -1,6 +1,6 @@
 -- `presence::parts::past_header` meets its contract.
 -- Assumes nothing.
-use Rattle.std.proofs.Common.{◌≡◌, false, length, sym, ap, ◌∙◌, arith, length-take-le}
+use Rattle.std.proofs.Common.{false, ap, ◌∙◌}
 use Rattle.receiver.specs.declared.Ready.{Ready}
 use Rattle.presence.specs.declared.Sought.{Sought}
 use Rattle.presence.specs.Taking.{fresh_sought}
