@@ -77,7 +77,7 @@ endif
 	@echo 'library: $(^:$(CURDIR)/%=%)'
 
 target/$(TARGET)/lib%.a: $(SOURCES) tools/native.py
-	@python3 tools/native.py archive $* $(TARGET)
+	@bash tools/prove.sh archive $* $(TARGET)
 
 target/$(TARGET)/librime_management.a: target/$(TARGET)/libmanagement.a
 	@cp $< $@

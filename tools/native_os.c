@@ -1,8 +1,6 @@
-/* What the toolchain's library os has in C: the toolchain has it for x86-64 alone (lib/libos_c.a), and here it is for the other
- * machines of tools/native.py. libs/os/src/c.rt of the toolchain says what each function answers. */
-#define _GNU_SOURCE
+/* What the toolchain's library os has in C: the toolchain has it for x86-64 alone (c/libos_c.a), and here it is for the other
+ * machines of tools/native.py. rattle/os/src/c.rt of the toolchain says what each function answers. */
 #include <errno.h>
-#include <fcntl.h>
 #include <stddef.h>
 #include <sys/types.h>
 
@@ -31,22 +29,6 @@ ssize_t rattle_arg(size_t i, char *room, size_t size)
     }
     return (ssize_t)length;
 }
-
-int rattle_open_to_read(const char *path) { return open(path, O_RDONLY | O_NOCTTY | O_CLOEXEC); }
-
-int rattle_open_new(const char *path, mode_t mode)
-{
-    return open(path, O_WRONLY | O_CREAT | O_EXCL | O_NOCTTY | O_CLOEXEC, mode);
-}
-
-int rattle_open_to_overwrite(const char *path, mode_t mode)
-{
-    return open(path, O_WRONLY | O_CREAT | O_TRUNC | O_NOCTTY | O_CLOEXEC, mode);
-}
-
-int rattle_open_to_append(const char *path) { return open(path, O_WRONLY | O_APPEND | O_NOCTTY | O_CLOEXEC); }
-
-int rattle_open_to_update(const char *path) { return open(path, O_RDWR | O_NOCTTY | O_CLOEXEC); }
 
 int rattle_errno(void) { return errno; }
 

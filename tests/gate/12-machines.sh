@@ -1,5 +1,5 @@
 #!/usr/bin/env bash
-# The archives of both machines are of the module that rt proved, and answer alike. The vectors and some of the comparison are run
+# The archives of both machines are of crates that are proved, and answer alike. The vectors and some of the comparison are run
 # over each by calls with dirt above every narrow number, which no caller has to clear (tests/machines); that of the other machine
 # runs by an emulator, where one is there. And what tools/native.py must refuse, it refuses.
 set -eu -o pipefail
@@ -31,7 +31,7 @@ done
 refused riscv64 make --no-print-directory lib TARGET=riscv64
 refused '32' make --no-print-directory lib TARGET=armv7l
 if setarch i686 true 2> /dev/null; then # a machine that is neither
-    for command in 'make demo' 'make lib' .ci/run 'python3 tools/quick_face.py' 'bash tools/quick.sh linelist' \
+    for command in 'make demo' 'make lib' .ci/run 'python3 tools/quick_face.py' 'python3 tools/quick.py linelist' \
         'bash bench/trial.sh'; do
         # shellcheck disable=SC2086
         refused 'needs Linux on x86_64 or aarch64' setarch i686 $command
@@ -60,12 +60,11 @@ answers() { # MACHINE, FOLDER OF ITS ARCHIVES, EMULATOR..
 make --no-print-directory -s -f tests/face.mk face-near
 answers "$machine" "${RIME_LIB:-target/staticlib}"
 if [ "${RIME_LIB:-$PWD/target/staticlib}" != "$PWD/target/staticlib" ]; then
-    echo "machines: $other was not tried, since $RIME_LIB has no module"
+    echo "machines: $other was not tried, since $RIME_LIB has no archive for it"
     exit 0
 fi
 make --no-print-directory lib "TARGET=$other"
-emulator=$(dirname "$(dirname "$(rt doc)")")/on/$machine/toolchain/bin/qemu-$other
-[ -x "$emulator" ] || emulator=$(command -v "qemu-$other" || command -v "qemu-$other-static" || echo)
+emulator=$(command -v "qemu-$other" || command -v "qemu-$other-static" || echo)
 if [ -n "$emulator" ]; then
     answers "$other" "target/$other" "$emulator"
 else

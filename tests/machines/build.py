@@ -15,6 +15,7 @@ import tempfile
 
 HERE = pathlib.Path(__file__).resolve().parent
 sys.path.insert(0, str(HERE.parent.parent / 'tools'))
+import native  # noqa: E402
 import quick_face  # noqa: E402
 
 CRATES = ('rimesatchel', 'management')
@@ -69,17 +70,16 @@ def build_near(folder):
 
 def build_far(machine, folder, program):
     names = [face[0] for crate in CRATES for face in faces(crate)]
-    tools = quick_face.KIT / 'toolchain' / 'bin'
     with tempfile.TemporaryDirectory() as room:
         table, far, listed = (pathlib.Path(room) / name for name in ('table.c', 'far.o', 'table.o'))
         table.write_text('\n'.join(f'void {name}(void);' for name in names)
                          + f'\nvoid (*const functions[])(void) = {{{", ".join(names)}}};\n', encoding='utf-8')
-        clang = [tools / 'clang', f'--target={machine}-unknown-linux-gnu', '--no-default-config', '-std=c11', '-O2',
+        clang = [native.tool('clang'), f'--target={machine}-unknown-linux-gnu', '--no-default-config', '-std=c11', '-O2',
                  '-ffreestanding', '-fno-builtin', '-fno-stack-protector', '-Wall', '-Wextra', '-Werror', '-c']
         subprocess.run(clang + [HERE / 'far.c', '-o', far], check=True)
         subprocess.run(clang + [table, '-o', listed], check=True)
         program.parent.mkdir(parents=True, exist_ok=True)
-        subprocess.run([tools / 'ld.lld', '-static', far, listed, *(folder / f'lib{crate}.a' for crate in CRATES), '-o', program],
+        subprocess.run([native.tool('ld.lld'), '-static', far, listed, *(folder / f'lib{crate}.a' for crate in CRATES), '-o', program],
                        check=True)
 
 
