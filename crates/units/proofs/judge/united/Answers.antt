@@ -1,11 +1,8 @@
 -- `units::judge::united` meets its contract.
 -- Assumes nothing.
 use native.Mathlib.Omega.{arith}
-use Rattle.sender.proofs.Laws.{united_begun, united_on, united_done}
+use Rattle.sender.proofs.Laws.{united_on, united_done}
 use Rattle.units.proofs.judge.united.Goals as goal
-
-pub loop-i-init : goal.loop-i-init
-loop-i-init c = (united_begun c.args.samples.now, united_begun c.args.ancillary.now)
 
 pub loop-i-preserved : goal.loop-i-preserved
 loop-i-preserved c = let less = c.loop-i-test.true in

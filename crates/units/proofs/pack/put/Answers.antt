@@ -6,12 +6,9 @@ use native.Mathlib.Omega.{arith}
 use lib.ListN.{take, drop}
 use mathlib.Core.List.{◌++◌}
 use Rattle.runs.specs.Runs.{octets_of}
-use Rattle.runs.proofs.Filling.{begun, turned, done}
+use Rattle.runs.proofs.Filling.{turned, done}
 use Rattle.runs.proofs.Laws.{length_octets, octet_at}
 use Rattle.units.proofs.pack.put.Goals as goal
-
-pub loop-i-init : goal.loop-i-init
-loop-i-init c = begun c.args.out.now c.args.at (octets_of c.args.width c.args.number)
 
 pub loop-i-preserved : goal.loop-i-preserved
 loop-i-preserved c = let a = c.args in

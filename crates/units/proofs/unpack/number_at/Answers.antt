@@ -1,10 +1,6 @@
 -- `units::unpack::number_at` meets its contract: the octets are read one after the other.
 -- Assumes nothing.
-use mathlib.Core.Path.{◌≡◌, ◌∙◌, ap}
-use Prim.Native.Nat.{ℕ}
 use native.Mathlib.Omega.{arith}
-use lib.ListN.{take, drop}
-use Rattle.runs.specs.Runs.{number_of}
 use Rattle.units.proofs.Packing.{reading_begun, reading_fits, reading_on}
 use Rattle.units.proofs.unpack.number_at.Goals as goal
 
@@ -26,10 +22,3 @@ loop-i-preserved c = let inv = c.loop-i.invariant in
       reading_on c.args.unit.now c.args.at inv.0 (omega (arith, less, c.requires.0)) c.wide.ensures.0 c.wide.ensures.1,
       omega (arith, less),
     )
-
-pub returns : goal.returns
-returns c = let a = c.args in
-    let inv = c.loop-i.invariant in
-    inv.0.is
-    ∙ ap (λ (n : ℕ). number_of (take n (drop a.at a.unit.now)))
-    (let end : c.loop-i.i ≡ a.width = omega (arith, inv.1, c.loop-i-test.false) in end)
