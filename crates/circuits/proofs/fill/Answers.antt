@@ -1,4 +1,4 @@
--- `circuits::fill` meets its contract. The loop: so many circuits are filled. The measure is how many are left.
+-- `circuits::fill` meets its contract.
 -- Assumes nothing.
 use native.Mathlib.Omega.{arith}
 use Rattle.circuits.proofs.Laws.{filling_begun, filling_turned, filling_done}

@@ -1,4 +1,4 @@
--- `circuits::fill` meets its contract. The loop: so many circuits are filled. The measure is how many are left.
+-- The loop of `circuits::fill`: so many circuits are filled. The measure is how many are left.
 use Prim.Native.Nat.{◌-◌}
 use lib.ListN.{length}
 use Rattle.circuits.proofs.Laws.{Filling}

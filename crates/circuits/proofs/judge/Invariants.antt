@@ -1,4 +1,4 @@
--- `circuits::judge`'s loop: what is said of the whole plan is said of the circuits that are left. The measure is how many these are.
+-- The loop of `circuits::judge`: what is said of the whole plan is said of the circuits that are left. The measure is how many these are.
 use Prim.Native.Nat.{◌-◌}
 use lib.ListN.{length}
 use Rattle.circuits.proofs.Laws.{Judging}

@@ -17,7 +17,6 @@ returns-then-found-eq1 c = past_header _ _ _ _ _ c.if-found-eq1.true c.past_head
 pub returns-then-found-ne4 : goal.returns-then-found-ne4
 returns-then-found-ne4 c = past_nothing _ _ _ _ _ c.if-found-eq1.false (sym c.is_record.ensures ∙ c.if-is_record.false) c.if-found-ne4.true
 
--- the fault's stage told, and the way back to what it isn't
 pub returns-then-standing-eq2 : goal.returns-then-standing-eq2
 returns-then-standing-eq2 c = past_refused _ _ _ _ _ c.if-found-eq1.false (sym c.is_record.ensures ∙ c.if-is_record.false) c.if-found-ne4.false
     c.if-standing-eq2.true c.refused.ensures
