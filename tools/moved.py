@@ -51,11 +51,19 @@ def declared(path, text):
 
 
 def promises(text):
-    found = {}
-    for head in re.finditer(r'^[ \t]*(?:#\[no_mangle\]\s*)?((?:pub(?:\(crate\))? )?(?:extern "C" )?fn (\w+).*?)^\{$|'
-                            r'^[ \t]*((?:pub(?:\(crate\))? )?fn (\w+)[^\n]*)\{$', text, re.M | re.S):
-        said, name = head.group(1) or head.group(3), head.group(2) or head.group(4)
-        found[name] = bare(said, '//')
+    """The heads of functions, up to the body: name to text."""
+    found, name = {}, None
+    for line in text.split('\n'):
+        begun = re.match(r'\s*(?:pub(?:\(crate\))? )?(?:extern "C" )?fn (\w+)', line)
+        if begun and name is None:
+            name, said = begun.group(1), []
+        if name is None:
+            continue
+        ends = line.endswith(('{', ';')) and not re.match(r'\s*(?:ensures|requires)\b', line)
+        said.append(line[:-1] if ends else line)
+        # a body of one line stands behind its braces
+        if ends or re.search(r'(?:\)|-> [^{}]*) \{.*\}$', line) and not re.match(r'\s*(?:ensures|requires)\b', line):
+            found[name], name = bare('\n'.join(said), '//'), None
     return found
 
 
