@@ -6,7 +6,7 @@ use Prim.Native.Nat.{ℕ}
 use native.Mathlib.Omega.{arith}
 use contract.Lifetimes.{Lfts}
 use lib.ListN.{get_or, replicate}
-use Rattle.runs.proofs.Wrong.{Never, Place, lent}
+use Rattle.runs.proofs.Wrong.{Never, Place, lent, lent_mut}
 use Rattle.reading.specs.Heard.{end_by}
 use Rattle.hearing.proofs.ReceivingWrong as receiving
 use Rattle.hearing.proofs.Wrong as hearing
@@ -26,7 +26,7 @@ module _ (κs : Lfts 4) (p q r s : Place) where
   abbrev Judging : ℕ → (ℕ → List ℕ → List ℕ → Type 0) → Type 0
   Judging format Wrong =
       Never judge-log-kinds.ps judge-log-kinds.r judge-log-reads.Post κs
-      (lent p (format ∷ 1 ∷ 0 ∷ 7 ∷ replicate 5 0), (lent q (0 ∷ []), (0, (lent r (replicate 5 9), (lent s (replicate 3 9), tt)))))
+      (lent_mut p (format ∷ 1 ∷ 0 ∷ 7 ∷ replicate 5 0), (lent q (0 ∷ []), (0, (lent_mut r (replicate 5 9), (lent_mut s (replicate 3 9), tt)))))
       (λ x v. Wrong x v.0 v.1.1.1.1.0)
 
   -- a yes that isn't 1 left so, since no record was taken
@@ -34,7 +34,7 @@ module _ (κs : Lfts 4) (p q r s : Place) where
   unfolding unfolded
   yes_not_left x v wrong j = let right : get_or v.0 3 0 ≡ 1 = ap (λ (l : List ℕ). get_or l 3 0) j.leaves in omega arith
 
-  -- a refused call's counts left as they were lent
+  -- a refused call's counts left as they were lent_mut
   pub refused_counts_not_left : Judging 0x53 (λ x left counts. get_or counts 0 0 ≡ 9)
   unfolding unfolded
   refused_counts_not_left x v wrong j =
@@ -50,10 +50,10 @@ module _ (κs : Lfts 6) (p q r s t u : Place) where
   abbrev Receiving : ℕ → (ℕ → List ℕ → List ℕ → Type 0) → Type 0
   Receiving format Wrong =
       Never receive-log-kinds.ps receive-log-kinds.r receive-log-reads.Post κs (
-        lent p (format ∷ 1 ∷ 0 ∷ 7 ∷ replicate 5 0),
+        lent_mut p (format ∷ 1 ∷ 0 ∷ 7 ∷ replicate 5 0),
         (
           lent q (0 ∷ []),
-          (0, (lent r (replicate 4 9), (lent s (replicate 4 9), (lent t (replicate 4 9), (lent u (replicate 9 9), tt))))),
+          (0, (lent_mut r (replicate 4 9), (lent_mut s (replicate 4 9), (lent_mut t (replicate 4 9), (lent_mut u (replicate 9 9), tt))))),
         ),
       )
       (λ x v. Wrong x v.0 v.1.1.1.1.1.1.0)
@@ -69,7 +69,7 @@ module _ (κs : Lfts 6) (p q r s t u : Place) where
   entries_and_stop_not_swapped x v wrong j =
       let right : get_or v.1.1.1.1.1.1.0 1 0 ≡ 0 = ap (λ (l : List ℕ). get_or l 1 0) j.counted in omega arith
 
-  -- a refused call's counts left as they were lent
+  -- a refused call's counts left as they were lent_mut
   pub refused_batch_counts_not_left : Receiving 0x53 (λ x left counts. get_or counts 0 0 ≡ 9)
   unfolding unfolded
   refused_batch_counts_not_left x v wrong j =

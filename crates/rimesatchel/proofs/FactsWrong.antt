@@ -6,7 +6,7 @@ use Prim.Native.Nat.{ℕ}
 use native.Mathlib.Omega.{arith}
 use contract.Lifetimes.{Lfts}
 use lib.ListN.{get_or}
-use Rattle.runs.proofs.Wrong.{Never, Place, lent}
+use Rattle.runs.proofs.Wrong.{Never, Place, lent, lent_mut}
 use Rattle.formats.proofs.Wrong as formats
 use Rattle.rimesatchel.proofs.facts.rime_format.Kinds as format-kinds
 use Rattle.rimesatchel.proofs.facts.rime_format.Reads as format-reads
@@ -15,7 +15,7 @@ module _ (κs : Lfts 1) (f : Place) where
   -- the facts are lent as nines
   abbrev Facts : ℕ → (ℕ → List ℕ → Type 0) → Type 0
   Facts octet Wrong =
-      Never format-kinds.ps format-kinds.r format-reads.Post κs (octet, (lent f (9 ∷ 9 ∷ 9 ∷ 9 ∷ []), tt)) (λ x v. Wrong x v.1.0)
+      Never format-kinds.ps format-kinds.r format-reads.Post κs (octet, (lent_mut f (9 ∷ 9 ∷ 9 ∷ 9 ∷ []), tt)) (λ x v. Wrong x v.1.0)
 
   -- the octets of a subframe for the slots of a cell
   pub width_not_slots : Facts 0x56 (λ x facts. get_or facts 3 0 ≡ 4)

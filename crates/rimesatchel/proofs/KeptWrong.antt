@@ -7,7 +7,7 @@ use Prim.Native.Nat.{ℕ}
 use native.Mathlib.Omega.{arith}
 use contract.Lifetimes.{Lfts}
 use lib.ListN.{get_or, replicate}
-use Rattle.runs.proofs.Wrong.{Never, Place, lent}
+use Rattle.runs.proofs.Wrong.{Never, Place, lent, lent_mut}
 use Rattle.cell_log.specs.declared.keep.Kept.{Kept}
 use Rattle.cell_log.proofs.Wrong as log
 use Rattle.listing.specs.List.{list_to}
@@ -23,7 +23,7 @@ module _ (κs : Lfts 2) (l n : Place) where
   -- a header of 56 hex with C channels in order 1, into a run of three sevens; the place is lent as 9
   abbrev PuttingHeader : ℕ → (ℕ → List ℕ → ℕ → Type 0) → Type 0
   PuttingHeader channels Wrong =
-      Never header-kinds.ps header-kinds.r header-reads.Post κs (lent l (replicate 3 7), (0x56, (channels, (1, (lent n 9, tt)))))
+      Never header-kinds.ps header-kinds.r header-reads.Post κs (lent_mut l (replicate 3 7), (0x56, (channels, (1, (lent_mut n 9, tt)))))
       (λ x v. Wrong x v.0 v.1.1.1.1.0)
 
   -- nothing written
@@ -38,7 +38,7 @@ module _ (κs : Lfts 2) (l n : Place) where
   header_not_told_as_none x v wrong q =
       let right : v.1.1.1.1.0 ≡ 3 = ap (λ (k : Kept). k.next) q.answered in omega arith
 
-  -- the place left as it was lent at a header that is refused
+  -- the place left as it was lent_mut at a header that is refused
   pub refused_place_not_left : PuttingHeader 13 (λ x after next. next ≡ 9)
   unfolding log.unfolded
   refused_place_not_left x v wrong q =
@@ -54,7 +54,7 @@ module _ (κs : Lfts 3) (l c n : Place) where
   abbrev PuttingRecord : ℕ → (ℕ → List ℕ → ℕ → Type 0) → Type 0
   PuttingRecord room Wrong =
       Never record-kinds.ps record-kinds.r record-reads.Post κs
-      (lent l (replicate room 0), (0, (lent c (replicate 48 9), (true, (lent n 9, tt)))))
+      (lent_mut l (replicate room 0), (0, (lent c (replicate 48 9), (true, (lent_mut n 9, tt)))))
       (λ x v. Wrong x v.0 v.1.1.1.1.0)
 
   -- the indication left out
@@ -76,7 +76,7 @@ module _ (κs : Lfts 3) (l c n : Place) where
   -- the list of a log into a run of so many zeros; the two numbers are lent as nines
   abbrev Listing : List ℕ → ℕ → (ℕ → List ℕ → List ℕ → Type 0) → Type 0
   Listing octets room Wrong =
-      Never list-kinds.ps list-kinds.r list-reads.Post κs (lent l octets, (lent c (replicate room 0), (lent n (9 ∷ 9 ∷ []), tt)))
+      Never list-kinds.ps list-kinds.r list-reads.Post κs (lent l octets, (lent_mut c (replicate room 0), (lent_mut n (9 ∷ 9 ∷ []), tt)))
       (λ x v. Wrong x v.1.0 v.1.1.0)
 
   -- nothing said of a log that can't be read

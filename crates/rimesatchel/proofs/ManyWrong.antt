@@ -7,7 +7,7 @@ use Prim.Native.Nat.{ℕ}
 use native.Mathlib.Omega.{arith}
 use contract.Lifetimes.{Lfts}
 use lib.ListN.{get_or, replicate}
-use Rattle.runs.proofs.Wrong.{Never, Place, lent}
+use Rattle.runs.proofs.Wrong.{Never, Place, lent, lent_mut}
 use Rattle.sender.proofs.ManyWrong as sender
 use Rattle.rimesatchel.specs.Boxes.{yes_no, sender_of, sender_octets}
 use Rattle.rimesatchel.proofs.many.rime_send_log.Kinds as send-log-kinds
@@ -24,7 +24,7 @@ module _ (κs : Lfts 5) (p q r s t : Place) where
   abbrev Sending : ℕ → ℕ → (ℕ → List ℕ → List ℕ → List ℕ → Type 0) → Type 0
   Sending format octets Wrong =
       Never send-log-kinds.ps send-log-kinds.r send-log-reads.Post κs (
-        lent p (format ∷ 1 ∷ 0 ∷ 1 ∷ 0 ∷ 0 ∷ 7 ∷ []),
+        lent_mut p (format ∷ 1 ∷ 0 ∷ 1 ∷ 0 ∷ 0 ∷ 7 ∷ []),
         (
           true,
           (
@@ -32,8 +32,8 @@ module _ (κs : Lfts 5) (p q r s t : Place) where
             (
               lent r (replicate 8 0),
               (
-                lent s (replicate octets 9),
-                (0, (lent t (replicate 4 9), tt)),
+                lent_mut s (replicate octets 9),
+                (0, (lent_mut t (replicate 4 9), tt)),
               ),
             ),
           ),

@@ -6,7 +6,7 @@ use Prim.Native.Nat.{ℕ}
 use native.Mathlib.Omega.{arith}
 use contract.Lifetimes.{Lfts}
 use lib.ListN.{get_or, replicate}
-use Rattle.runs.proofs.Wrong.{Never, Place, lent}
+use Rattle.runs.proofs.Wrong.{Never, Place, lent, lent_mut}
 use Rattle.units.proofs.Wrong as units
 use Rattle.rimesatchel.proofs.network.rime_units_export.Kinds as export-kinds
 use Rattle.rimesatchel.proofs.network.rime_units_export.Reads as export-reads
@@ -21,7 +21,7 @@ module _ (κs : Lfts 4) (s a o t : Place) where
         0x43,
         (
           2,
-          (size, (lent s (0x123 ∷ 0x678 ∷ []), (lent a (5 ∷ 9 ∷ []), (lent o (replicate 6 9), (lent t (9 ∷ 9 ∷ 9 ∷ []), tt))))),
+          (size, (lent s (0x123 ∷ 0x678 ∷ []), (lent a (5 ∷ 9 ∷ []), (lent_mut o (replicate 6 9), (lent_mut t (9 ∷ 9 ∷ 9 ∷ []), tt))))),
         ),
       )
       (λ x v. Wrong x v.1.1.1.1.1.0 v.1.1.1.1.1.1.0)
@@ -37,7 +37,7 @@ module _ (κs : Lfts 4) (s a o t : Place) where
   full_not_the_size x v wrong p =
       let right : get_or v.1.1.1.1.1.1.0 1 0 ≡ 4 = ap (λ (l : List ℕ). get_or l 1 0) p.tells in omega arith
 
-  -- the answer of a refused export left as it was lent
+  -- the answer of a refused export left as it was lent_mut
   pub refused_export_tells_zeros : Exporting 3 (λ x out told. told ≡ 9 ∷ 9 ∷ 9 ∷ [])
   unfolding units.unfolded
   refused_export_tells_zeros x v wrong p =
@@ -53,7 +53,7 @@ module _ (κs : Lfts 4) (s a o t : Place) where
   abbrev Reading : List ℕ → (ℕ → List ℕ → List ℕ → ℕ → Type 0) → Type 0
   Reading unit Wrong =
       Never read-kinds.ps read-kinds.r read-reads.Post κs
-      (0x43, (2, (lent s unit, (lent a (replicate 3 9), (lent o (replicate 3 9), (lent t 9, tt))))))
+      (0x43, (2, (lent s unit, (lent_mut a (replicate 3 9), (lent_mut o (replicate 3 9), (lent_mut t 9, tt))))))
       (λ x v. Wrong x v.1.1.1.0 v.1.1.1.1.0 v.1.1.1.1.1.0)
 
   -- refused although nothing is wrong, by whatever number

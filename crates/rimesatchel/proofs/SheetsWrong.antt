@@ -6,7 +6,7 @@ use Prim.Native.Nat.{ℕ}
 use native.Mathlib.Omega.{arith}
 use contract.Lifetimes.{Lfts}
 use lib.ListN.{get_or, replicate}
-use Rattle.runs.proofs.Wrong.{Never, Place, lent}
+use Rattle.runs.proofs.Wrong.{Never, Place, lent, lent_mut}
 use Rattle.figures.proofs.Wrong as figures
 use Rattle.figures.proofs.Wrong.{twice}
 use Rattle.rimesatchel.proofs.sheets.rime_sheet.Kinds as sheet-kinds
@@ -17,7 +17,7 @@ module _ (κs : Lfts 4) (p q r t : Place) where
   abbrev Sheet : List ℕ → (ℕ → List ℕ → List ℕ → Type 0) → Type 0
   Sheet lengths Wrong =
       Never sheet-kinds.ps sheet-kinds.r sheet-reads.Post κs
-      (lent p twice, (lent q lengths, (lent r (replicate 10 9), (lent t (replicate 10 9), tt)))) (λ x v. Wrong x v.1.1.0 v.1.1.1.0)
+      (lent p twice, (lent q lengths, (lent_mut r (replicate 10 9), (lent_mut t (replicate 10 9), tt)))) (λ x v. Wrong x v.1.1.0 v.1.1.1.0)
 
   -- the totals left as they were lent
   pub totals_not_left : Sheet (101 ∷ []) (λ x rows totals. get_or totals 6 0 ≡ 9)

@@ -7,7 +7,7 @@ use native.Mathlib.Omega.{arith}
 use contract.Lifetimes.{Lfts}
 use lib.ListN.{get_or, replicate}
 use Rattle.runs.specs.Runs.{over}
-use Rattle.runs.proofs.Wrong.{Never, Place, lent}
+use Rattle.runs.proofs.Wrong.{Never, Place, lent, lent_mut}
 use Rattle.pieces.specs.Limit.{end_part}
 use Rattle.pieces.specs.Steps.{held_count, taking_of, steps_from, stood_of}
 use Rattle.pieces.specs.Taken.{handed, end_parts}
@@ -62,7 +62,7 @@ stage n size = n ∷ replicate size 0
 module _ (κs : Lfts 2) (p q : Place) where
   abbrev ListStarts : (List ℕ → List ℕ → Type 0) → Type 0
   ListStarts Wrong =
-      Never list-start-kinds.ps list-start-kinds.r list-start-reads.Post κs (lent p (nines 15), (lent q (nines 49), tt)) (λ x v. Wrong v.0 v.1.0)
+      Never list-start-kinds.ps list-start-kinds.r list-start-reads.Post κs (lent_mut p (nines 15), (lent_mut q (nines 49), tt)) (λ x v. Wrong v.0 v.1.0)
 
   -- a list of a log of any length
   pub list_keeps_its_limit : ListStarts (λ state held. get_or state 3 0 ≡ 18446744073709551615)
@@ -75,7 +75,7 @@ module _ (κs : Lfts 2) (p q : Place) where
 
   abbrev SalvageStarts : (List ℕ → List ℕ → Type 0) → Type 0
   SalvageStarts Wrong =
-      Never salvage-start-kinds.ps salvage-start-kinds.r salvage-start-reads.Post κs (lent p (nines 16), (lent q (nines 49), tt)) (λ x v. Wrong v.0 v.1.0)
+      Never salvage-start-kinds.ps salvage-start-kinds.r salvage-start-reads.Post κs (lent_mut p (nines 16), (lent_mut q (nines 49), tt)) (λ x v. Wrong v.0 v.1.0)
 
   -- a salvage with the list's limit, and one that left octets out already
   pub salvage_has_no_limit : SalvageStarts (λ state held. get_or state 3 0 ≡ 4294967295)
@@ -88,7 +88,7 @@ module _ (κs : Lfts 2) (p q : Place) where
 
   abbrev SearchStarts : (List ℕ → List ℕ → Type 0) → Type 0
   SearchStarts Wrong =
-      Never anything-start-kinds.ps anything-start-kinds.r anything-start-reads.Post κs (lent p (nines 14), (lent q (nines 49), tt)) (λ x v. Wrong v.0 v.1.0)
+      Never anything-start-kinds.ps anything-start-kinds.r anything-start-reads.Post κs (lent_mut p (nines 14), (lent_mut q (nines 49), tt)) (λ x v. Wrong v.0 v.1.0)
 
   -- a yes before the first octet, and a search behind a fault
   pub start_finds_nothing : SearchStarts (λ state held. get_or state 12 0 ≡ 1)
@@ -101,7 +101,7 @@ module _ (κs : Lfts 2) (p q : Place) where
 
   abbrev FiguresStart : (List ℕ → List ℕ → Type 0) → Type 0
   FiguresStart Wrong =
-      Never figures-start-kinds.ps figures-start-kinds.r figures-start-reads.Post κs (lent p (nines 20), (lent q (nines 49), tt)) (λ x v. Wrong v.0 v.1.0)
+      Never figures-start-kinds.ps figures-start-kinds.r figures-start-reads.Post κs (lent_mut p (nines 20), (lent_mut q (nines 49), tt)) (λ x v. Wrong v.0 v.1.0)
 
   -- a cell counted before the first octet, and octets left as they were
   pub start_counts_no_cell : FiguresStart (λ state held. get_or state 11 0 ≡ 1)
@@ -112,17 +112,17 @@ module _ (κs : Lfts 2) (p q : Place) where
   figures_start_holds_nothing x v wrong s = let right : get_or v.1.0 0 0 ≡ 0 = ap (λ (l : List ℕ). get_or l 0 0) s.holds in omega arith
 
 module _ (κs : Lfts 5) (p q r s t : Place) where
-  -- a piece of no octets, with a run of so many; the stage is above its width, and the octets written are lent as 9
+  -- a piece of no octets, with a run of so many; the stage is above its width, and the octets written are lent_mut as 9
   abbrev Taking : ℕ → (ℕ → List ℕ → ℕ → Type 0) → Type 0
   Taking room Wrong =
       Never list-take-kinds.ps list-take-kinds.r list-take-reads.Post κs
-      (lent p (stage 258 14), (lent q (nines 49), (lent r [], (lent s (nines room), (lent t 9, tt))))) (λ x v. Wrong x v.0 v.1.1.1.1.0)
+      (lent_mut p (stage 258 14), (lent_mut q (nines 49), (lent r [], (lent_mut s (nines room), (lent_mut t 9, tt))))) (λ x v. Wrong x v.0 v.1.1.1.1.0)
 
   -- a run of an octet too few, taken
   pub short_text_not_taken : Taking 291 (λ x left written. x ≡ 0)
   short_text_not_taken x v wrong c = let right : x ≡ 21 = c.refused in omega arith
 
-  -- the octets written left as they were lent
+  -- the octets written left as they were lent_mut
   pub refused_written_not_left : Taking 291 (λ x left written. written ≡ 9)
   refused_written_not_left x v wrong c = let right : v.1.1.1.1.0 ≡ 0 = c.counted in omega arith
 
@@ -138,7 +138,7 @@ module _ (κs : Lfts 4) (p q r s : Place) where
   abbrev Ending : ℕ → (ℕ → ℕ → Type 0) → Type 0
   Ending room Wrong =
       Never list-end-kinds.ps list-end-kinds.r list-end-reads.Post κs
-      (lent p (stage 3 14), (lent q (nines 49), (lent r (nines room), (lent s 9, tt)))) (λ x v. Wrong x v.1.1.1.0)
+      (lent p (stage 3 14), (lent q (nines 49), (lent_mut r (nines room), (lent_mut s 9, tt)))) (λ x v. Wrong x v.1.1.1.0)
 
   -- a run of 215 octets taken, and the octets written left as they were lent
   pub short_end_not_taken : Ending 215 (λ x written. x ≡ 0)
@@ -155,7 +155,7 @@ module _ (κs : Lfts 4) (p q r s : Place) where
   abbrev SalvageEnding : ℕ → (ℕ → ℕ → Type 0) → Type 0
   SalvageEnding room Wrong =
       Never salvage-end-kinds.ps salvage-end-kinds.r salvage-end-reads.Post κs
-      (lent p (stage 3 15), (lent q (nines 49), (lent r (nines room), (lent s 9, tt)))) (λ x v. Wrong x v.1.1.1.0)
+      (lent p (stage 3 15), (lent q (nines 49), (lent_mut r (nines room), (lent_mut s 9, tt)))) (λ x v. Wrong x v.1.1.1.0)
 
   pub short_last_line_not_taken : SalvageEnding 215 (λ x written. x ≡ 0)
   short_last_line_not_taken x v wrong c = let right : x ≡ 21 = c.refused in omega arith
@@ -168,7 +168,7 @@ module _ (κs : Lfts 6) (p q r s t u : Place) where
   abbrev Salvaging : ℕ → ℕ → (ℕ → List ℕ → Type 0) → Type 0
   Salvaging out notes Wrong =
       Never salvage-take-kinds.ps salvage-take-kinds.r salvage-take-reads.Post κs
-      (lent p (stage 258 15), (lent q (nines 49), (lent r [], (lent s (nines out), (lent t (nines notes), (lent u (nines 2), tt))))))
+      (lent_mut p (stage 258 15), (lent_mut q (nines 49), (lent r [], (lent_mut s (nines out), (lent_mut t (nines notes), (lent_mut u (nines 2), tt))))))
       (λ x v. Wrong x v.1.1.1.1.1.0)
 
   -- a run for the new log that is an octet too short, and one for the notes
@@ -178,7 +178,7 @@ module _ (κs : Lfts 6) (p q r s t u : Place) where
   pub short_notes_not_taken : Salvaging 52 265 (λ x written. x ≡ 0)
   short_notes_not_taken x v wrong c = let right : x ≡ 21 = c.refused in omega arith
 
-  -- the octets written left as they were lent
+  -- the octets written left as they were lent_mut
   pub refused_salvage_not_left : Salvaging 51 266 (λ x written. get_or written 1 0 ≡ 9)
   refused_salvage_not_left x v wrong c =
       let right : get_or v.1.1.1.1.1.0 1 0 ≡ 0 = ap (λ (l : List ℕ). get_or l 1 0) c.counted in omega arith
@@ -188,7 +188,7 @@ module _ (κs : Lfts 4) (p q r s : Place) where
   abbrev Searching : (ℕ → List ℕ → ℕ → Type 0) → Type 0
   Searching Wrong =
       Never anything-take-kinds.ps anything-take-kinds.r anything-take-reads.Post κs
-      (lent p (stage 258 13), (lent q (nines 49), (lent r [], (lent s 9, tt)))) (λ x v. Wrong x v.0 v.1.1.1.0)
+      (lent_mut p (stage 258 13), (lent_mut q (nines 49), (lent r [], (lent_mut s 9, tt)))) (λ x v. Wrong x v.0 v.1.1.1.0)
 
   -- the stage left above its width, and more to be read behind a fault
   pub stage_not_left : Searching (λ x left more. get_or left 0 0 ≡ 258)
@@ -204,7 +204,7 @@ module _ (κs : Lfts 3) (p q r : Place) where
   abbrev Answering : ℕ → (ℕ → List ℕ → Type 0) → Type 0
   Answering refusal Wrong =
       Never anything-end-kinds.ps anything-end-kinds.r anything-end-reads.Post κs
-      (lent p (1 ∷ replicate 10 0 ++ (refusal ∷ 1 ∷ 7 ∷ [])), (lent q (nines 49), (lent r (nines 2), tt))) (λ x v. Wrong x v.1.1.0)
+      (lent p (1 ∷ replicate 10 0 ++ (refusal ∷ 1 ∷ 7 ∷ [])), (lent q (nines 49), (lent_mut r (nines 2), tt))) (λ x v. Wrong x v.1.1.0)
 
   -- a yes forgotten, and an answer beside a refusal
   pub yes_not_forgotten : Answering 0 (λ x answer. get_or answer 0 0 ≡ 0)
@@ -219,7 +219,7 @@ module _ (κs : Lfts 3) (p q r : Place) where
   abbrev Counting : (ℕ → List ℕ → List ℕ → Type 0) → Type 0
   Counting Wrong =
       Never figures-take-kinds.ps figures-take-kinds.r figures-take-reads.Post κs
-      (lent p (stage 258 19), (lent q (nines 49), (lent r [], tt))) (λ x v. Wrong x v.0 v.1.0)
+      (lent_mut p (stage 258 19), (lent_mut q (nines 49), (lent r [], tt))) (λ x v. Wrong x v.0 v.1.0)
 
   -- a state refused 4, and octets held that aren't there
   pub no_state_refused : Counting (λ x left held. x ≡ 4)
@@ -234,7 +234,7 @@ module _ (κs : Lfts 2) (p q : Place) where
   abbrev Closing : ℕ → (ℕ → List ℕ → Type 0) → Type 0
   Closing sound Wrong =
       Never figures-end-kinds.ps figures-end-kinds.r figures-end-reads.Post κs
-      (lent p (replicate 11 0 ++ (sound ∷ replicate 8 0)), (lent q (nines 10), tt)) (λ x v. Wrong x v.1.0)
+      (lent p (replicate 11 0 ++ (sound ∷ replicate 8 0)), (lent_mut q (nines 10), tt)) (λ x v. Wrong x v.1.0)
 
   -- one cell too many, and the last number that isn't
   pub too_many_not_drawn : Closing 4294967296 (λ x row. x ≡ 0)

@@ -6,7 +6,7 @@ use Prim.Native.Nat.{ℕ}
 use native.Mathlib.Omega.{arith}
 use contract.Lifetimes.{Lfts}
 use lib.ListN.{get_or}
-use Rattle.runs.proofs.Wrong.{Never, Place, lent}
+use Rattle.runs.proofs.Wrong.{Never, Place, lent, lent_mut}
 use Rattle.slips.proofs.Wrong as slips
 use Rattle.rimesatchel.specs.Watches.{watch_of, watch_octets}
 use Rattle.rimesatchel.proofs.watches.rime_slip.Kinds as slip-kinds
@@ -16,7 +16,7 @@ module _ (κs : Lfts 3) (w r s : Place) where
   -- `slip` is lent as nines
   abbrev Watching : List ℕ → List ℕ → (ℕ → List ℕ → List ℕ → Type 0) → Type 0
   Watching watch report Wrong =
-      Never slip-kinds.ps slip-kinds.r slip-reads.Post κs (lent w watch, (lent r report, (lent s (9 ∷ 9 ∷ []), tt)))
+      Never slip-kinds.ps slip-kinds.r slip-reads.Post κs (lent_mut w watch, (lent r report, (lent_mut s (9 ∷ 9 ∷ []), tt)))
       (λ x v. Wrong x v.0 v.1.1.0)
 
   -- number 4, out of step: the watch left as it was
@@ -25,7 +25,7 @@ module _ (κs : Lfts 3) (w r s : Place) where
   watch_not_left x v wrong p =
       let right : get_or v.0 5 0 ≡ 1 = ap (λ (l : List ℕ). get_or l 5 0) p.leaves in omega arith
 
-  -- a refused call's `slip` left as it was lent
+  -- a refused call's `slip` left as it was lent_mut
   pub refused_slip_not_left : Watching (2 ∷ 3 ∷ 1 ∷ 0 ∷ 0 ∷ 0 ∷ 0 ∷ []) (0 ∷ 4 ∷ 8 ∷ 0 ∷ []) (λ x watch slip. slip ≡ 9 ∷ 9 ∷ [])
   unfolding slips.unfolded watch_of watch_octets
   refused_slip_not_left x v wrong p =

@@ -7,7 +7,7 @@ use Prim.Native.Nat.{ℕ}
 use native.Mathlib.Omega.{arith}
 use contract.Lifetimes.{Lfts}
 use lib.ListN.{get_or, set, replicate}
-use Rattle.runs.proofs.Wrong.{Never, Place, lent}
+use Rattle.runs.proofs.Wrong.{Never, Place, lent, lent_mut}
 use Rattle.sender.specs.Sender as S
 use Rattle.sender.proofs.Wrong as sender
 use Rattle.receiver.proofs.Wrong as receiver
@@ -57,7 +57,7 @@ archive last = 0x5A ∷ 1 ∷ 0 ∷ 1 ∷ last ∷ 255 ∷ 0 ∷ 0 ∷ 0 ∷ []
 module _ (κs : Lfts 1) (l : Place) where
   abbrev OpeningSender : ℕ → (ℕ → List ℕ → Type 0) → Type 0
   OpeningSender channels Wrong =
-      Never sender-open-kinds.ps sender-open-kinds.r sender-open-reads.Post κs (0x56, (channels, (0, (3, (true, (5, (lent l (replicate 7 9), tt)))))))
+      Never sender-open-kinds.ps sender-open-kinds.r sender-open-reads.Post κs (0x56, (channels, (0, (3, (true, (5, (lent_mut l (replicate 7 9), tt)))))))
       (λ x v. Wrong x v.1.1.1.1.1.1.0)
 
   -- refused although nothing is wrong, by whatever number
@@ -71,7 +71,7 @@ module _ (κs : Lfts 1) (l : Place) where
   sender_not_second_first x v wrong p =
       let right : get_or v.1.1.1.1.1.1.0 3 0 ≡ 3 = ap (λ (l : List ℕ). get_or l 3 0) p.leaves in omega arith
 
-  -- a refused opening leaves zeros, and not the state as it was lent
+  -- a refused opening leaves zeros, and not the state as it was lent_mut
   pub refused_sender_not_left : OpeningSender 13 (λ x state. get_or state 0 0 ≡ 9)
   unfolding unfolded
   refused_sender_not_left x v wrong p =
@@ -79,7 +79,7 @@ module _ (κs : Lfts 1) (l : Place) where
 
   abbrev OpeningReceiver : ℕ → (ℕ → List ℕ → Type 0) → Type 0
   OpeningReceiver channels Wrong =
-      Never receiver-open-kinds.ps receiver-open-kinds.r receiver-open-reads.Post κs (0x56, (channels, (1, (lent l (replicate 9 9), tt))))
+      Never receiver-open-kinds.ps receiver-open-kinds.r receiver-open-reads.Post κs (0x56, (channels, (1, (lent_mut l (replicate 9 9), tt))))
       (λ x v. Wrong x v.1.1.1.0)
 
   -- refused although nothing is wrong, by whatever number
@@ -92,7 +92,7 @@ module _ (κs : Lfts 1) (l : Place) where
   unfolding unfolded
   receiver_not_started x v wrong p = let right : get_or v.1.1.1.0 3 0 ≡ 0 = ap (λ (l : List ℕ). get_or l 3 0) p.leaves in omega arith
 
-  -- a refused opening leaves zeros, and not the state as it was lent
+  -- a refused opening leaves zeros, and not the state as it was lent_mut
   pub refused_receiver_not_left : OpeningReceiver 13 (λ x state. get_or state 0 0 ≡ 9)
   unfolding unfolded
   refused_receiver_not_left x v wrong p = let right : get_or v.1.1.1.0 0 0 ≡ 0 = ap (λ (l : List ℕ). get_or l 0 0) p.leaves in omega arith
@@ -122,7 +122,7 @@ module _ (κs : Lfts 1) (l : Place) where
 module _ (κs : Lfts 4) (l s a c : Place) where
   abbrev Sending : List ℕ → Bool → (ℕ → List ℕ → List ℕ → Type 0) → Type 0
   Sending state indication Wrong =
-      Never send-kinds.ps send-kinds.r send-reads.Post κs (lent l state, (indication, (lent s eight, (lent a (replicate 8 0), (lent c (replicate 48 0), tt)))))
+      Never send-kinds.ps send-kinds.r send-reads.Post κs (lent_mut l state, (indication, (lent s eight, (lent a (replicate 8 0), (lent_mut c (replicate 48 0), tt)))))
       (λ x v. Wrong x v.0 v.1.1.1.1.0)
 
   -- refused although nothing is wrong, by whatever number
@@ -152,7 +152,7 @@ module _ (κs : Lfts 6) (l c s a m r : Place) where
   abbrev Indicated : Bool → List ℕ → (ℕ → List ℕ → List ℕ → List ℕ → Type 0) → Type 0
   Indicated indication state Wrong =
       Never receive-kinds.ps receive-kinds.r receive-reads.Post κs
-      (lent l state, (lent c third, (indication, (lent s (replicate 9 7), (lent a (replicate 9 7), (lent m (replicate 9 7), (lent r (replicate 4 9), tt)))))))
+      (lent_mut l state, (lent c third, (indication, (lent_mut s (replicate 9 7), (lent_mut a (replicate 9 7), (lent_mut m (replicate 9 7), (lent_mut r (replicate 4 9), tt)))))))
       (λ x v. Wrong x v.0 v.1.1.1.0 v.1.1.1.1.1.1.0)
 
   abbrev Receiving : List ℕ → (ℕ → List ℕ → List ℕ → List ℕ → Type 0) → Type 0
@@ -208,7 +208,7 @@ module _ (κs : Lfts 2) (l k : Place) where
   -- a header; the four numbers are lent as nines
   abbrev ReadingHeader : List ℕ → (ℕ → List ℕ → Type 0) → Type 0
   ReadingHeader octets Wrong =
-      Never header-kinds.ps header-kinds.r header-reads.Post κs (lent l octets, (lent k (replicate 4 9), tt)) (λ x v. Wrong x v.1.0)
+      Never header-kinds.ps header-kinds.r header-reads.Post κs (lent l octets, (lent_mut k (replicate 4 9), tt)) (λ x v. Wrong x v.1.0)
 
   -- the format before the place
   pub header_not_format_first : ReadingHeader (0x56 ∷ 2 ∷ 0 ∷ []) (λ x header. get_or header 0 0 ≡ 0x56)
@@ -229,7 +229,7 @@ module _ (κs : Lfts 2) (l k : Place) where
   -- the record at a place of a log of one record and an octet where none can begin; the four numbers are lent as nines
   abbrev ReadingRecord : ℕ → (ℕ → List ℕ → Type 0) → Type 0
   ReadingRecord place Wrong =
-      Never record-kinds.ps record-kinds.r record-reads.Post κs (lent l ((1 ∷ replicate 48 9) ++ (2 ∷ [])), (place, (lent k (replicate 4 9), tt)))
+      Never record-kinds.ps record-kinds.r record-reads.Post κs (lent l ((1 ∷ replicate 48 9) ++ (2 ∷ [])), (place, (lent_mut k (replicate 4 9), tt)))
       (λ x v. Wrong x v.1.1.0)
 
   -- the end answered at a record
@@ -250,7 +250,7 @@ module _ (κs : Lfts 2) (l k : Place) where
   -- a step of a block of so many bits, all of them 0; `out` is lent as nines
   abbrev Stepping : ℕ → ℕ → (ℕ → List ℕ → List ℕ → Type 0) → Type 0
   Stepping bits ancillary Wrong =
-      Never status-step-kinds.ps status-step-kinds.r status-step-reads.Post κs (lent l (bits ∷ replicate 24 0), (ancillary, (0, (lent k (replicate 25 9), tt))))
+      Never status-step-kinds.ps status-step-kinds.r status-step-reads.Post κs (lent_mut l (bits ∷ replicate 24 0), (ancillary, (0, (lent_mut k (replicate 25 9), tt))))
       (λ x v. Wrong x v.0 v.1.1.1.0)
 
   -- the lent block left behind

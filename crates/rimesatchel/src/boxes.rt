@@ -146,12 +146,7 @@ pub fn rime_send(
 }
 
 // Opens a receiver: the refusal (0, or 1 to 3), and its state, zeros where it is refused.
-pub fn rime_receiver_open(
-    format: u32,
-    channels: u32,
-    order: u32,
-    state: &mut [u8; 9],
-) -> u8
+pub fn rime_receiver_open(format: u32, channels: u32, order: u32, state: &mut [u8; 9]) -> u8
     ensures { OpenedReceiver format channels order result state.new }
 {
     let opened = receiver::opened(format, channels, order);

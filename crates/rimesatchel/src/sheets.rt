@@ -3,12 +3,7 @@ ghost use Rattle.rimesatchel.specs.Sheets.{DrawsUp};
 
 // Draws up a sheet over logs that lie end to end: the refusal (0, or 18, 5, 19), ten numbers a log in `rows`, and the same ten of all
 // logs together in `totals`. A refused sheet leaves the rows as they were, and the totals are zeros.
-pub fn rime_sheet(
-    octets: &[u8],
-    lengths: &[u64],
-    rows: &mut [u32],
-    totals: &mut [u32; 10],
-) -> u8
+pub fn rime_sheet(octets: &[u8], lengths: &[u64], rows: &mut [u32], totals: &mut [u32; 10]) -> u8
     ensures { DrawsUp octets.now lengths.now rows.old result rows.new totals.new }
 {
     let answer = figures::sheet(octets, lengths, rows);

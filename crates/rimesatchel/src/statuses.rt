@@ -35,12 +35,7 @@ fn with_first(first: u8, rest: [u8; 24]) -> [u8; 25]
 
 // Brings the block forward by an ancillary number and its mark, writes what goes out, and gives the refusal: 0, or 14 where
 // the block is left as it was and `out` is zeros.
-pub fn rime_status_step(
-    block: &mut [u8; 25],
-    ancillary: u8,
-    mark: u8,
-    out: &mut [u8; 25],
-) -> u8
+pub fn rime_status_step(block: &mut [u8; 25], ancillary: u8, mark: u8, out: &mut [u8; 25]) -> u8
     ensures { SteppedOctets block.old ancillary mark result block.new out.new }
 {
     let lent = *block;

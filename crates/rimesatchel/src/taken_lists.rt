@@ -82,12 +82,7 @@ pub fn rime_list_take(
 
 // Writes what ends the list of a log that ends here, and how many octets that is. Returns 21, and 0 octets, for a run of fewer than
 // 216, and then it is as it was.
-pub fn rime_list_end(
-    state: &[u64; 15],
-    held: &[u8; 49],
-    text: &mut [u8],
-    written: &mut u64,
-) -> u8
+pub fn rime_list_end(state: &[u64; 15], held: &[u8; 49], text: &mut [u8], written: &mut u64) -> u8
     ensures { ListEnded state.now held.now text.old result text.new written.new }
 {
     if text.len() < 216 {

@@ -1,0 +1,10 @@
+-- `rimesatchel::taken_figures::rime_figures_start` meets its contract: it says what `figures::start` says.
+-- Assumes nothing.
+use mathlib.Core.Path.{refl, ◌∙◌, ap}
+use Rattle.rimesatchel.specs.TakenFigures.{figure_numbers}
+use Rattle.rimesatchel.proofs.taken_figures.rime_figures_start.Goals as goal
+
+pub returns : goal.returns
+returns c = let starts = c.start.ensures in
+    let numbers = c.numbers_of.ensures in
+    record { refused = refl; leaves = numbers.0 ∙ ap figure_numbers starts; holds = refl; begins = numbers.1 ∙ starts }
