@@ -16,7 +16,7 @@ help:
 	@echo '  make page-quick       the same without the proof, in seconds: target/page-quick'
 	@echo '  make programs         prove and build the programs: $(PROGRAMS); up to 8 minutes from nothing, on two cores'
 	@echo '  make lib              prove and build the archive and the shared library: up to 15 minutes from nothing'
-	@echo '  make lib TARGET=..    the archives for the other machine, x86_64 or aarch64, of the same proved modules: target/TARGET'
+	@echo '  make lib TARGET=..    the archives for the other machine, x86_64 or aarch64: target/TARGET; so make programs TARGET=..'
 	@echo '  make examples         build and run the examples in C, Rust and Python'
 	@echo '  make install          headers, libraries, programs, Python module, pkg-config files, man pages; PREFIX=/usr/local'
 	@echo '  make uninstall        remove what make install with the same PREFIX put there'
@@ -49,18 +49,21 @@ include tests/face.mk
 include desk/desk.mk
 include web/web.mk
 
-# The machine that `make lib` builds for.
+# The machine that `make lib` and `make programs` build for.
 TARGET ?= $(MACHINE)
 LIBRARIES := rimesatchel management
-ifneq ($(filter lib,$(MAKECMDGOALS)),)
+ifneq ($(filter lib programs,$(MAKECMDGOALS)),)
 REFUSED := $(filter-out $(TARGET),$(shell python3 tools/native.py machine '$(TARGET)' 2>&1))
 ifneq ($(REFUSED),)
 $(error $(REFUSED))
 endif
 endif
 
-programs: $(PROGRAMS:%=target/bin/%)
+programs: $(PROGRAMS:%=target/$(if $(filter $(MACHINE),$(TARGET)),bin,$(TARGET))/%)
 	@echo 'programs: $^'
+
+$(PROGRAMS:%=target/$(TARGET)/%): target/$(TARGET)/%: $(SOURCES) tools/native.py tools/native_os.c
+	@bash tools/prove.sh program $* $(TARGET)
 
 $(PROGRAMS:%=target/bin/%) &: $(SOURCES)
 	@echo 'Proves and builds $(PROGRAMS): up to 8 minutes from nothing, on two cores.'

@@ -3,6 +3,7 @@
 
   native.py machine [MACHINE]         prints the name of this machine, or that name; refuses one for which nothing is built
   native.py programs [NAME..]         proves programs and what they need, and writes target/bin/NAME; all four where none is named
+  native.py program NAME MACHINE      the same for the other machine, by its gcc (MACHINE-linux-gnu-gcc): target/MACHINE/NAME
   native.py archive NAME [MACHINE]    proves the archive of the library NAME and what it needs, and writes target/staticlib/libNAME.a and its
                                       LLVM module, target/module/NAME.bc; for the other machine target/MACHINE/libNAME.a
   native.py module NAME               writes target/module/NAME.bc if it isn't there
@@ -193,7 +194,7 @@ def put(file, place):
     place.parent.mkdir(parents=True, exist_ok=True)
     new = place.with_name(f'{place.name}.{os.getpid()}.new')
     shutil.copyfile(file, new)
-    new.chmod(0o755 if place.parent.name == 'bin' else 0o644)
+    new.chmod(0o644 if '.' in place.name else 0o755)
     new.rename(place)
 
 
@@ -214,28 +215,30 @@ def archive(name, machine, by_ci=False):
         put(made, TARGET / ('staticlib' if machine == MACHINE else machine) / f'lib{name}.a')
 
 
-def program(name):
-    """A program that rt built. Elsewhere than on x86-64 rt's is no use, and the same crate is compiled for this machine."""
-    made = ROOT / 'crates' / name / 'out' / name
-    if MACHINE == 'x86_64':
-        put(made, TARGET / 'bin' / name)
+def program(name, machine=MACHINE):
+    """A program for a machine. For x86-64 rt has built it; for AArch64 the same crate is compiled once more."""
+    place = TARGET / ('bin' if machine == MACHINE else machine) / name
+    if machine == 'x86_64':
+        put(ROOT / 'crates' / name / 'out' / name, place)
         return
-    put(made, TARGET / 'x86_64' / name)
     with tempfile.TemporaryDirectory() as folder:
         code, made = pathlib.Path(folder) / 'program.o', pathlib.Path(folder) / 'made'
-        by_rattle(name, MACHINE, code, kit() / 'toolchain')
-        link(code, made)
-        put(made, TARGET / 'bin' / name)
+        by_rattle(name, machine, code, kit() / 'toolchain')
+        link(code, made, machine)
+        put(made, place)
 
 
-def link(code, made):
+def link(code, made, machine=MACHINE):
     """A program of an object: with the toolchain's own C code, which there is for x86-64, or with native_os.c in its place."""
-    if MACHINE == 'x86_64':
+    if machine == 'x86_64':
         subprocess.run([kit() / 'bin' / 'rattle-link', '--target', 'x86_64-unknown-linux-gnu', '--toolchain', kit() / 'toolchain', '-o', made, code,
                         kit() / 'c' / 'libos_c.a', kit() / 'c' / 'liblibc_c.a'], stderr=subprocess.DEVNULL, check=True)
         return
     calls_alike(code)
-    subprocess.run(['gcc', '-O2', '-Wl,--gc-sections', code, HERE / 'native_os.c', '-o', made], check=True)
+    gcc = 'gcc' if machine == MACHINE else f'{machine}-linux-gnu-gcc'
+    if not shutil.which(gcc):
+        sys.exit(f'native: {gcc} is missing: Debian has it in the package gcc-{machine.replace("_", "-")}-linux-gnu')
+    subprocess.run([gcc, '-O2', '-Wl,--gc-sections', code, HERE / 'native_os.c', '-o', made], check=True)
 
 
 def build(module, file, machine=MACHINE):
@@ -252,7 +255,7 @@ def build(module, file, machine=MACHINE):
             calls_alike(code)
             subprocess.run([tool('llvm-ar'), 'rcsD', made, code], check=True)
         else:
-            link(code, made)
+            link(code, made, machine)
         file.parent.mkdir(parents=True, exist_ok=True)
         shutil.copy(made, file)
 
@@ -265,6 +268,9 @@ def main(words):
         for name in words[1:] or PROGRAMS:
             rt(name, 'run', stdout=subprocess.DEVNULL)
             program(name)
+    elif words[:1] == ['program'] and len(words) == 3:
+        rt(words[1], 'run', stdout=subprocess.DEVNULL)
+        program(words[1], known(words[2]))
     elif words[:1] == ['archive'] and len(words) in (2, 3):
         archive(words[1], known(words[2] if words[2:] else MACHINE))
     elif words[:1] == ['module'] and len(words) == 2:

@@ -3,7 +3,7 @@
 #
 #   bash tools/prove.sh                      prove every crate, and build the programs
 #   bash tools/prove.sh programs PROGRAM..   prove programs and what they need, and build them
-#   bash tools/prove.sh archive NAME         prove the archive of a library and what it needs, and build it
+#   bash tools/prove.sh program PROGRAM MACHINE, archive NAME [MACHINE]    as tools/native.py takes these words
 set -u
 export LC_ALL=C
 cd "$(dirname "$0")/.." || exit 2
