@@ -1,7 +1,7 @@
 -- 119 is sharp: of a sender that counts blocks, 120 cells lost behind number 7 aren't told. And no limit on the lost cells in a row
 -- does: fifteen lost and one unaltered, nine times over, is told as sixteen, where 144 cells slipped.
 -- Assumes nothing.
-use mathlib.Core.Bool.{Bool, true, false, cond}
+use mathlib.Core.Bool.{Bool, true, false}
 use mathlib.Core.List.{List, [], ◌∷◌, ◌++◌, map}
 use mathlib.Core.Path.{◌≡◌, refl, ap}
 use Prim.Native.Nat.{ℕ, zero, suc, ◌%◌, ◌≤◌}
@@ -9,7 +9,7 @@ use native.Mathlib.Nat.{suc-ne-zero}
 use native.Mathlib.Omega.{arith}
 use borrow.Author.Tests.{eq-eqb}
 use lib.Dec.{eqb}
-use lib.ListN.{length, get_or, replicate}
+use lib.ListN.{get_or, replicate}
 use Rattle.runs.proofs.Laws.{split}
 use Rattle.sender.specs.declared.Sender.{Sender}
 use Rattle.sender.specs.Sender as S
@@ -19,8 +19,8 @@ use Rattle.reading.specs.Heard.{given, hear}
 use Rattle.reading.specs.Totals.{Each}
 use Rattle.slips.specs.Slips.{starts_of, behind_of, slip_of}
 use Rattle.slips.specs.Reports.{told_after, told_of}
-use Rattle.line.specs.Calls.{SendCall, MeetsSend, ReceiveCall, MeetsReceive}
-use Rattle.line.specs.Line.{Row, Sending, wrote, Fate, dropped, unaltered, Trip, Fair, longest, arrivals, OverTheLine}
+use Rattle.line.specs.Calls.{SendCall, MeetsSend, MeetsReceive}
+use Rattle.line.specs.Line.{Row, Sending, Fate, dropped, unaltered, Trip, Fair, arrivals, OverTheLine}
 use Rattle.line.specs.Seconds.{CountsBlocks, TellsAll, SlipsExact}
 use Rattle.line.proofs.Opened.{opened}
 use Rattle.line.proofs.Played.{calls_for, calls_in_a_row, calls_take, calls_room}

@@ -1,15 +1,14 @@
 -- What second numbers tell over the line: never too long of any sender, and exact of one that counts blocks; what is handed out with the
 -- told cells put in is every cell in its place.
 -- Assumes nothing.
-use mathlib.Core.Bool.{Bool, true, false, true≢false, cond, not, ◌&&◌}
+use mathlib.Core.Bool.{Bool, true, false, cond}
 use mathlib.Core.List.{List, [], ◌∷◌, ◌++◌, map, flat_map, append_assoc}
 use mathlib.Core.Path.{◌≡◌, refl, sym, ◌∙◌, ap, ap₂, subst}
-use Prim.Native.Nat.{ℕ, zero, suc, ◌+◌, ◌*◌, ◌/◌, ◌%◌, ◌≤◌}
+use Prim.Native.Nat.{ℕ, suc, ◌+◌, ◌*◌, ◌/◌, ◌%◌, ◌≤◌}
 use native.Mathlib.Nat.{suc-mul, zero-mul}
 use native.Mathlib.Omega.{arith}
-use lib.ListN.{length, replicate, replicate-append-replicate}
-use Rattle.runs.proofs.Laws.{split, both_true}
-use Rattle.sender.specs.declared.Sender.{Sender}
+use lib.ListN.{replicate, replicate-append-replicate}
+use Rattle.runs.proofs.Laws.{split}
 use Rattle.sender.specs.Sender as S
 use Rattle.receiver.specs.Receiver as R
 use Rattle.reading.specs.Totals.{total_of, those, Each}
@@ -18,38 +17,9 @@ use Rattle.slips.proofs.Exactly.{watch_exact, none_watched}
 use Rattle.slips.proofs.Rows.{Chain, Counted, rows_never_longer, rows_exact}
 use Rattle.slips.proofs.Watched.{watch_never_ahead}
 use Rattle.line.specs.Calls.{MeetsSend, ReceiveCall, MeetsReceive}
-use Rattle.line.specs.Line.{Sending, is_lost, Trip, Place, handed_by, places_of, left_by}
-use Rattle.line.specs.Losses.{
-  Since,
-  never,
-  after,
-  lost_since,
-  one_more_lem,
-  comes_round,
-  Told,
-  is_taken,
-  story_from,
-  taken_from,
-  taken_in,
-  places_with,
-  sixteens,
-  first_place,
-  past_place,
-  AnyLoss,
-}
-use Rattle.line.specs.Seconds.{
-  took_in,
-  report_of,
-  reports_of,
-  NeverTooLong,
-  CountsBlocks,
-  put_in,
-  shown_for,
-  from_taken,
-  none_taken,
-  to_taken,
-  SlipsExact,
-}
+use Rattle.line.specs.Line.{Sending, Trip, Place, handed_by, places_of, left_by}
+use Rattle.line.specs.Losses.{never, after, Told, is_taken, story_from, taken_from, taken_in, sixteens, first_place, AnyLoss}
+use Rattle.line.specs.Seconds.{took_in, reports_of, NeverTooLong, put_in, shown_for, from_taken, none_taken, to_taken, SlipsExact}
 use Rattle.line.proofs.Losses.{any_loss}
 use Rattle.line.proofs.Places.{Alike, all_alike, whatever}
 use Rattle.line.proofs.Pieces.{Piece, piece_of, report_with, piece_with}

@@ -2,66 +2,29 @@
 -- the laws of crate `slips` ask.
 -- Assumes nothing.
 use mathlib.Core.Bool.{Bool, true, false, true≢false, cond, not, ◌&&◌, ◌||◌}
-use mathlib.Core.List.{List, [], ◌∷◌, ◌++◌, map, flat_map, append_assoc}
-use mathlib.Core.Path.{◌≡◌, refl, sym, ◌∙◌, ap, ap₂, subst}
-use Prim.Native.Nat.{ℕ, zero, suc, ◌+◌, ◌*◌, ◌/◌, ◌%◌, ◌-◌, ◌≤◌, ◌<◌}
-use native.Mathlib.Nat.{suc-mul, zero-mul, mul-le-mul_right}
+use mathlib.Core.List.{List, [], ◌∷◌, map}
+use mathlib.Core.Path.{◌≡◌, refl, sym, ◌∙◌, ap, subst}
+use Prim.Native.Nat.{ℕ, suc, ◌+◌, ◌*◌, ◌%◌, ◌≤◌, ◌<◌}
+use native.Mathlib.Nat.{mul-le-mul_right}
 use native.Mathlib.Omega.{arith}
-use borrow.Author.Tests.{eq-eqb, ne_eqb, le-ltb, eqb-true, eqb-false, ltb-true, ltb-false}
+use borrow.Author.Tests.{eqb-true, eqb-false, ltb-true}
 use lib.Dec.{eqb, ltb}
-use lib.ListN.{length, replicate, replicate-append-replicate}
 use Rattle.runs.proofs.Laws.{split, past, past_both, neither}
 use Rattle.numbers.specs.Numbers.{indication_refused}
 use Rattle.sender.specs.declared.Sender.{Sender}
 use Rattle.sender.specs.Sender as S
-use Rattle.receiver.specs.Receiver as R
-use Rattle.reading.specs.Totals.{total_of, those, Each}
+use Rattle.reading.specs.Totals.{those, Each}
 use Rattle.slips.specs.Slips.{starts_of}
-use Rattle.slips.specs.Reports.{Report, told_after, told_of, watched_from, no_watch, NeverLonger, NeverAhead, SpacedOut}
-use Rattle.slips.proofs.Exactly.{watch_exact, none_watched}
-use Rattle.slips.proofs.Rows.{Follow, Chain, Counted, rows_never_longer, rows_exact}
-use Rattle.slips.proofs.Watched.{First, watch_never_ahead}
-use Rattle.line.specs.Calls.{SendCall, MeetsSend, ReceiveCall, MeetsReceive}
-use Rattle.line.specs.Line.{Row, Sending, is_lost, Trip, Place, handed_by, places_of, left_by}
-use Rattle.line.specs.Losses.{
-  Since,
-  never,
-  after,
-  lost_since,
-  comes_round,
-  Told,
-  is_taken,
-  story_from,
-  taken_from,
-  taken_in,
-  places_with,
-  sixteens,
-  first_place,
-  past_place,
-  AnyLoss,
-}
-use Rattle.line.specs.Seconds.{
-  took_in,
-  report_of,
-  reports_of,
-  lost_before,
-  NeverTooLong,
-  CountsBlocks,
-  FewBetween,
-  put_in,
-  shown_for,
-  from_taken,
-  none_taken,
-  to_taken,
-  slips_in,
-  SlipsExact,
-}
+use Rattle.slips.specs.Reports.{Report}
+use Rattle.slips.proofs.Rows.{Follow, Chain}
+use Rattle.slips.proofs.Watched.{First}
+use Rattle.line.specs.Calls.{SendCall}
+use Rattle.line.specs.Line.{Row, Sending, is_lost, Trip}
+use Rattle.line.specs.Losses.{never, after, lost_since, comes_round, Told, story_from, taken_from}
+use Rattle.line.specs.Seconds.{CountsBlocks}
 use Rattle.line.proofs.Cells.{sent_refusal, state_passes, rightly_indicated, next_state, second_small, fits}
-use Rattle.line.proofs.Losses.{any_loss}
-use Rattle.line.proofs.Places.{Alike, all_alike, whatever}
 use Rattle.line.proofs.Pieces.{second_told, report_with}
 use Rattle.line.proofs.Rows.{Wrote}
-use Rattle.line.proofs.Steps.{missing}
 
 -- how often the second number goes up in a cell
 abbrev up_now : Sender → Bool → ℕ
