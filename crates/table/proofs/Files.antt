@@ -82,12 +82,12 @@ module _ (rows₀ : List ℕ) where
       → length (part ++ joined_of ps) < 18446744073709551615 → InFile s done part
       → InFile (taken_over s ps) done (part ++ joined_of ps)
   unfolding taken_over joined_of
-  past_pieces {part = part} [] long w = rw (append-nil part) w
-  past_pieces {part = part} (p ∷ ps) long w =
+  past_pieces {s} {done} {part} [] long w = rw (append-nil part) w
+  past_pieces {s} {done} {part} (p ∷ ps) long w =
       let apart : (part ++ p) ++ joined_of ps ≡ part ++ (p ++ joined_of ps) = append_assoc part p (joined_of ps) in
       let front : length (part ++ p) < 18446744073709551615 =
       omega (arith, long, ap length apart, length-append (part ++ p) (joined_of ps)) in
-      rw apart at (past_pieces ps (omega (arith, long, ap length apart)) (past_piece p front w))
+      rw apart at (past_pieces {s = taken_of s p} {done = done} {part = part ++ p} ps (omega (arith, long, ap length apart)) (past_piece p front w))
 
   -- with these files read
   record Filed (s : Stood) (done : List (List ℕ)) : Type 0 where

@@ -3,7 +3,7 @@
 use Rattle.std.proofs.Common.{◌≡◌, ℕ, true, false, List, [], ◌∷◌, get_or, replicate, sym, ap, ◌∙◌, true≢false, arith}
 use contract.Lifetimes.{Lfts}
 use Rattle.runs.specs.Runs.{over}
-use Rattle.runs.proofs.Wrong.{Never, Place, lent}
+use Rattle.runs.proofs.Wrong.{Never, Place, lent, lent_mut}
 use Rattle.pieces.proofs.Wrong as pieces
 use Rattle.pieces.specs.Steps.{steps_from, stood_of}
 use Rattle.figures.specs.Adding.{rows_with, closed_of}
@@ -134,7 +134,7 @@ module _ (κs : Lfts 4) (p q q₁ r : Place) where
   abbrev Taken : Sheet → List ℕ → (Sheet → List ℕ → Type 0) → Type 0
   Taken sheet piece Wrong =
       Never take-kinds.ps take-kinds.r take-reads.Post κs
-      (sheet, (lent p (replicate 49 0), (lent q (replicate 20 9), (lent q₁ (replicate 6 9), (lent r piece, tt)))))
+      (sheet, (lent_mut p (replicate 49 0), (lent_mut q (replicate 20 9), (lent_mut q₁ (replicate 6 9), (lent r piece, tt)))))
       (λ x v. Wrong x v.1.1.0)
 
   -- a newline alone taken for a length of 0
@@ -188,7 +188,7 @@ module _ (κs : Lfts 2) (p q : Place) where
   abbrev Next : Input → (Sheet → List ℕ → List ℕ → Type 0) → Type 0
   Next i Wrong =
       Never next-kinds.ps next-kinds.r next-reads.Post κs
-      (at i, (replicate 49 0, (lent p (replicate 30 9), (lent q (replicate 9 9), tt)))) (λ x v. Wrong x v.1.1.0 v.1.1.1.0)
+      (at i, (replicate 49 0, (lent_mut p (replicate 30 9), (lent_mut q (replicate 9 9), tt)))) (λ x v. Wrong x v.1.1.0 v.1.1.1.0)
 
   -- a log whose header is refused, told as one that ended well
   pub refused_log_not_well : Next (between_of 0 0) (λ x rows kept. get_or kept 0 0 ≡ 0)
@@ -226,7 +226,7 @@ row = 6 ∷ 4 ∷ 0 ∷ 0 ∷ 0 ∷ 0 ∷ 0 ∷ 0 ∷ 0 ∷ 0 ∷ []
 module _ (κs : Lfts 2) (p q : Place) where
   abbrev Line : ℕ → ℕ → (Put → List ℕ → Type 0) → Type 0
   Line refusal index Wrong =
-      Never line-kinds.ps line-kinds.r line_reads_lem.Post κs (lent p (replicate 32 0), (one refusal, (lent q row, (index, tt))))
+      Never line-kinds.ps line-kinds.r line_reads_lem.Post κs (lent_mut p (replicate 32 0), (one refusal, (lent q row, (index, tt))))
       (λ x v. Wrong x v.0)
 
   -- a line that its run cuts told as whole, and a run left as it was
