@@ -1,4 +1,4 @@
--- Each contract of specs/Calls follows from its function's own `ensures`, which the code is proved to meet. So Contracts needs no
+-- Each contract of specs/Calls follows from its function's own `ensures`, which the code is proved to meet. So Calls needs no
 -- trust: a definition there that says more than the `ensures` is refused here. What is left to read is which parameter of a call
 -- stands where.
 -- Assumes nothing.
@@ -207,7 +207,7 @@ import_ensures κs a x v p = p
 pub export_ensures : Ensured export-kinds.ps export-kinds.r export-reads.Post (λ κs a x v. MeetsExport a.0 a.1.0 x)
 export_ensures κs a x v p = p
 
--- The functions proved by hand have no Kinds and Reads. Their `ensures` are stated over the clauses.
+-- The `ensures` of five functions are stated over their clauses, and not by Kinds and Reads.
 module _ {M : Type 1} {𝓤 : Ura M} (𝓛 : Logic 𝓤) (mem : Memory → SProp 𝓤) (run : Routine → Fun 𝓤) (κs : Lfts 1) where
   -- the block that was lent and what it is afterwards
   pub bring_forward_ensures : (a : Args bring-forward.signature κs) (x : Handed) (v : Lasts bring-forward.ended κs a)

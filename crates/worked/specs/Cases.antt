@@ -8,7 +8,7 @@ use Rattle.cable.specs.Frames as Cable
 use Rattle.cable.specs.Slots.{sample_in, ancillary_in}
 use Rattle.circuits.specs.Circuits.{check_refusal, plan_refusal, cells_per_second, planned_of}
 use Rattle.figures.specs.Figures.{per_million, too_many_of}
-use Rattle.figures.specs.Sheets.{logs_of, rows_of, sheet_refusal}
+use Rattle.figures.specs.Sheets.{rows_of, sheet_refusal}
 use Rattle.figures.specs.declared.Counts.{Counts}
 use Rattle.listing.specs.List.{list_of}
 use Rattle.presence.specs.Presence.{presence_of}
