@@ -3,7 +3,7 @@
 use mathlib.Core.List.{List}
 use mathlib.Core.Path.{◌≡◌, refl, sym, ◌∙◌, ap, subst}
 use Prim.Native.Nat.{ℕ}
-use borrow.Author.Tests.{ne_eqb, eq-eqb}
+use borrow.Author.Tests.{ne_eqb}
 use Rattle.receiver.specs.declared.Receiver.{Receiver}
 use Rattle.hearing.specs.declared.judging.Judged.{Judged}
 use Rattle.hearing.specs.Judging.{Judges}

@@ -1,7 +1,6 @@
 -- A format's facts by the settings with one channel in order 0, which nothing but the octet can refuse.
 -- Assumes nothing.
-use mathlib.Core.Bool.{true, false, cond}
-use mathlib.Core.Path.{◌≡◌, refl, sym, ◌∙◌, ap}
+use mathlib.Core.Path.{◌≡◌}
 use Prim.Native.Nat.{ℕ, ◌≤◌}
 use native.Mathlib.Omega.{arith}
 use borrow.Author.Tests.{le-ltb}
@@ -9,7 +8,6 @@ use Rattle.runs.proofs.Laws.{split}
 use Rattle.formats.specs.Formats.{is_listed, slots_of, format_of, settings_refusal, no_format}
 use Rattle.formats.specs.Settings.{settings_of}
 use Rattle.formats.specs.declared.Format.{Format}
-use Rattle.formats.specs.declared.Settled.{Settled}
 use Rattle.formats.proofs.Laws.{sound_fields, sound_format}
 use Rattle.rimesatchel.specs.Facts.{format_refusal}
 

@@ -6,7 +6,7 @@ use Prim.Native.Nat.{ℕ}
 use native.Mathlib.Omega.{arith}
 use contract.Lifetimes.{Lfts}
 use lib.ListN.{get_or}
-use Rattle.runs.proofs.Wrong.{Never, Place, lent, lent_mut}
+use Rattle.runs.proofs.Wrong.{Never, Place, lent_mut}
 use Rattle.formats.proofs.Wrong as formats
 use Rattle.rimesatchel.proofs.facts.rime_format.Kinds as format-kinds
 use Rattle.rimesatchel.proofs.facts.rime_format.Reads as format-reads

@@ -2,18 +2,16 @@
 -- lent changes and what it reports through is zeros. Stated over what the contracts promise.
 -- Assumes nothing.
 use mathlib.Core.Bool.{Bool, true, false, cond}
-use mathlib.Core.List.{List, [], ◌∷◌}
-use mathlib.Core.Path.{◌≡◌, refl, sym, ◌∙◌, ap}
+use mathlib.Core.List.{List}
+use mathlib.Core.Path.{◌≡◌, refl, ◌∙◌}
 use Prim.Native.Nat.{ℕ}
 use borrow.Author.Tests.{ne_eqb}
-use lib.ListN.{length, replicate}
+use lib.ListN.{replicate}
 use Rattle.runs.specs.Runs.{over}
 use Rattle.runs.proofs.Laws.{split}
-use Rattle.figures.specs.declared.Answer.{Answer}
 use Rattle.figures.specs.declared.Counts.{Counts}
 use Rattle.figures.specs.Figures.{too_many_of}
 use Rattle.figures.specs.Adding.{closed_of}
-use Rattle.presence.specs.declared.Presence.{Presence}
 use Rattle.presence.specs.Taking.{answer_at_end}
 use Rattle.rimesatchel.specs.States.{room_refusal}
 use Rattle.rimesatchel.specs.TakenFigures.{figures_from, FiguresEnded}

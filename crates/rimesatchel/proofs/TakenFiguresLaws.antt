@@ -12,7 +12,7 @@ use Rattle.figures.specs.declared.Tally.{Tally}
 use Rattle.figures.specs.Adding.{closed_of}
 use Rattle.figures.specs.Figures.{counts_of}
 use Rattle.figures.specs.Sheets.{heard_in}
-use Rattle.figures.specs.Taking.{start_tally, tally_after, tally_over, Takes}
+use Rattle.figures.specs.Taking.{tally_after, tally_over, Takes}
 use Rattle.figures.proofs.Adding.{closed_capped}
 use Rattle.figures.proofs.Walks.{any_division_counts}
 use Rattle.rimesatchel.specs.States.{number_of, Turns}

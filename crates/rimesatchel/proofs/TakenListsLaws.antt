@@ -1,26 +1,24 @@
 -- What the calls of a list in pieces leave, and what they print of a log, however it is divided.
 -- Assumes nothing.
-use mathlib.Core.Bool.{Bool, true, false, cond, not}
+use mathlib.Core.Bool.{Bool, true, false, not}
 use mathlib.Core.List.{List, [], ◌∷◌, ◌++◌}
 use mathlib.Core.Path.{◌≡◌, refl, sym, ◌∙◌, ap, subst}
 use Prim.Native.Nat.{ℕ, ◌≤◌, ◌<◌}
 use native.Mathlib.Omega.{arith}
 use borrow.Author.Tests.{le-leb, lt-leb, leb-true, not-true, not-false}
-use lib.Dec.{leb}
 use lib.ListN.{length, take, replicate}
 use lib.Seq.{take_all}
 use Rattle.runs.specs.Runs.{over}
 use Rattle.pieces.specs.Steps.{stood_of}
 use Rattle.pieces.specs.Taken.{joined_of}
 use Rattle.text.specs.declared.Put.{Put}
-use Rattle.text.specs.Put.{listed}
 use Rattle.listing.specs.declared.Listing.{Listing}
 use Rattle.listing.specs.declared.Printed.{Printed}
 use Rattle.listing.specs.List.{list_of}
-use Rattle.listing.specs.Taking.{start_of, most_text, piece_text, listing_after, end_of_text, written_over_of, Takes, Ends}
+use Rattle.listing.specs.Taking.{most_text, piece_text, listing_after, end_of_text, written_over_of, Takes, Ends}
 use Rattle.listing.proofs.Fits.{piece_fits, end_fits}
 use Rattle.listing.proofs.Whole.{any_division_list}
-use Rattle.rimesatchel.specs.States.{number_of, room_refusal, Turn, Turns}
+use Rattle.rimesatchel.specs.States.{number_of, Turns}
 use Rattle.rimesatchel.specs.TakenLists.{
   listing_from,
   list_numbers,

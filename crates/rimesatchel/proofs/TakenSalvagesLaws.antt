@@ -1,6 +1,6 @@
 -- What the calls of a salvage in pieces leave, and what they write of a log, however it is divided.
 -- Assumes nothing.
-use mathlib.Core.Bool.{Bool, true, false, cond, not, ◌&&◌}
+use mathlib.Core.Bool.{Bool, true, false, not, ◌&&◌}
 use mathlib.Core.List.{List, [], ◌∷◌, ◌++◌}
 use mathlib.Core.Path.{◌≡◌, refl, sym, ◌∙◌, ap, subst}
 use Prim.Native.Nat.{ℕ, ◌≤◌, ◌<◌}
@@ -17,19 +17,7 @@ use Rattle.text.specs.declared.Put.{Put}
 use Rattle.salvaging.specs.declared.Salvaging.{Salvaging}
 use Rattle.salvaging.specs.declared.Wrote.{Wrote}
 use Rattle.salvaging.specs.Said.{saved_of, notes_of}
-use Rattle.salvaging.specs.Taking.{
-  start_of,
-  most_out,
-  most_notes,
-  piece_octets,
-  piece_text,
-  salvaging_after,
-  end_of_text,
-  saved_over,
-  notes_over,
-  Takes,
-  Ends,
-}
+use Rattle.salvaging.specs.Taking.{most_out, most_notes, piece_octets, piece_text, salvaging_after, end_of_text, saved_over, notes_over, Takes, Ends}
 use Rattle.salvaging.proofs.Fits.{out_fits, notes_fit, end_fits}
 use Rattle.salvaging.proofs.Whole.{any_division_saved, any_division_notes}
 use Rattle.rimesatchel.specs.States.{number_of, Turns}

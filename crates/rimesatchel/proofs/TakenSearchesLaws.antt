@@ -1,11 +1,10 @@
 -- What the calls of a search in pieces leave, and what they answer for a log, however it is divided.
 -- Assumes nothing.
-use mathlib.Core.Bool.{Bool, true, false, cond}
+use mathlib.Core.Bool.{Bool}
 use mathlib.Core.List.{List, [], ◌∷◌}
 use mathlib.Core.Path.{◌≡◌, refl, sym, ◌∙◌, ap}
 use Prim.Native.Nat.{ℕ, ◌≤◌, ◌<◌}
 use native.Mathlib.Nat.{mod-eq_of_lt}
-use native.Mathlib.Omega.{arith}
 use borrow.Author.Tests.{ne_eqb, eq-eqb}
 use lib.Dec.{eqb}
 use lib.ListN.{length, replicate}
@@ -17,7 +16,7 @@ use Rattle.pieces.specs.Taken.{joined_of}
 use Rattle.presence.specs.declared.Presence.{Presence}
 use Rattle.presence.specs.declared.Search.{Search}
 use Rattle.presence.specs.Presence.{sounds, some_of, answer_of, presence_of}
-use Rattle.presence.specs.Taking.{search_start, search_after, reads_on_lem, answer_at_end, answer_over, Takes}
+use Rattle.presence.specs.Taking.{search_after, reads_on_lem, answer_at_end, answer_over, Takes}
 use Rattle.presence.proofs.Going.{any_division_answer}
 use Rattle.rimesatchel.specs.Contents.{presence_numbers}
 use Rattle.rimesatchel.specs.States.{number_of, Turns}

@@ -1,10 +1,9 @@
 -- A step on a watch's octets, by what the step by value answered.
 -- Assumes nothing.
 use mathlib.Core.List.{List, [], ◌∷◌}
-use mathlib.Core.Path.{◌≡◌, refl, sym, ◌∙◌, ap, ap₂}
+use mathlib.Core.Path.{◌≡◌, sym, ◌∙◌, ap}
 use Prim.Native.Nat.{ℕ}
 use borrow.Author.Tests.{eq-eqb, ne_eqb}
-use Rattle.slips.specs.declared.Watch.{Watch}
 use Rattle.slips.specs.declared.Stepped.{Stepped}
 use Rattle.rimesatchel.specs.Watches.{watch_octets, slipped_of, SlippedOctets}
 

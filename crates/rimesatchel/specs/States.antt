@@ -1,7 +1,7 @@
 -- The state of a log that is taken in pieces, as numbers of 64 bits. "No state is refused and nothing is undefined: numbers are taken
 -- modulo their width."
 -- Assumes nothing.
-use Rattle.std.specs.Prelude.{Bool, cond, not, List, [], ◌∷◌, ◌≡◌, ℕ, ◌%◌, eqb, leb, get_or}
+use Rattle.std.specs.Prelude.{Bool, cond, not, List, [], ◌∷◌, ◌≡◌, ℕ, ◌%◌, eqb, get_or}
 use Rattle.receiver.specs.declared.Receiver.{Receiver}
 use Rattle.pieces.specs.declared.Standing.{Standing}
 

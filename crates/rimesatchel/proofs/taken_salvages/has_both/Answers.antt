@@ -1,6 +1,6 @@
 -- `rimesatchel::taken_salvages::has_both` meets its contract.
 -- Assumes nothing.
-use mathlib.Core.Bool.{true, not}
+use mathlib.Core.Bool.{not}
 use mathlib.Core.Path.{ap}
 use Rattle.rimesatchel.proofs.TakenSalvagesLaws.{one_short, both_fit}
 use Rattle.rimesatchel.proofs.taken_salvages.has_both.Goals as goal
