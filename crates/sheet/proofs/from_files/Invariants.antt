@@ -3,5 +3,5 @@
 use Rattle.std.proofs.Common.{◌-◌}
 use Rattle.sheet.proofs.from_files.Given as goal
 
-abbrev pub decreases-loop-held : goal.decreases-loop-held
-decreases-loop-held l = l.files - l.i
+abbrev pub decreases-loop-i : goal.decreases-loop-i
+decreases-loop-i l = l.files - l.i
