@@ -4,14 +4,13 @@ use mathlib.Core.Bool.{Bool, true, false, cond, not, ◌||◌}
 use mathlib.Core.List.{List, []}
 use mathlib.Core.Path.{◌≡◌, refl, sym, ◌∙◌, ap}
 use Prim.Native.Nat.{ℕ, zero, suc, ◌+◌}
-use native.Mathlib.Omega.{arith}
 use borrow.Author.Tests.{eqb-true, ne_eqb}
 use lib.Dec.{eqb, ltb}
 use lib.ListN.{length, get_or}
 use Rattle.runs.proofs.Laws.{split}
 use Rattle.receiver.specs.declared.Receiver.{Receiver}
 use Rattle.receiver.specs.Receiver as R
-use Rattle.status.specs.Run.{is_last, ended, ran_from, ran_not, as_whole, ran_of}
+use Rattle.status.specs.Run.{is_last, ran_from, ran_not, as_whole, ran_of}
 use Rattle.status.specs.Step.{step_of, is_refused}
 use Rattle.status.specs.declared.run.Ran.{Ran}
 use Rattle.status.specs.declared.step.Block.{Block}

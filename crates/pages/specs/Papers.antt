@@ -1,6 +1,6 @@
 -- Words of the pages on channel status, the log, its list and the requests, of the C calls where there is one.
 -- Assumes nothing.
-use Rattle.std.specs.Prelude.{cond, not, ◌||◌, List, [], ◌∷◌, ◌≡◌, ℕ, zero, suc, ◌+◌, eqb, ltb, length, get_or}
+use Rattle.std.specs.Prelude.{cond, not, ◌||◌, List, ◌≡◌, ℕ, zero, suc, ◌+◌, eqb, ltb, length, get_or}
 use Rattle.cell_log.specs.Records.{header_of}
 use Rattle.reading.specs.Heard.{end_of, sound_in, missing_in, refused_in}
 use Rattle.reading.specs.Reading.{fresh_of}
