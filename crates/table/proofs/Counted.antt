@@ -1,6 +1,6 @@
 -- Laws of a sheet that is made log by log, each log in pieces: what is counted so far, and the lines of it.
 -- Assumes nothing.
-use Rattle.std.proofs.Common.{◌≡◌, ℕ, ◌+◌, ◌-◌, ◌<◌, ◌≤◌, ltb, List, [], ◌∷◌, ◌++◌, length, sym, refl, ap, ◌∙◌, append_assoc, append-nil, arith, length-append, le-ltb}
+use Rattle.std.proofs.Common.{◌≡◌, ℕ, ◌+◌, ◌<◌, ◌≤◌, ltb, List, [], ◌∷◌, ◌++◌, length, sym, refl, ap, ◌∙◌, append_assoc, append-nil, arith, length-append, le-ltb}
 use lib.Seq.{append_snoc}
 use Rattle.runs.proofs.Laws.{split}
 use Rattle.pieces.specs.Taken.{joined_of}

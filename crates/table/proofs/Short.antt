@@ -1,6 +1,6 @@
 -- How long the lines of a table are at most, so that each is whole in a run of 512 octets.
 -- Assumes nothing.
-use Rattle.std.proofs.Common.{◌≡◌, ℕ, ◌+◌, ◌-◌, ◌*◌, ◌/◌, ◌≤◌, true, eqb, leb, List, [], ◌∷◌, ◌++◌, length, drop, sym, refl, ap, ◌∙◌, arith, length-append}
+use Rattle.std.proofs.Common.{◌≡◌, ℕ, ◌-◌, ◌*◌, ◌/◌, ◌≤◌, true, eqb, leb, List, [], ◌∷◌, ◌++◌, length, drop, sym, refl, ap, ◌∙◌, arith, length-append}
 use Rattle.runs.proofs.Laws.{split}
 use Rattle.figures.specs.declared.Answer.{Answer}
 use Rattle.figures.specs.Adding.{closed_of}

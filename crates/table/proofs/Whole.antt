@@ -1,6 +1,6 @@
 -- What is printed of standard input, whatever its division among the reads: the table of the logs that it holds, or its refusal.
 -- Assumes nothing.
-use Rattle.std.proofs.Common.{◌≡◌, ℕ, suc, ◌+◌, ◌-◌, ◌≤◌, List, [], ◌∷◌, ◌++◌, length, sym, refl, ap, ◌∙◌, append-nil, arith, ne_eqb}
+use Rattle.std.proofs.Common.{◌≡◌, ℕ, suc, ◌-◌, ◌≤◌, List, [], ◌∷◌, ◌++◌, length, sym, refl, ap, ◌∙◌, append-nil, arith, ne_eqb}
 use Rattle.pieces.specs.Taken.{joined_of}
 use Rattle.table.specs.Logs.{are_digits, number_on, Logs, no_logs, logs_to, logs_in}
 use Rattle.table.specs.Table.{refused_line, text_of, printed_of}

@@ -1,8 +1,8 @@
 -- `table::take` meets its contract. The loop goes along the piece; the measure is what is left of it.
 -- Assumes nothing.
-use Rattle.std.proofs.Common.{◌+◌, ◌-◌, ◌<◌, ◌≤◌, length, arith}
+use Rattle.std.proofs.Common.{◌+◌, ◌<◌, ◌≤◌, length, arith}
 use native.Mathlib.Nat.{add-sub_cancel_left}
-use Rattle.table.proofs.Taken.{going_start, going_on, going_turn, going_end}
+use Rattle.table.proofs.Taken.{going_on, going_turn, going_end}
 use Rattle.table.proofs.take.Goals as goal
 use Rattle.table.proofs.take.Goals.{After-ahead-step}
 
@@ -12,9 +12,6 @@ on : (c : After-ahead-step)
     × (c.loop-place.place + c.ahead-step.result.used ≤ length c.args.piece.now)
     × (c.loop-place.place + c.ahead-step.result.octets ≤ length c.args.piece.now)
 on c = going_on c.loop-place.invariant c.loop-place-test.true c.ahead-step.ensures
-
-pub loop-place-init : goal.loop-place-init
-loop-place-init c = going_start _ _
 
 pub overflow_add-end : goal.overflow_add-end
 overflow_add-end c = omega (arith, (on (goal.at.overflow_add-end c).After-ahead-step).2, c.well_formed)
@@ -32,12 +29,6 @@ pub loop-place-preserved : goal.loop-place-preserved
 loop-place-preserved c = going_turn c.loop-place.invariant c.loop-place-test.true c.ahead-step.ensures
     (add-sub_cancel_left c.loop-place.place c.ahead-step.result.octets)
     c.stepped-going.ensures c.stepped-going.auto.rows c.stepped-going.auto.kept
-
-pub shape_of-rows : goal.shape_of-rows
-shape_of-rows c = c.loop-place.invariant.same
-
-pub shape_of-kept : goal.shape_of-kept
-shape_of-kept c = c.loop-place.invariant.same_kept
 
 pub returns : goal.returns
 returns c = record { stands = going_end c.loop-place.invariant c.loop-place-test.false }

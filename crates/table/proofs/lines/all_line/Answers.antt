@@ -1,12 +1,8 @@
 -- `table::lines::all_line` meets its contract.
 -- Assumes nothing.
-use Rattle.std.proofs.Common.{◌∙◌}
 use Rattle.text.proofs.Laws.{puts_then}
 use Rattle.table.proofs.Laws.{prints}
 use Rattle.table.proofs.lines.all_line.Goals as goal
 
 pub returns : goal.returns
 returns c = prints c.from_start-start.ensures (puts_then c.put_all-past.ensures c.put_row.ensures)
-
-pub shape_of-run : goal.shape_of-run
-shape_of-run c = c.put_row.auto.run ∙ c.put_all-past.auto.run

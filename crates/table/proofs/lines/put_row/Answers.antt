@@ -1,6 +1,6 @@
 -- `table::lines::put_row` meets its contract. The loop: the numbers before this one are put. The measure is what is left.
 -- Assumes nothing.
-use Rattle.std.proofs.Common.{◌-◌, refl, ap, ◌∙◌}
+use Rattle.std.proofs.Common.{refl, ap, ◌∙◌}
 use Rattle.text.specs.Text.{item}
 use Rattle.text.specs.Words.{words}
 use Rattle.text.proofs.Laws.{puts_none, puts_same}
