@@ -60,7 +60,7 @@ def promised(files, crates):
     for path, text in files.items():
         if path.endswith('.rt') and path.startswith(tuple(f'{crate}/' for crate in crates)):
             for name, said in re.findall(r'^pub (?:extern "C" )?fn (rime_\w+)(.*?)^\{$', text, re.M | re.S):
-                found[name] = re.sub(r'\s+', ' ', said).strip()
+                found[name] = re.sub(r',? \)', ')', re.sub(r'\(\s+', '(', re.sub(r'\s+', ' ', said))).strip()
     return found
 
 
