@@ -6,7 +6,7 @@ use Rattle.runs.proofs.One.{One}
 use Rattle.table.proofs.end.Kinds as end-kinds
 use Rattle.table.proofs.end.Reads as end_reads
 use Rattle.table.proofs.line.Kinds as line-kinds
-use Rattle.table.proofs.line.Reads as line_reads_lem
+use Rattle.table.proofs.line.Reads as line-reads
 use Rattle.table.proofs.next_log.Kinds as next-kinds
 use Rattle.table.proofs.next_log.Reads as next-reads
 use Rattle.table.proofs.open_log.Kinds as open-kinds
@@ -41,7 +41,7 @@ next_log_one κs a x y v w pre p q = (
 pub end_one : One end-kinds.ps end-kinds.r end_reads.Pre end_reads.Post
 end_one κs a x y v w pre p q = (p ∙ sym q, refl)
 
-pub line_one : One line-kinds.ps line-kinds.r line_reads_lem.Pre line_reads_lem.Post
+pub line_one : One line-kinds.ps line-kinds.r line-reads.Pre line-reads.Post
 line_one κs a x y v w pre p q = (
   p.said ∙ sym q.said,
   λ i. ((p.wrote ∙ sym q.wrote) i, (tt, (tt, (tt, tt)))),

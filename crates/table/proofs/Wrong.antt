@@ -40,7 +40,7 @@ use Rattle.table.specs.Taking.{
 use Rattle.table.proofs.end.Kinds as end-kinds
 use Rattle.table.proofs.end.Reads as end_reads
 use Rattle.table.proofs.line.Kinds as line-kinds
-use Rattle.table.proofs.line.Reads as line_reads_lem
+use Rattle.table.proofs.line.Reads as line-reads
 use Rattle.table.proofs.next_log.Kinds as next-kinds
 use Rattle.table.proofs.next_log.Reads as next-reads
 use Rattle.table.proofs.open_log.Kinds as open-kinds
@@ -226,7 +226,7 @@ row = 6 ∷ 4 ∷ 0 ∷ 0 ∷ 0 ∷ 0 ∷ 0 ∷ 0 ∷ 0 ∷ 0 ∷ []
 module _ (κs : Lfts 2) (p q : Place) where
   abbrev Line : ℕ → ℕ → (Put → List ℕ → Type 0) → Type 0
   Line refusal index Wrong =
-      Never line-kinds.ps line-kinds.r line_reads_lem.Post κs (lent_mut p (replicate 32 0), (one refusal, (lent q row, (index, tt))))
+      Never line-kinds.ps line-kinds.r line-reads.Post κs (lent_mut p (replicate 32 0), (one refusal, (lent q row, (index, tt))))
       (λ x v. Wrong x v.0)
 
   -- a line that its run cuts told as whole, and a run left as it was
