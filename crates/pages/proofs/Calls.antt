@@ -102,24 +102,24 @@ format_refuses κs a x v p = Refused.names_format a.0 p
 pub sender_open_refuses : Ensured sender-open-kinds.ps sender-open-kinds.r sender-open-reads.Post
     (λ κs a x v.
     let asked = S.open_state a.0 a.1.0 a.1.1.0 a.1.1.1.0 a.1.1.1.1.0 a.1.1.1.1.1.0 in
-    let state-left = v.1.1.1.1.1.1.0 in
-    Refuses x (S.state_refusal asked) (state-left ≡ replicate 7 0))
+    let state_left = v.1.1.1.1.1.1.0 in
+    Refuses x (S.state_refusal asked) (state_left ≡ replicate 7 0))
 sender_open_refuses κs a x v p = Refused.opens_sender p
 
 pub receiver_open_refuses : Ensured receiver-open-kinds.ps receiver-open-kinds.r receiver-open-reads.Post
     (λ κs a x v.
-    let state-left = v.1.1.1.0 in
-    Refuses x (settings_refusal a.0 a.1.0 a.1.1.0) (state-left ≡ replicate 9 0))
+    let state_left = v.1.1.1.0 in
+    Refuses x (settings_refusal a.0 a.1.0 a.1.1.0) (state_left ≡ replicate 9 0))
 receiver_open_refuses κs a x v p = Refused.opens_receiver p
 
 pub send_refuses : Ensured send-kinds.ps send-kinds.r send-reads.Post
     (λ κs a x v.
     let state = a.0.now in
     let cell = a.1.1.1.1.0.now in
-    let state-left = v.0 in
+    let state_left = v.0 in
     let cell_left = v.1.1.1.1.0 in
     Refuses x (S.send_refusal (sender_of state) a.1.0 a.1.1.0.now a.1.1.1.0.now (length cell))
-    ((state-left ≡ state) × (cell_left ≡ cell)))
+    ((state_left ≡ state) × (cell_left ≡ cell)))
 send_refuses κs a x v p = Refused.sends p
 
 pub receive_refuses : Ensured receive-kinds.ps receive-kinds.r receive-reads.Post
@@ -129,13 +129,13 @@ pub receive_refuses : Ensured receive-kinds.ps receive-kinds.r receive-reads.Pos
     let samples = a.1.1.1.0.now in
     let ancillary = a.1.1.1.1.0.now in
     let marks = a.1.1.1.1.1.0.now in
-    let state-left = v.0 in
+    let state_left = v.0 in
     let samples_left = v.1.1.1.0 in
     let ancillary_left = v.1.1.1.1.0 in
     let marks_left = v.1.1.1.1.1.0 in
     let report = v.1.1.1.1.1.1.0 in
     Refuses x (R.receive_refusal (receiver_of state) cell a.1.1.0 (length samples) (length ancillary) (length marks))
-    ((state-left ≡ state)
+    ((state_left ≡ state)
     × (samples_left ≡ samples)
     × (ancillary_left ≡ ancillary)
     × (marks_left ≡ marks)
@@ -152,31 +152,31 @@ pub slip_refuses : Ensured slip-kinds.ps slip-kinds.r slip-reads.Post
     (λ κs a x v.
     let watch = a.0.now in
     let report = a.1.0.now in
-    let watch-left = v.0 in
+    let watch_left = v.0 in
     let slip = v.1.1.0 in
     Refuses x (step_refusal (watch_of watch) (get_or report 0 0) (get_or report 1 0) (get_or report 2 0))
-    ((watch-left ≡ watch) × (slip ≡ replicate 2 0)))
+    ((watch_left ≡ watch) × (slip ≡ replicate 2 0)))
 slip_refuses κs a x v p = Refused.watches p
 
 -- the block is lent, in 25 octets; what goes out is zeros
 pub status_refuses : Ensured status-kinds.ps status-kinds.r status-reads.Post
     (λ κs a x v.
     let block = a.0.now in
-    let block-left = v.0 in
+    let block_left = v.0 in
     let out = v.1.1.1.0 in
     Refuses x (cond (is_refused (get_or block 0 0) a.1.0 a.1.1.0) 14 0)
-    ((length block ≡ 25 → block-left ≡ block) × (out ≡ replicate 25 0)))
+    ((length block ≡ 25 → block_left ≡ block) × (out ≡ replicate 25 0)))
 status_refuses κs a x v p = Refused.steps p
 
 -- many steps: 5, then 14 at any entry that the call would use
 pub status_run_refuses : Ensured status-run-kinds.ps status-run-kinds.r status-run-reads.Post
     (λ κs a x v.
     let block = a.0.now in
-    let block-left = v.0 in
+    let block_left = v.0 in
     let out = v.1.1.1.1.1.0 in
     let next = v.1.1.1.1.1.1.0 in
     Refuses x (run_refusal block a.1.0.now a.1.1.0.now a.1.1.1.0 a.1.1.1.1.0)
-    ((length block ≡ 25 → block-left ≡ block) × (out ≡ replicate 25 0) × (next ≡ 0)))
+    ((length block ≡ 25 → block_left ≡ block) × (out ≡ replicate 25 0) × (next ≡ 0)))
 status_run_refuses κs a x v p = Refused.runs p
 
 -- it refuses nothing
@@ -201,10 +201,10 @@ pub judge_log_refuses : Ensured judge-log-kinds.ps judge-log-kinds.r judge-log-r
     (λ κs a x v.
     let state = a.0.now in
     let reports = a.1.1.1.0.now in
-    let state-left = v.0 in
-    let reports-left = v.1.1.1.0 in
+    let state_left = v.0 in
+    let reports_left = v.1.1.1.0 in
     let counts = v.1.1.1.1.0 in
-    Refuses x (R.state_refusal (receiver_of state)) ((state-left ≡ state) × (reports-left ≡ reports) × (counts ≡ replicate 3 0)))
+    Refuses x (R.state_refusal (receiver_of state)) ((state_left ≡ state) × (reports_left ≡ reports) × (counts ≡ replicate 3 0)))
 judge_log_refuses κs a x v p = Refused.judges p
 
 pub receive_log_refuses : Ensured receive-log-kinds.ps receive-log-kinds.r receive-log-reads.Post
@@ -213,13 +213,13 @@ pub receive_log_refuses : Ensured receive-log-kinds.ps receive-log-kinds.r recei
     let samples = a.1.1.1.0.now in
     let ancillary = a.1.1.1.1.0.now in
     let marks = a.1.1.1.1.1.0.now in
-    let state-left = v.0 in
+    let state_left = v.0 in
     let samples_left = v.1.1.1.0 in
     let ancillary_left = v.1.1.1.1.0 in
     let marks_left = v.1.1.1.1.1.0 in
     let counts = v.1.1.1.1.1.1.0 in
     Refuses x (call_refusal (receiver_of state) (length samples) (length ancillary) (length marks))
-    ((state-left ≡ state) × (samples_left ≡ samples) × (ancillary_left ≡ ancillary) × (marks_left ≡ marks) × (counts ≡ replicate 9 0)))
+    ((state_left ≡ state) × (samples_left ≡ samples) × (ancillary_left ≡ ancillary) × (marks_left ≡ marks) × (counts ≡ replicate 9 0)))
 receive_log_refuses κs a x v p = Refused.receives_log p
 
 pub send_log_refuses : Ensured send-log-kinds.ps send-log-kinds.r send-log-reads.Post
@@ -228,26 +228,26 @@ pub send_log_refuses : Ensured send-log-kinds.ps send-log-kinds.r send-log-reads
     let samples = a.1.1.0.now in
     let ancillary = a.1.1.1.0.now in
     let log = a.1.1.1.1.0.now in
-    let state-left = v.0 in
-    let log-left = v.1.1.1.1.0 in
+    let state_left = v.0 in
+    let log_left = v.1.1.1.1.0 in
     let counts = v.1.1.1.1.1.1.0 in
-    Refuses x (batch_refusal (sender_of state) samples ancillary) ((state-left ≡ state) × (log-left ≡ log) × (counts ≡ replicate 4 0)))
+    Refuses x (batch_refusal (sender_of state) samples ancillary) ((state_left ≡ state) × (log_left ≡ log) × (counts ≡ replicate 4 0)))
 send_log_refuses κs a x v p = Refused.sends_log p
 
 pub put_header_refuses : Ensured put-header-kinds.ps put-header-kinds.r put-header-reads.Post
     (λ κs a x v.
     let log = a.0.now in
-    let log-left = v.0 in
+    let log_left = v.0 in
     let next = v.1.1.1.1.0 in
-    Refuses x (header_refused_of log a.1.0 a.1.1.0 a.1.1.1.0) ((next ≡ 0) × (log-left ≡ log)))
+    Refuses x (header_refused_of log a.1.0 a.1.1.0 a.1.1.1.0) ((next ≡ 0) × (log_left ≡ log)))
 put_header_refuses κs a x v p = Refused.puts p
 
 pub put_record_refuses : Ensured put-record-kinds.ps put-record-kinds.r put-record-reads.Post
     (λ κs a x v.
     let log = a.0.now in
-    let log-left = v.0 in
+    let log_left = v.0 in
     let next = v.1.1.1.1.0 in
-    Refuses x (record_refusal log a.1.0 a.1.1.0.now) ((next ≡ 0) × (log-left ≡ log)))
+    Refuses x (record_refusal log a.1.0 a.1.1.0.now) ((next ≡ 0) × (log_left ≡ log)))
 put_record_refuses κs a x v p = Refused.puts p
 
 -- it refuses nothing: a log that can't be read has a list that says so
@@ -266,10 +266,10 @@ pub salvage_refuses : Ensured salvage-kinds.ps salvage-kinds.r salvage-reads.Pos
     let out = a.1.0.now in
     let list = a.1.1.0.now in
     let out_left = v.1.0 in
-    let List-left = v.1.1.0 in
+    let list_left = v.1.1.0 in
     let counts = v.1.1.1.0 in
     Refuses x (salvage_refusal a.0.now (length out) (length list))
-    ((out_left ≡ out) × (List-left ≡ list) × (counts ≡ replicate 3 0)))
+    ((out_left ≡ out) × (list_left ≡ list) × (counts ≡ replicate 3 0)))
 salvage_refuses κs a x v p = Refused.salvages p
 
 pub sheet_refuses : Ensured sheet-kinds.ps sheet-kinds.r sheet-reads.Post
@@ -334,18 +334,18 @@ pub equipment_refuses : Ensured equipment-kinds.ps equipment-kinds.r equipment-r
     (λ κs a x v.
     let ports = a.0.now in
     let answer = a.1.1.0.now in
-    let ports-left = v.0 in
-    let answer-left = v.1.1.0 in
+    let ports_left = v.0 in
+    let answer_left = v.1.1.0 in
     let report = v.1.1.1.0 in
     Refuses x (M.equipment_refusal ports a.1.0.now (length answer))
-    ((ports-left ≡ ports) × (answer-left ≡ answer) × (report ≡ replicate 4 0)))
+    ((ports_left ≡ ports) × (answer_left ≡ answer) × (report ≡ replicate 4 0)))
 equipment_refuses κs a x v p = Refused.equips a.1.0.now p
 
 pub controller_refuses : Ensured controller-kinds.ps controller-kinds.r controller-reads.Post
     (λ κs a x v.
     let ports = a.0.now in
-    let ports-left = v.0 in
-    Refuses x (M.controller_refusal a.1.0.now) (ports-left ≡ ports))
+    let ports_left = v.0 in
+    Refuses x (M.controller_refusal a.1.0.now) (ports_left ≡ ports))
 controller_refuses κs a x v p = Refused.controls p
 
 -- a port's settings, by its record and by its packing octet: checks 1 to 3
