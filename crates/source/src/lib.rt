@@ -1,7 +1,7 @@
 #![tactic(auto)]
 // Where a program reads a log from: the file that a word of its command line names, or standard input; and what it says where that
 // fails. What the system does is as its library's contracts assume.
-ghost use Rattle.std.specs.Prelude.{true, ◌≡◌, ◌≤◌, length};
+ghost use Rattle.std.specs.Prelude.{true, ◌≡◌, ◌≤◌, ◌↔◌, IsTrue, length};
 ghost use Rattle.source.specs.Kinds.{kind_of};
 
 use std::fmt::InlineText;
@@ -16,7 +16,7 @@ mod turns; // turns.rt: what a program does behind a read
 mod words; // words.rt: the words of the command line
 
 pub use turns::{Turn, answered, first, goes_on, read, well};
-pub use words::{count, given, word};
+pub use words::{count, word};
 
 // What is read: standard input, or a file that was opened, and is closed where this is dropped. Or nothing, and why is said already.
 #[derive(Drop)]
@@ -45,7 +45,9 @@ pub struct Source {
 
 impl Source {
     // Whether there is nothing to read. Why is said already.
-    pub fn is_nothing(&self) -> bool {
+    pub fn is_nothing(&self) -> bool
+        ensures { IsTrue result ↔ (self.now.from ≡ Reader.Nothing) }
+    {
         matches!(self.from, Reader::Nothing)
     }
 }
@@ -119,7 +121,7 @@ pub fn stopped(rt: &HostRuntime, program: &[u8], name: &[u8], stop: Stop) {
 }
 
 fn nothing() -> Source
-    ensures { result.length ≡ 0 }
+    ensures { (result.from ≡ Reader.Nothing) × (result.length ≡ 0) }
 {
     Source {
         from: Reader::Nothing,
@@ -228,10 +230,10 @@ pub fn named(
 pub fn chosen(rt: &HostRuntime, program: &[u8], words: &[u8], name: &mut [u8]) -> Source
     ensures { result.length ≤ length name.new }
 {
-    if !given(rt, 1) {
+    if !words::given(rt, 1) {
         return input(rt, program, words, name);
     }
-    if given(rt, 2) {
+    if words::given(rt, 2) {
         usage(rt, program, words);
         return nothing();
     }

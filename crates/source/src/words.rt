@@ -7,7 +7,7 @@ use std::io;
 use std::rt::Env;
 
 // Whether there is such a word.
-pub fn given(rt: &impl Env, index: usize) -> bool {
+pub(crate) fn given(rt: &impl Env, index: usize) -> bool {
     !matches!(rt.arg(index, &mut []), Err(FillError::NotPresent))
 }
 
