@@ -8,6 +8,7 @@
                                       LLVM module, target/module/NAME.bc; for the other machine target/MACHINE/libNAME.a
   native.py module NAME               writes target/module/NAME.bc if it isn't there
   native.py proved                    the same archives and programs over what `rt ci` has just proved in this folder: the gate
+  native.py sources                   prints a checksum of the crates, by which the gate says in RIME_PROVED what `rt ci` has proved
   native.py build MODULE FILE [MACHINE]
                                       builds an archive if FILE ends in .a, else a program, of a module that needn't be proved
                                       (tools/quick_face.py, tools/quick.py)
@@ -21,6 +22,7 @@ The module comes of a folder of links to the toolchain's tools, in which clang i
 and the object that came of it. The object has to be the one in the archive.
 """
 import functools
+import hashlib
 import os
 import pathlib
 import platform
@@ -114,12 +116,29 @@ def rt(crate, *words, **how):
         sys.exit(f'native: {crate} is not proved')
 
 
-def libraries(name, by_ci):
-    """Has rt prove the libraries below a crate. `rt ci` has just done so, unless it gave back what an rt by hand had built there."""
-    rlibs = [ROOT / 'crates' / crate / 'out' / 'rlib' for crate in below(name)]
-    if by_ci and all((rlib / f'{crate}.rlib').is_dir() and not (rlib / 'stamp').exists() for crate, rlib in zip(below(name), rlibs)):
-        return
-    for crate in listed()[name][1]:
+@functools.cache
+def sources():
+    """A checksum of all files of the crates but what rt writes."""
+    total = hashlib.sha256((ROOT / 'crates.txt').read_bytes())
+    for path in sorted((ROOT / 'crates').rglob('*')):
+        inside = path.relative_to(ROOT)
+        if path.is_file() and inside.parts[2] != 'out':
+            total.update(f'{inside} {path.stat().st_size}\n'.encode() + path.read_bytes())
+    return total.hexdigest()
+
+
+@functools.cache
+def by_ci(name):
+    """Whether the libraries below a crate stand as `rt ci` has just proved them: it leaves them without a stamp, and gives back instead
+    what an rt by hand had built before."""
+    rlibs = [(ROOT / 'crates' / crate / 'out' / 'rlib', crate) for crate in below(name)]
+    return os.environ.get('RIME_PROVED') == sources() and all(
+        (rlib / f'{crate}.rlib').is_dir() and not (rlib / 'stamp').exists() for rlib, crate in rlibs)
+
+
+def libraries(name):
+    """Has rt prove the libraries below a crate."""
+    for crate in listed()[name][1] if not by_ci(name) else []:
         if crate in listed():
             rt(crate, 'lib')
 
@@ -137,6 +156,10 @@ def by_rattle(name, machine, out, toolchain):
         words += ['-L', f'dependency={rlibs}']
     words += ['--antt-project', kit() / 'rattle' / 'logic' / 'antt-project.json', '--logic-built', kit() / 'logic_built', '--links', f'{name}=']
     words += ['--crate-type', 'staticlib'] if 'staticlib' in kind else []
+    if not by_ci(name):
+        # what rt keeps for its next check
+        (folder / 'out').mkdir(exist_ok=True)
+        words += ['--incremental', 'out/incremental']
     words += ['--target', f'{machine}-unknown-linux-gnu', '--cpu', CPU[machine], '--jobs', str(min(4, len(os.sched_getaffinity(0))))]
     sys.stdout.flush()
     ran = subprocess.run([*words, '--toolchain', toolchain, '-o', out], cwd=folder, stdin=subprocess.DEVNULL, stderr=subprocess.STDOUT,
@@ -198,10 +221,10 @@ def put(file, place):
     new.rename(place)
 
 
-def archive(name, machine, by_ci=False):
+def archive(name, machine):
     """The archive of a library, and for this machine its module."""
     crate = f'{name}_c'
-    libraries(crate, by_ci)
+    libraries(crate)
     with tempfile.TemporaryDirectory() as folder:
         room = pathlib.Path(folder)
         made, module, code = (room / part for part in ('made.a', 'module.bc', 'module.o'))
@@ -269,7 +292,8 @@ def main(words):
             rt(name, 'run', stdout=subprocess.DEVNULL)
             program(name)
     elif words[:1] == ['program'] and len(words) == 3:
-        rt(words[1], 'run', stdout=subprocess.DEVNULL)
+        if not by_ci(words[1]):
+            rt(words[1], 'run', stdout=subprocess.DEVNULL)
         program(words[1], known(words[2]))
     elif words[:1] == ['archive'] and len(words) in (2, 3):
         archive(words[1], known(words[2] if words[2:] else MACHINE))
@@ -279,9 +303,11 @@ def main(words):
         (MODULES / f'{words[1]}.bc').touch()
     elif words == ['proved']:
         for name in LIBRARIES:
-            archive(name, MACHINE, by_ci=True)
+            archive(name, MACHINE)
         for name in PROGRAMS:
             program(name)
+    elif words == ['sources']:
+        print(sources())
     elif words[:1] == ['build'] and len(words) in (3, 4):
         build(words[1], words[2], known(words[3] if words[3:] else MACHINE))
     else:
