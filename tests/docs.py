@@ -1,7 +1,7 @@
 #!/usr/bin/env python3
 """What the pages name is there: paths, make targets, crates, functions, calls, refusal numbers, options, subcommands, man pages
-and chapters, in README.md, CONTRIBUTING.md, docs/ (docs/LANDINGS.md is history and is left out), the man pages, `make help` and
-every --help. tests/gate/05-promises.sh asks more of docs/PROMISES.md.
+and chapters, in README.md, CONTRIBUTING.md, docs/ (docs/LANDINGS.md and docs/PORT.md are history and are left out), the man pages,
+`make help` and every --help. tests/gate/05-promises.sh asks more of docs/PROMISES.md.
 
 usage: docs.py             looks at every page
        docs.py --planted   and plants a name of each kind that isn't there, and sees that each is noticed
@@ -14,7 +14,7 @@ import sys
 
 HERE = pathlib.Path(__file__).resolve().parent.parent
 DESK = 'target/desk/rimesatchel'
-SKIPPED = {'target', '.git', '__pycache__', 'vectors'}
+SKIPPED = {'target', 'out', '.git', '__pycache__', 'vectors'}
 # Words that stand for any name.
 ANY = re.compile(r'\b(?:NAME|FILE|File|FUNCTION|CRATE|CRATES|PROGRAM|MACHINE|VERSION|COMMIT|X|N|K)\b|(?<=^crates/)crate\b')
 # Words of the standards and of other tools, and a file that the toolchain writes.
@@ -27,6 +27,19 @@ NOT_OURS = ('cargo', 'pip', 'gcc', 'git', 'parallel', 'pkg-config', 'apt-get', '
 @functools.cache
 def run(*words):
     return subprocess.run(words, cwd=HERE, capture_output=True, text=True, stdin=subprocess.DEVNULL).stdout
+
+
+@functools.cache
+def rt_help():
+    """What rt says of itself, and the page that it names first."""
+    ran = subprocess.run(['rt', 'help'], cwd=HERE, capture_output=True, text=True, stdin=subprocess.DEVNULL)
+    return ran.stdout + ran.stderr + pathlib.Path(run('rt', 'doc').strip()).read_text(encoding='utf-8')
+
+
+@functools.cache
+def rt_commands():
+    named = re.findall(r'^(?: *|usage: |.* · )rt ([a-z-]+(?:\|[a-z-]+)*)(?= |$)', rt_help(), re.M)
+    return {word for words in named for word in words.split('|')}
 
 
 @functools.cache
@@ -51,8 +64,9 @@ def text_of(pattern):
 def words():
     """Every word of the code, of the proofs, of file names, and of the toolchain's guides."""
     text = text_of(r'(?!docs/|man/)(?!.*\.(?:md|1|png|svg|log)$).*') + '\n'.join(tree())
-    guides = pathlib.Path(run('rt', 'doc').strip()).parent
-    text += ''.join(path.read_text(encoding='utf-8', errors='replace') for path in guides.glob('*.md')) + run('rt', '--help')
+    kit = pathlib.Path(run('rt', 'doc').strip()).parent
+    guides = [*kit.glob('*.md'), *kit.glob('rattle/*.md')]
+    text += ''.join(path.read_text(encoding='utf-8', errors='replace') for path in guides) + rt_help()
     whole = set(re.findall(r"[\w\-']+", text))
     return whole | {part for word in whole for part in re.split(r"[-']", word)} | OTHERS
 
@@ -78,6 +92,12 @@ def headers():
 def calls():
     """The calls that the headers declare, and the library that bears such a name."""
     return set(re.findall(r'\b(rime_\w+)\(', re.sub(r'/\*.*?\*/', '', headers(), flags=re.S))) | {'rime_management'}
+
+
+@functools.cache
+def laws():
+    """The laws of crates/ whose names begin as those of calls do."""
+    return set(re.findall(r'^(?:pub |abbrev |unfoldable )*(rime_\w+) :', text_of(r'crates/.*\.antt'), re.M))
 
 
 @functools.cache
@@ -109,7 +129,7 @@ def pages():
     """Each page's name and text. In man pages the escapes of roff are taken away."""
     found = {}
     for name in tree():
-        if re.fullmatch(r'README\.md|CONTRIBUTING\.md|docs/.*\.md', name) and name != 'docs/LANDINGS.md':
+        if re.fullmatch(r'README\.md|CONTRIBUTING\.md|docs/.*\.md', name) and name not in ('docs/LANDINGS.md', 'docs/PORT.md'):
             found[name] = (HERE / name).read_text(encoding='utf-8')
         elif re.fullmatch(r'(?:man|desk)/.*\.1', name):
             text = re.sub(r'\\f.|\\&', '', (HERE / name).read_text(encoding='utf-8')).replace('\\-', '-')
@@ -159,7 +179,7 @@ def wrong_paths(text):
 
 @functools.cache
 def builders():
-    return text_of(r'Makefile|.*\.mk|\.ci/.*|(?:tools|bench|desk|tests)/.*\.(?:py|sh)') + run('rt', '--help')
+    return text_of(r'Makefile|.*\.mk|\.ci/.*|(?:tools|bench|desk|tests)/.*\.(?:py|sh)') + rt_help()
 
 
 def built(path, text):
@@ -178,14 +198,14 @@ def wrong_commands(text):
                 elif '=' not in word and word not in targets():
                     yield f'make {word}: there is no such target'
             asked = re.match(r'\s*rt ([a-z][\w-]*)', part)
-            if asked and not re.search(rf'^  rt {asked[1]}\b', run('rt', '--help'), re.M):
+            if asked and asked[1] not in rt_commands():
                 yield f'rt {asked[1]}: there is no such command'
 
 
 def wrong_options(text):
     """An option belongs to the command in front of it; one that stands alone is the desk tool's, rt's or a script's."""
     helps = ''.join([*desk_help().values(), *program_help().values()])
-    ours = options(helps + run('rt', '--help') + text_of(r'(?:tools|bench|tests)/.*\.py'))
+    ours = options(helps + rt_help() + text_of(r'(?:tools|bench|tests)/.*\.py'))
     for span in spans(text):
         used = re.match(r'(?:.*/)?rimesatchel ([a-z]+)', span)
         program = re.match(r'(?:[^ ]*/)?([a-z]+) ', span)
@@ -206,7 +226,7 @@ def wrong_options(text):
 
 
 def wrong_names(text):
-    for call in set(re.findall(r'\brime_\w+', text)) - calls():
+    for call in set(re.findall(r'\brime_\w+', text)) - calls() - laws():
         yield f'{call}: there is no such call'
     for name in set(re.findall(r'\bRIME\w*_\w+', text)):
         if not re.search(rf'\b{name}\b', headers() + text_of(r'Makefile|.*\.mk|bindings/rust/build\.rs')):
