@@ -3,7 +3,7 @@
 set -eu -o pipefail
 export LC_ALL=C
 for archive in rimesatchel management; do
-    [ -e "${RIME_LIB:-target/staticlib}/lib$archive.a" ] || python3 tools/native.py rt staticlib "$archive"
+    [ -e "${RIME_LIB:-target/staticlib}/lib$archive.a" ] || python3 tools/native.py archive "$archive"
 done
 if [ -d crates/linelist ] && [ ! -x target/bin/linelist ]; then
     echo "face: crates/linelist stands but target/bin/linelist doesn't" >&2
