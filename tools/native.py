@@ -129,8 +129,7 @@ def sources():
 
 @functools.cache
 def by_ci(name):
-    """Whether the libraries below a crate stand as `rt ci` has just proved them: it leaves them without a stamp, and gives back instead
-    what an rt by hand had built before."""
+    """Whether the libraries below a crate stand as `rt ci` has just proved them, by .ci/run. Those that an rt by hand builds have a stamp."""
     rlibs = [(ROOT / 'crates' / crate / 'out' / 'rlib', crate) for crate in below(name)]
     return os.environ.get('RIME_PROVED') == sources() and all(
         (rlib / f'{crate}.rlib').is_dir() and not (rlib / 'stamp').exists() for rlib, crate in rlibs)
