@@ -5,7 +5,7 @@ PROGRAMS := $(filter $(notdir $(wildcard crates/*)),linelist anything salvage sh
 .PHONY: all help programs demo lib module examples install test mutants edits tables reading clean
 
 all:
-	@echo 'Proves every crate that changed and builds the programs: up to 13 minutes from nothing, on two cores. `make help` has more.'
+	@echo 'Proves every crate that changed and builds the programs: some 13 minutes from nothing, on two cores. `make help` has more.'
 	@bash tools/prove.sh
 
 help:
@@ -14,8 +14,8 @@ help:
 	@echo '  make desk             build the desk tool over the proved library: target/desk/rimesatchel'
 	@echo '  make page             the reading room: one page that reads logs in a browser, over the proved library: target/page'
 	@echo '  make page-quick       the same without the proof, in seconds: target/page-quick'
-	@echo '  make programs         prove and build the programs: $(PROGRAMS); up to 8 minutes from nothing, on two cores'
-	@echo '  make lib              prove and build the archive and the shared library: up to 15 minutes from nothing'
+	@echo '  make programs         prove and build the programs: $(PROGRAMS); some 8 minutes from nothing, on two cores'
+	@echo '  make lib              prove and build the archive and the shared library: some 15 minutes from nothing'
 	@echo '  make lib TARGET=..    the archives for the other machine, x86_64 or aarch64: target/TARGET; so make programs TARGET=..'
 	@echo '  make examples         build and run the examples in C, Rust and Python'
 	@echo '  make install          headers, libraries, programs, Python module, pkg-config files, man pages; PREFIX=/usr/local'
@@ -25,7 +25,7 @@ help:
 	@echo 'to work on it'
 	@echo '  make                  prove every crate that changed, and build the programs'
 	@echo '  make module           the LLVM modules that the archives were compiled from: target/module/NAME.bc'
-	@echo '  make test             the gate: prove all from nothing, try the must-fail edits, run every test; 14 to 34 minutes'
+	@echo '  make test             the gate: prove all from nothing, try the must-fail edits, run every test; some 30 minutes from nothing'
 	@echo '  make dist-test        unpack that tarball elsewhere and run the gate there'
 	@echo '  make mutants          try the wrong programs of tests/mutants; CRATES="sender log" for some crates'
 	@echo '  make edits            wrong edits of the four programs (tests/edits), and the test that stops each; CRATES="sheet"'
@@ -66,7 +66,7 @@ $(PROGRAMS:%=target/$(TARGET)/%): target/$(TARGET)/%: $(SOURCES) tools/native.py
 	@bash tools/prove.sh program $* $(TARGET)
 
 $(PROGRAMS:%=target/bin/%) &: $(SOURCES)
-	@echo 'Proves and builds $(PROGRAMS): up to 8 minutes from nothing, on two cores.'
+	@echo 'Proves and builds $(PROGRAMS): some 8 minutes from nothing, on two cores.'
 	@bash tools/prove.sh programs $(PROGRAMS)
 
 # These run the programs as well as the library.
@@ -96,7 +96,7 @@ examples: face-examples
 include bindings/install.mk
 
 test:
-	@echo 'The gate: 14 to 34 minutes on two cores with nothing beside it.'
+	@echo 'The gate: some 30 minutes from nothing; what an earlier run here has proved is taken from it.'
 	.ci/run
 
 mutants:

@@ -47,7 +47,7 @@ BENCH_FLAGS := -O3 -std=gnu11 $(WARNINGS) -falign-functions=64 -falign-loops=32
 SOURCES := $(shell find crates -name out -prune -o -name '*.rt' -print -o -name '*.antt' -print) crates.txt
 ifeq ($(RIME_LIB),$(CURDIR)/target/staticlib)
 $(ARCHIVE) $(MANAGEMENT): $(RIME_LIB)/lib%.a: $(SOURCES)
-	@echo 'Proves $* and what it needs, and writes its archive: up to 15 minutes from nothing, on two cores.'
+	@echo 'Proves $* and what it needs, and writes its archive: some 15 minutes from nothing, on two cores.'
 	@bash tools/prove.sh archive $*
 endif
 
