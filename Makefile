@@ -112,4 +112,4 @@ reading:
 	python3 tools/reading.py
 
 clean:
-	rm -rf target bindings/python/__pycache__ bindings/python/rimesatchel/__pycache__
+	rm -rf target crates/*/out bindings/python/__pycache__ bindings/python/rimesatchel/__pycache__
