@@ -1,6 +1,6 @@
 # Puts the libraries in place, under the names of bindings/names.mk; tests/face.mk includes this file. The proved archives are
-# named by their crates, and stay where they are. Nothing but rime_* is visible in any of them, so that a program's own names, and those of
-# the two libraries, don't meet: rt's archives have no other name, and bindings/rime.map hides what the compiler adds.
+# named by their crates, and stay where they are. Nothing but rime_* is visible in any of them, so that a program's own names, and
+# those of the two libraries, don't meet: the archives have no other name, and bindings/rime.map hides what the compiler adds.
 $(LIB)/librimesatchel.a: $(ARCHIVE)
 $(LIB)/librime_management.a: $(MANAGEMENT)
 $(PLACED):

@@ -1,7 +1,7 @@
 #!/usr/bin/env python3
 """What the pages name is there: paths, make targets, crates, functions, calls, refusal numbers, options, subcommands, man pages
-and chapters, in README.md, CONTRIBUTING.md, docs/ (docs/LANDINGS.md and docs/PORT.md are history and are left out), the man pages,
-`make help` and every --help. tests/gate/05-promises.sh asks more of docs/PROMISES.md.
+and chapters, in README.md, CONTRIBUTING.md, docs/ (docs/LANDINGS.md and docs/PORT.md are history and are left out), the man
+pages, `make help` and every --help. tests/gate/05-promises.sh asks more of docs/PROMISES.md.
 
 usage: docs.py             looks at every page
        docs.py --planted   and plants a name of each kind that isn't there, and sees that each is noticed

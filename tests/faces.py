@@ -28,7 +28,8 @@ CTYPES = {ctypes.c_uint8: 'u8', ctypes.c_uint32: 'u32', ctypes.c_uint64: 'u64', 
 def texts():
     """Every file that is looked at, by its name."""
     names = [*HEADERS, COPY, *RUST, PYTHON, 'CHANGELOG.md', 'bindings/rust/Cargo.toml', 'examples/rust/Cargo.toml']
-    names += [str(path.relative_to(HERE)) for crate in CRATES + LIBRARIES for path in sorted((HERE / crate / 'src').glob('**/*.rt'))]
+    for crate in CRATES + LIBRARIES:
+        names += [str(path.relative_to(HERE)) for path in sorted((HERE / crate / 'src').glob('**/*.rt'))]
     names += [f'{folder}/Cargo.lock' for folder in ('bindings/rust', 'examples/rust', 'tests/compare')]
     return {name: (HERE / name).read_text(encoding='utf-8') for name in names}
 
@@ -67,7 +68,7 @@ def promised(files, crates):
 def clauses(files):
     """Where a function for C promises something else than the library's function of its name, or one of the two is missing."""
     ours, theirs = promised(files, LIBRARIES), promised(files, CRATES)
-    return [f'{name}: {" and ".join(CRATES)} say `{theirs.get(name, "nothing")}`, and the library says `{ours.get(name, "nothing")}`'
+    return [f'{name}: for C `{theirs.get(name, "nothing")}`, and in the library `{ours.get(name, "nothing")}`'
             for name in sorted(ours.keys() | theirs.keys()) if ours.get(name) != theirs.get(name)]
 
 

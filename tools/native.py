@@ -1,25 +1,25 @@
 #!/usr/bin/env python3
-"""Builds what users link and run, of what rt proved: the archives for this machine and for the other one of the two, and the programs.
+"""Builds what users link and run, of what rt proved: archives for this machine and for the other one of the two, and programs.
 
-  native.py machine [MACHINE]         prints the name of this machine, or that name; refuses one for which nothing is built
-  native.py programs [NAME..]         proves programs and what they need, and writes target/bin/NAME; all four where none is named
-  native.py program NAME MACHINE      the same for the other machine, by its gcc (MACHINE-linux-gnu-gcc): target/MACHINE/NAME
-  native.py archive NAME [MACHINE]    proves the archive of the library NAME and what it needs, and writes target/staticlib/libNAME.a and its
-                                      LLVM module, target/module/NAME.bc; for the other machine target/MACHINE/libNAME.a
-  native.py module NAME               writes target/module/NAME.bc if it isn't there
-  native.py proved                    the same archives and programs over what `rt ci` has just proved in this folder: the gate
-  native.py sources                   prints a checksum of the crates, by which the gate says in RIME_PROVED what `rt ci` has proved
+  native.py machine [MACHINE]        prints the name of this machine, or that name; refuses one for which nothing is built
+  native.py programs [NAME..]        proves programs, all four where none is named, and what they need: target/bin/NAME
+  native.py program NAME MACHINE     the same for the other machine, by its gcc (MACHINE-linux-gnu-gcc): target/MACHINE/NAME
+  native.py archive NAME [MACHINE]   proves the archive of the library NAME and what it needs: target/staticlib/libNAME.a, and its
+                                     LLVM module, target/module/NAME.bc; for the other machine target/MACHINE/libNAME.a
+  native.py module NAME              writes target/module/NAME.bc if it isn't there
+  native.py proved                   the same archives and programs over what `rt ci` has just proved in this folder: the gate
+  native.py sources                  prints a checksum of the crates; in RIME_PROVED the gate says by it what `rt ci` has proved
   native.py build MODULE FILE [MACHINE]
-                                      builds an archive if FILE ends in .a, else a program, of a module that needn't be proved
-                                      (tools/quick_face.py, tools/quick.py)
+                                     builds an archive if FILE ends in .a, else a program, of a module that needn't be proved
+                                     (tools/quick_face.py, tools/quick.py)
 
-An archive is that of a crate of its own, NAME_c, with a function for C for each call. `rattle build` proves that crate over the libraries
-that rt proved, and compiles it: it builds nothing that isn't proved. It is called here and not by rt for three reasons: rt's `rt lib`
-compiles for newer x86-64 processors alone, it keeps no LLVM module, and after `rt ci`, which leaves only the statements of the libraries
-that it proved, it would prove all of these once more.
+An archive is that of a crate of its own, NAME_c, with a function for C for each call. `rattle build` proves that crate over the
+libraries that rt proved, and compiles it: it builds nothing that isn't proved. It is called here and not by rt for three
+reasons: `rt lib` compiles for newer x86-64 processors alone, it keeps no LLVM module, and after `rt ci`, which leaves only the
+statements of the libraries that it proved, it would prove all of these once more.
 
-The module comes of a folder of links to the toolchain's tools, in which clang is a script: it calls clang as rattle asks, and keeps the module
-and the object that came of it. The object has to be the one in the archive.
+The module comes of a folder of links to the toolchain's tools, in which clang is a script: it calls clang as rattle asks, and
+keeps the module and the object that came of it. The object has to be the one in the archive.
 """
 import functools
 import hashlib
@@ -41,8 +41,8 @@ MACHINE = platform.machine()
 LIBRARIES = ('rimesatchel', 'management')
 PROGRAMS = ('linelist', 'anything', 'salvage', 'sheet')
 
-# The machines that there is code for, and the processors that rattle compiles for there: all of them. A third machine isn't added by a
-# line here: LINKING.md, "Platforms".
+# The machines that there is code for, and the processors that rattle compiles for there: all of them. A third machine isn't added
+# by a line here: LINKING.md, "Platforms".
 CPU = {'x86_64': 'x86-64', 'aarch64': 'generic'}
 NARROW = re.compile(r'i[3-6]86|x86|x32|arm|arm(v[4-8]|hf|el|eb).*|riscv32|ppc|powerpc|mips|mipsel|s390|wasm32')
 
@@ -52,10 +52,10 @@ for word in ('-trap-unreachable', '-no-trap-after-noreturn', '-no-x86-call-frame
              '-disable-postra-machine-licm', '-sink-common-insts=false'):
     AS_RATTLE += ['-mllvm', word]
 
-# The C functions that take and give the same on every Linux of 64 bits. One with a struct, as fstat, might not; of open the programs use no
-# flag that has another number elsewhere.
-ALIKE = {'memcpy', 'memmove', 'memset', 'read', 'write', 'open', 'close', 'isatty', '__sysv_signal', '__xpg_strerror_r', 'rattle_arg',
-         'rattle_arg_count', 'rattle_errno', 'rattle_set_errno'}
+# The C functions that take and give the same on every Linux of 64 bits. One with a struct, as fstat, might not; of open the
+# programs use no flag that has another number elsewhere.
+ALIKE = {'memcpy', 'memmove', 'memset', 'read', 'write', 'open', 'close', 'isatty', '__sysv_signal', '__xpg_strerror_r',
+         'rattle_arg', 'rattle_arg_count', 'rattle_errno', 'rattle_set_errno'}
 
 
 def known(machine):
@@ -129,7 +129,8 @@ def sources():
 
 @functools.cache
 def by_ci(name):
-    """Whether the libraries below a crate stand as `rt ci` has just proved them, by .ci/run. Those that an rt by hand builds have a stamp."""
+    """Whether .ci/run says that the libraries below a crate stand as `rt ci` has just proved them. Those of an rt by hand have a
+    stamp."""
     rlibs = [(ROOT / 'crates' / crate / 'out' / 'rlib', crate) for crate in below(name)]
     return os.environ.get('RIME_PROVED') == sources() and all(
         (rlib / f'{crate}.rlib').is_dir() and not (rlib / 'stamp').exists() for rlib, crate in rlibs)
@@ -153,16 +154,16 @@ def by_rattle(name, machine, out, toolchain):
         words += ['--extern', f'{crate}={rlibs}/{crate}.rlib']
     for rlibs in [kit() / 'rlibs', *(ROOT / 'crates' / crate / 'out' / 'rlib' for crate in below(name))]:
         words += ['-L', f'dependency={rlibs}']
-    words += ['--antt-project', kit() / 'rattle' / 'logic' / 'antt-project.json', '--logic-built', kit() / 'logic_built', '--links', f'{name}=']
+    words += ['--antt-project', kit() / 'rattle' / 'logic' / 'antt-project.json', '--logic-built', kit() / 'logic_built']
     words += ['--crate-type', 'staticlib'] if 'staticlib' in kind else []
     if not by_ci(name):
         # what rt keeps for its next check
         (folder / 'out').mkdir(exist_ok=True)
         words += ['--incremental', 'out/incremental']
-    words += ['--target', f'{machine}-unknown-linux-gnu', '--cpu', CPU[machine], '--jobs', str(min(4, len(os.sched_getaffinity(0))))]
+    words += ['--links', f'{name}=', '--jobs', str(min(4, len(os.sched_getaffinity(0))))]
+    words += ['--target', f'{machine}-unknown-linux-gnu', '--cpu', CPU[machine], '--toolchain', toolchain, '-o', out]
     sys.stdout.flush()
-    ran = subprocess.run([*words, '--toolchain', toolchain, '-o', out], cwd=folder, stdin=subprocess.DEVNULL, stderr=subprocess.STDOUT,
-                         check=False)
+    ran = subprocess.run(words, cwd=folder, stdin=subprocess.DEVNULL, stderr=subprocess.STDOUT, check=False)
     if ran.returncode:
         sys.exit(f'native: {name} is not proved, or not built')
 
@@ -253,8 +254,9 @@ def program(name, machine=MACHINE):
 def link(code, made, machine=MACHINE):
     """A program of an object: with the toolchain's own C code, which there is for x86-64, or with native_os.c in its place."""
     if machine == 'x86_64':
-        subprocess.run([kit() / 'bin' / 'rattle-link', '--target', 'x86_64-unknown-linux-gnu', '--toolchain', kit() / 'toolchain', '-o', made, code,
-                        kit() / 'c' / 'libos_c.a', kit() / 'c' / 'liblibc_c.a'], stderr=subprocess.DEVNULL, check=True)
+        c_code = [kit() / 'c' / name for name in ('libos_c.a', 'liblibc_c.a')]
+        subprocess.run([kit() / 'bin' / 'rattle-link', '--target', 'x86_64-unknown-linux-gnu', '--toolchain', kit() / 'toolchain',
+                        '-o', made, code, *c_code], stderr=subprocess.DEVNULL, check=True)
         return
     calls_alike(code)
     gcc = 'gcc' if machine == MACHINE else f'{machine}-linux-gnu-gcc'
@@ -271,8 +273,8 @@ def build(module, file, machine=MACHINE):
         # an archive's object has the crate's name
         text, code, made = (pathlib.Path(folder) / part for part in ('module.ll', f'{file.stem.removeprefix("lib")}.o', 'made'))
         text.write_text(re.sub(r' "target-cpu"="[^"]*"', '', words), encoding='utf-8')
-        subprocess.run([tool('clang'), f'--target={machine}-unknown-linux-gnu', '--no-default-config', '-Werror', '-Wno-override-module',
-                        '-x', 'ir', *AS_RATTLE, '-c', text, '-o', code], check=True)
+        subprocess.run([tool('clang'), f'--target={machine}-unknown-linux-gnu', '--no-default-config', '-Werror',
+                        '-Wno-override-module', '-x', 'ir', *AS_RATTLE, '-c', text, '-o', code], check=True)
         if file.suffix == '.a':
             calls_alike(code)
             subprocess.run([tool('llvm-ar'), 'rcsD', made, code], check=True)

@@ -3,8 +3,8 @@
 
 usage: quick_face.py [LIBRARY]      writes target/quick/lib/libLIBRARY.a; without a name librimesatchel.a
 
-The toolchain compiles only a program without proof (tools/quick.py), and a program exports nothing. So the face's functions become a
-program that calls each once, and functions for C are added to its LLVM module. The module with them is target/quick/face.ll.
+The toolchain compiles only a program without proof (tools/quick.py), and a program exports nothing. So the face's functions
+become a program that calls each once, and functions for C are added to its LLVM module: target/quick/face.ll.
 """
 import pathlib
 import re

@@ -1,5 +1,5 @@
-/* A product of 128 bits, which WebAssembly lacks: the checks of a library that isn't proved multiply so (make page-quick). Where nothing
- * calls it, the linker leaves it out. */
+/* A product of 128 bits, which WebAssembly lacks: the checks of a library that isn't proved multiply so (make page-quick). Where
+ * nothing calls it, the linker leaves it out. */
 typedef unsigned long long word;
 
 void __multi3(word *out, word a, word a_high, word b, word b_high)

@@ -5,9 +5,9 @@
   run.py --prove [CRATE...]  what the prover says of the same edits: of those in a library it refuses each that changes an answer;
                              of those in a program it takes most, since no promise speaks of what a program reads and writes
 
-An edit has the format of a mutant (tests/mutants/README.md). The crates are copied to a folder of their own, among the temporary files.
-What it changes is changed there, the programs that use the crate are built, and the scripts of tests/gate that try programs run until one
-fails.
+An edit has the format of a mutant (tests/mutants/README.md). The crates are copied to a folder of their own, among the temporary
+files. What it changes is changed there, the programs that use the crate are built, and the scripts of tests/gate that try programs
+run until one fails.
 """
 import os
 import pathlib
@@ -48,8 +48,8 @@ def copied(scratch):
 
 def built(program, scratch):
     """Builds a program of the copy without proof; says what went wrong, or nothing."""
-    ran = subprocess.run([sys.executable, 'tools/quick.py', program], cwd=scratch, stdin=subprocess.DEVNULL, capture_output=True, text=True,
-                         check=False)
+    ran = subprocess.run([sys.executable, 'tools/quick.py', program], cwd=scratch, stdin=subprocess.DEVNULL, capture_output=True,
+                         text=True, check=False)
     made = scratch / 'target' / 'quick' / program
     if ran.returncode or not made.exists():
         said = [line for line in (ran.stdout + ran.stderr).split('\n') if line.strip()]
@@ -103,7 +103,8 @@ def try_edits(crates):
             programs = programs_of(crate)
             said = next(filter(None, (built(program, scratch) for program in programs)), '') or stopped_by(programs, scratch)
             stopped, passed = stopped + bool(said), passed + (not said)
-            print(f'{"stopped" if said else "NOT STOPPED":12} {crate}/{edit.stem}: {mutants.what_is_wrong(edit)} ({said})', flush=True)
+            wrong = mutants.what_is_wrong(edit)
+            print(f'{"stopped" if said else "NOT STOPPED":12} {crate}/{edit.stem}: {wrong} ({said})', flush=True)
     print(f'edits: {stopped} stopped, {passed} not')
     return not passed
 

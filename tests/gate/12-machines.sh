@@ -1,7 +1,8 @@
 #!/usr/bin/env bash
 # The archives of both machines are of crates that are proved, and answer alike. The vectors and some of the comparison are run
 # over each by calls with dirt above every narrow number, which no caller has to clear (tests/machines); that of the other machine
-# runs by an emulator, where one is there, and so do the programs, where its gcc is there. And what tools/native.py must refuse, it refuses.
+# runs by an emulator, where one is there, and so do the programs, where its gcc is there. And what tools/native.py must refuse, it
+# refuses.
 set -eu -o pipefail
 export LC_ALL=C
 machine=$(python3 tools/native.py machine)
@@ -73,7 +74,8 @@ fi
 
 # The programs for the other machine print what those of this one do.
 if [ -z "$emulator" ] || [ "$other" = x86_64 ] || ! command -v "$other-linux-gnu-gcc" > /dev/null; then
-    echo "machines: the programs for $other were not tried: that takes qemu-$other and $other-linux-gnu-gcc (Debian's qemu-user, gcc-aarch64-linux-gnu)"
+    echo "machines: the programs for $other were not tried: that takes qemu-$other and $other-linux-gnu-gcc (Debian's qemu-user," \
+        "gcc-aarch64-linux-gnu)"
     exit 0
 fi
 make --no-print-directory programs "TARGET=$other"
@@ -83,7 +85,8 @@ for program in linelist anything salvage sheet; do
     for log in examples/reading.log "$work/long" "$work/none" "$work/nosuch" "$work" --help; do
         "target/bin/$program" "$log" > "$work/ours" 2> "$work/ours.said"
         "$emulator" -L "/usr/$other-linux-gnu" "target/$other/$program" "$log" > "$work/theirs" 2> "$work/theirs.said"
-        cmp "$work/ours" "$work/theirs" && cmp "$work/ours.said" "$work/theirs.said" || fail "$program for $other, $log: it prints something else"
+        cmp "$work/ours" "$work/theirs" && cmp "$work/ours.said" "$work/theirs.said" ||
+            fail "$program for $other, $log: it prints something else"
     done
 done
 echo "machines: $other, by ${emulator##*/}: the four programs print what those of this machine print"

@@ -6,9 +6,9 @@
   run.py --applies      only see that each edit, those of tests/edits and the must-fail edits too, still fits the file that it changes:
                         the gate
 
-The crates are copied to a folder of their own, among the temporary files, with the mutants in the place of their must-fail edits;
-`rt must-fail` tries them there. In this folder they couldn't lie: `rt ci` refuses one with crates that crates.txt doesn't name. Joint edits
-of different crates are tried together, in one copy.
+The crates are copied to a folder of their own, among the temporary files, with the mutants in the place of their must-fail
+edits; `rt must-fail` tries them there. Here they couldn't lie: `rt ci` refuses a folder with crates that crates.txt doesn't name.
+Joint edits of different crates are tried together, in one copy.
 """
 import contextlib
 import os
@@ -86,8 +86,8 @@ def rounds_of(crates):
 
 
 def refused_in(scratch, crate):
-    """Proves a crate of the copy and what it needs; gives the statements, as `CRATE/FILE LEMMA`, and the functions that are refused, or
-    none if it is proved."""
+    """Proves a crate of the copy and what it needs; gives the statements, as `CRATE/FILE LEMMA`, and the functions that are refused,
+    or none if it is proved."""
     run = subprocess.run(['rt', 'check'], cwd=scratch / 'crates' / crate, stdin=subprocess.DEVNULL, stdout=subprocess.PIPE,
                          stderr=subprocess.STDOUT, text=True, errors='replace', check=False)
     lower = re.search(r'^rt: the library (\w+) did not build', run.stdout, re.M)
@@ -152,8 +152,8 @@ def check_edits():
 
 @contextlib.contextmanager
 def copied(crates):
-    """A copy of the repository's crates, with mutants in the place of must-fail edits. rt begins there with what it kept of the same crates
-    elsewhere on this machine."""
+    """A copy of the repository's crates, with mutants in the place of must-fail edits. rt begins there with what it kept of the same
+    crates elsewhere on this machine."""
     with tempfile.TemporaryDirectory(prefix='rimesatchel-') as folder:
         scratch = pathlib.Path(folder)
         shutil.copytree(ROOT / 'crates', scratch / 'crates', ignore=shutil.ignore_patterns('must-fail', 'out'))
@@ -179,8 +179,8 @@ def try_mutants(crates):
     """Runs `rt must-fail`, and prints a line for each mutant; says whether all were refused."""
     refused = survived = 0
     with copied(crates) as scratch:
-        process = subprocess.Popen(['rt', 'must-fail', *crates], cwd=scratch, stdin=subprocess.DEVNULL, stdout=subprocess.PIPE, text=True,
-                                   errors='replace', env={'RT_JOBS': AT_A_TIME, **os.environ})
+        process = subprocess.Popen(['rt', 'must-fail', *crates], cwd=scratch, stdin=subprocess.DEVNULL, stdout=subprocess.PIPE,
+                                   text=True, errors='replace', env={'RT_JOBS': AT_A_TIME, **os.environ})
         for line in process.stdout:
             said = re.match(r'rt: must-fail (\S+)\.edit: (refused|NOT REFUSED|BAD EDIT|NOT TRIED)(.*)', line)
             if said:
