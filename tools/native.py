@@ -122,7 +122,7 @@ def sources():
     total = hashlib.sha256((ROOT / 'crates.txt').read_bytes())
     for path in sorted((ROOT / 'crates').rglob('*')):
         inside = path.relative_to(ROOT)
-        if path.is_file() and inside.parts[2] != 'out':
+        if path.is_file() and inside.parts[2:3] != ('out',):
             total.update(f'{inside} {path.stat().st_size}\n'.encode() + path.read_bytes())
     return total.hexdigest()
 
