@@ -11,7 +11,7 @@ use lib.ListN.{length, get_or, get_or-eq_default}
 use Rattle.runs.proofs.Laws.{split}
 use Rattle.cell_log.specs.declared.Number.{Number}
 use Rattle.cell_log.specs.Code.{behind, number_within}
-use Rattle.cell_log.specs.Numbers.{groups_at, is_cut_lem, is_long, is_padded, value_at, number, no_number_of, number_at}
+use Rattle.cell_log.specs.Numbers.{groups_at, is_cut, is_long, is_padded, value_at, number, no_number_of, number_at}
 use Rattle.cell_log.proofs.Laws.{number_none, number_cut, number_whole, number_more}
 
 behind_none : (group : ℕ) {more : Number} → more ≡ no_number_of → behind group more ≡ no_number_of
@@ -29,23 +29,23 @@ behind_some group next {value} some = rw (ne_eqb value 0 some)
 module _ (log : List ℕ) (at : ℕ) where
   -- what a number is, by how many groups it has
   module _ {groups : ℕ} (many : groups_at log at ≡ groups) where
-    is_cut : length log < at + groups → number_at log at ≡ no_number_of
-    unfolding number_at is_cut_lem
-    is_cut h = rw (many, lt-ltb (length log) (at + groups) h)
+    is_cut_lem : length log < at + groups → number_at log at ≡ no_number_of
+    unfolding number_at is_cut
+    is_cut_lem h = rw (many, lt-ltb (length log) (at + groups) h)
 
     is_long_lem : 3 < groups → number_at log at ≡ no_number_of
     unfolding number_at is_long
-    is_long_lem h = split (is_cut_lem log at) (λ e. rw e) (λ e. rw (e, many, lt-ltb 3 groups h))
+    is_long_lem h = split (is_cut log at) (λ e. rw e) (λ e. rw (e, many, lt-ltb 3 groups h))
 
     is_padded_lem : 1 < groups → get_or log (at + groups - 1) 0 ≡ 0 → number_at log at ≡ no_number_of
     unfolding number_at is_padded
     is_padded_lem h last =
-        split (is_cut_lem log at) (λ e. rw e) (λ e.
+        split (is_cut log at) (λ e. rw e) (λ e.
         split (is_long log at) (λ f. rw (e, f)) (λ f. rw (e, f, many, lt-ltb 1 groups h, last)))
 
     is_whole : at + groups ≤ length log → groups ≤ 3 → ltb 1 groups && eqb (get_or log (at + groups - 1) 0) 0 ≡ false
         → number_at log at ≡ number (value_at groups log at) (at + groups)
-    unfolding number_at is_cut_lem is_long is_padded
+    unfolding number_at is_cut is_long is_padded
     is_whole h few shortest = rw (many, le-ltb (length log) (at + groups) h, le-ltb 3 groups few, shortest)
 
   one : get_or log at 0 < 128 → groups_at log at ≡ 1
@@ -132,18 +132,18 @@ module _ (log : List ℕ) (at : ℕ) where
 
       agree_cut_2 : length log ≤ at + 2 → number_at log at ≡ number_within 3 log at
       agree_cut_2 end =
-          is_cut (three more more₁ (none_past 2 end)) (omega arith)
+          is_cut_lem (three more more₁ (none_past 2 end)) (omega arith)
           ∙ sym (behind_none (get_or log at 0) (behind_none (get_or log (at + 1) 0) refl)) ∙ behind_2 (number_cut 1 log (at + 2) end)
 
     agree_cut_1 : length log ≤ at + 1 → number_at log at ≡ number_within 3 log at
     agree_cut_1 end =
-        is_cut (two more (none_past 1 end)) (omega arith)
+        is_cut_lem (two more (none_past 1 end)) (omega arith)
         ∙ sym (behind_none (get_or log at 0) refl) ∙ behind_1 (number_cut 2 log (at + 1) end)
 
   agree_cut : length log ≤ at → number_at log at ≡ number_within 3 log at
   agree_cut end =
       let past : get_or log at 0 < 128 = rw (get_or-eq_default log 0 end) (omega arith) in
-      is_cut (one past) (omega arith) ∙ sym (number_cut 3 log at end)
+      is_cut_lem (one past) (omega arith) ∙ sym (number_cut 3 log at end)
 
   -- inside the log or past its end, and one group or more
   group_cases : (k : ℕ) {P : Type 0} → (length log ≤ k → P) → (k < length log → get_or log k 0 < 128 → P)

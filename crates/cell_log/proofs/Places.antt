@@ -9,7 +9,7 @@ use lib.Dec.{eqb, leb, ltb}
 use lib.ListN.{length, get_or, take, drop}
 use Rattle.cell_log.specs.declared.Record.{Record}
 use Rattle.cell_log.specs.Code.{from}
-use Rattle.cell_log.specs.Records.{record_at, end_at, no_record_lem, place_after, cell_at}
+use Rattle.cell_log.specs.Records.{record_at, end_at, no_record, place_after, cell_at}
 use Rattle.runs.proofs.Laws.{split}
 
 module _ (log : List ℕ) (place : ℕ) where
@@ -17,11 +17,11 @@ module _ (log : List ℕ) (place : ℕ) where
   unfolding record_at
   record_end h = rw (le-leb (length log) place h)
 
-  pub record_11 : place < length log → 1 < get_or log place 0 → record_at log place ≡ no_record_lem 11
+  pub record_11 : place < length log → 1 < get_or log place 0 → record_at log place ≡ no_record 11
   unfolding record_at
   record_11 h large = rw (lt-leb (length log) place h, lt-ltb 1 (get_or log place 0) large)
 
-  pub record_12 : place < length log → get_or log place 0 ≤ 1 → length log < place + 49 → record_at log place ≡ no_record_lem 12
+  pub record_12 : place < length log → get_or log place 0 ≤ 1 → length log < place + 49 → record_at log place ≡ no_record 12
   unfolding record_at
   record_12 h small cut =
       rw (lt-leb (length log) place h, le-ltb 1 (get_or log place 0) small, lt-ltb (length log) (place + 49) cut)
@@ -38,8 +38,8 @@ module _ (log : List ℕ) (place : ℕ) where
   -- what a record can be
   pub record_cases : (P : Record → Type 0)
       → (length log ≤ place → P (end_at place))
-      → (place < length log → 1 < get_or log place 0 → P (no_record_lem 11))
-      → (place < length log → get_or log place 0 ≤ 1 → length log < place + 49 → P (no_record_lem 12))
+      → (place < length log → 1 < get_or log place 0 → P (no_record 11))
+      → (place < length log → get_or log place 0 ≤ 1 → length log < place + 49 → P (no_record 12))
       → (get_or log place 0 ≤ 1 → place + 49 ≤ length log → P found)
       → P (record_at log place)
   record_cases P ends eleven twelve cell =

@@ -8,7 +8,7 @@ use borrow.Author.Tests.{ne_eqb, eqb-true}
 use lib.Dec.{eqb}
 use Rattle.runs.proofs.Laws.{split}
 use Rattle.cell_log.specs.declared.keep.Kept.{Kept}
-use Rattle.cell_log.specs.Numbers.{is_cut_lem, is_long, is_padded, number_at}
+use Rattle.cell_log.specs.Numbers.{is_cut, is_long, is_padded, number_at}
 use Rattle.cell_log.specs.Records.{header_refusal, header_of_numbers, header_of, second_number, third_number, record_at, place_after, cell_at}
 use Rattle.cell_log.specs.Written.{Keeps}
 use Rattle.cell_log.proofs.Places.{record_cases}
@@ -19,7 +19,7 @@ module _ (log : List ℕ) (place : ℕ) where
       → ((number_at log place).refusal ≡ 11) × ((number_at log place).value ≡ 0) × ((number_at log place).next ≡ 0)
   unfolding number_at
   refused_number some =
-      split (is_cut_lem log place || (is_long log place || is_padded log place))
+      split (is_cut log place || (is_long log place || is_padded log place))
       (λ e. rw e (refl, refl, refl)) (λ e. absurd (some (rw e)))
 
   -- `read_record`, `reader::read` and the reader's own

@@ -22,7 +22,7 @@ use Rattle.cell_log.specs.declared.Header.{Header}
 use Rattle.cell_log.specs.declared.Record.{Record}
 use Rattle.cell_log.specs.declared.keep.Kept.{Kept}
 use Rattle.cell_log.specs.declared.reader.Reader.{Reader}
-use Rattle.cell_log.specs.Numbers.{groups_at, is_cut_lem, is_long, is_padded, value_at, number_at, groups_of}
+use Rattle.cell_log.specs.Numbers.{groups_at, is_cut, is_long, is_padded, value_at, number_at, groups_of}
 use Rattle.cell_log.specs.Records.{header_refusal, header_of_numbers, header_of, record_at, place_after, cell_at}
 use Rattle.cell_log.specs.Written.{number_refusal, header_refused_of, record_refusal}
 use Rattle.cell_log.proofs.One.{NewEnsures, RecordEnsures, CellEnsures, PastEnsures, ReadEnsures}
@@ -45,7 +45,7 @@ use Rattle.cell_log.proofs.keep.write_record.Reads as write-record-reads
 
 -- every definition on the way down to the numbers: of numbers, and of all else
 unfoldable numbers_unfolded : Unit {0}
-unfolding groups_at is_cut_lem is_long is_padded value_at number_at groups_of number_refusal
+unfolding groups_at is_cut is_long is_padded value_at number_at groups_of number_refusal
 numbers_unfolded = tt
 
 unfoldable pub unfolded : Unit {0}

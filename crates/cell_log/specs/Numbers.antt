@@ -10,8 +10,8 @@ groups_at log at =
     cond (ltb (get_or log at 0) 128) 1 (cond (ltb (get_or log (at + 1) 0) 128) 2 (cond (ltb (get_or log (at + 2) 0) 128) 3 4))
 
 -- "cut": the log ends before the last group
-unfoldable pub is_cut_lem : List ℕ → ℕ → Bool
-is_cut_lem log at = ltb (length log) (at + groups_at log at)
+unfoldable pub is_cut : List ℕ → ℕ → Bool
+is_cut log at = ltb (length log) (at + groups_at log at)
 
 -- "over three groups"
 unfoldable pub is_long : List ℕ → ℕ → Bool
@@ -41,7 +41,7 @@ no_number_of = record { refusal = 11; value = 0; next = 0 }
 -- the number at a place, and the place after it; 11 for "a log number not shortest, over three groups or cut"
 unfoldable pub number_at : List ℕ → ℕ → Number
 number_at log at =
-    cond (is_cut_lem log at || (is_long log at || is_padded log at)) no_number_of
+    cond (is_cut log at || (is_long log at || is_padded log at)) no_number_of
     (number (value_at (groups_at log at) log at) (at + groups_at log at))
 
 -- a number's shortest form, where so many groups hold it

@@ -37,15 +37,15 @@ header_of log = header_of_numbers (number_at log 0) (second_number log) (third_n
 abbrev pub end_at : ℕ → Record
 end_at place = record { refusal = 0; what = 0; indication = false; start = 0; next = place }
 
-abbrev pub no_record_lem : ℕ → Record
-no_record_lem refusal = record { refusal = refusal; what = 0; indication = false; start = 0; next = 0 }
+abbrev pub no_record : ℕ → Record
+no_record refusal = record { refusal = refusal; what = 0; indication = false; start = 0; next = 0 }
 
 -- "per cell: the indication, 0 or 1, and 48 octets": 11 for "an indication above 1", 12 for "a record cut before its 48 octets end"
 unfoldable pub record_at : List ℕ → ℕ → Record
 record_at log place =
     cond (leb (length log) place) (end_at place)
-    (cond (ltb 1 (get_or log place 0)) (no_record_lem 11)
-    (cond (ltb (length log) (place + 49)) (no_record_lem 12)
+    (cond (ltb 1 (get_or log place 0)) (no_record 11)
+    (cond (ltb (length log) (place + 49)) (no_record 12)
     (record { refusal = 0; what = 1; indication = eqb (get_or log place 0) 1; start = place + 1; next = place + 49 })))
 
 -- where a reader stands after a record: past a cell, and else where it stood

@@ -4,7 +4,7 @@
 ghost use Rattle.std.specs.Prelude.{◌≡◌, ◌<◌, ◌≤◌};
 ghost use Rattle.cell_log.specs.Code.{number_within, behind, from};
 ghost use Rattle.cell_log.specs.Numbers.{number_at, no_number_of};
-ghost use Rattle.cell_log.specs.Records.{header_of, no_header, record_at, no_record_lem, place_after, cell_at};
+ghost use Rattle.cell_log.specs.Records.{header_of, no_header, record_at, no_record, place_after, cell_at};
 
 pub mod keep; // keep.rt: writing a log
 pub mod reader; // reader.rt: the reader that holds a lent log and a place
@@ -143,7 +143,7 @@ pub fn read_header(log: &[u8]) -> Header
 }
 
 fn no_record(refusal: u8) -> Record
-    ensures { result ≡ no_record_lem refusal }
+    ensures { result ≡ no_record refusal }
 {
     Record {
         refusal,

@@ -85,12 +85,12 @@ unfolding is_among
 among_key [] n = refl
 among_key (x ∷ xs) n = ap (λ (b : Bool). eqb x n || b) (among_key xs n)
 
-not-true : (b : Bool) → (T b → ⊥) → b ≡ false
-not-true true h = absurd (h tt)
-not-true false h = refl
+not_true : (b : Bool) → (T b → ⊥) → b ≡ false
+not_true true h = absurd (h tt)
+not_true false h = refl
 
 pub among_miss : (keys : List ℕ) (n : ℕ) → (OneOf keys n → ⊥) → is_among n keys ≡ false
-among_miss keys n none = sym (among_key keys n) ∙ not-true (has_key keys n) (λ t. none (hit keys n t))
+among_miss keys n none = sym (among_key keys n) ∙ not_true (has_key keys n) (λ t. none (hit keys n t))
 
 unfoldable pub below : ℕ → List ℕ → Bool
 below bound [] = true
@@ -413,7 +413,7 @@ module _ {set : Settled} (channels : ℕ) (given : set ≡ settings_of 0x56 (con
       let first = both_true (eqb octet 0x56) _ is in
       let next = both_true (eqb order 0) _ first.1 in
       let last = both_true (not (ltb channels 1)) _ next.1 in
-      let from : 1 ≤ channels = ltb-false channels 1 (Tests.not-true (ltb channels 1) last.0) in
+      let from : 1 ≤ channels = ltb-false channels 1 (Tests.not_true (ltb channels 1) last.0) in
       let to : channels < 3 = ltb-true channels 3 last.1 in
       let same : cond (eqb channels 2) 2 1 ≡ channels
       = split (eqb channels 2) (λ two. rw two (sym (eqb-true channels 2 two)))

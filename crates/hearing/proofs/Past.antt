@@ -23,7 +23,7 @@ use Rattle.reading.proofs.Totals.{total_joined}
 use Rattle.hearing.specs.declared.receiving.Batch.{Batch}
 use Rattle.hearing.specs.Judging.{all_from, stop_of}
 use Rattle.hearing.specs.Receiving.{fitting, samples_of, received_to, begun_as}
-use Rattle.hearing.specs.Steps.{stopped_as, one_if, needed_of, past_one_lem, past_all_lem, heard_at, Counted, Puts, Ready, Steps}
+use Rattle.hearing.specs.Steps.{stopped_as, one_if, needed_of, past_one, past_all, heard_at, Counted, Puts, Ready, Steps}
 use Rattle.hearing.proofs.Takes.{samples_long, ancillary_long, marks_long, sound_onward, used_onward, written_none}
 
 pub flat_joined : {A : Type 0} (f : A → List ℕ) (xs ys : List A) → flat_map f (xs ++ ys) ≡ flat_map f xs ++ flat_map f ys
@@ -45,7 +45,7 @@ fitting_past (h ∷ hs) rest room less =
     ∙ ap (λ (n : ℕ). h ∷ (hs ++ fitting n rest)) left)
 
 -- past records and more records
-pub past_twice : (b : Batch) (xs ys : List Heard) → past_all_lem (past_all_lem b xs) ys ≡ past_all_lem b (xs ++ ys)
+pub past_twice : (b : Batch) (xs ys : List Heard) → past_all (past_all b xs) ys ≡ past_all b (xs ++ ys)
 past_twice b xs ys =
     let n : b.next + 49 * length xs + 49 * length ys ≡ b.next + 49 * length (xs ++ ys) = omega (arith, length-append xs ys) in
     let e : b.entries + length (samples_of xs) + length (samples_of ys) ≡ b.entries + length (samples_of (xs ++ ys)) =
@@ -66,7 +66,7 @@ past_twice b xs ys =
       refused_20 = sum (λ h. cond (eqb h.answer.refusal 20) 1 0) b.refused_20 i;
     }
 
-pub past_none : (b : Batch) → b ≡ past_all_lem b []
+pub past_none : (b : Batch) → b ≡ past_all b []
 unfolding end_by flat_map total_of
 past_none b =
     let same : (k : ℕ) → k ≡ k + 0 = λ k. omega arith in
@@ -85,7 +85,7 @@ past_none b =
       refused_20 = same b.refused_20 i;
     }
 
-past_one_is : (b : Batch) (h : Heard) → past_one_lem b h.answer (length h.samples) ≡ past_all_lem b (h ∷ [])
+past_one_is : (b : Batch) (h : Heard) → past_one b h.answer (length h.samples) ≡ past_all b (h ∷ [])
 unfolding end_by flat_map total_of
 past_one_is b h =
     let one : (k n : ℕ) → k + n ≡ k + (n + 0) = λ k n. omega arith in
@@ -108,7 +108,7 @@ past_one_is b h =
 
 -- past records from the first on
 pub received_is : (st : Receiver) (log : List ℕ) (place : ℕ) (heard : List Heard)
-    → stopped_as (past_all_lem (begun_as 0 st place) heard) (stop_of (record_at log (place + 49 * length heard))) ≡ received_to st log place heard
+    → stopped_as (past_all (begun_as 0 st place) heard) (stop_of (record_at log (place + 49 * length heard))) ≡ received_to st log place heard
 received_is st log place heard =
     let e : 0 + length (samples_of heard) ≡ length (samples_of heard) = zero-add _ in
     let t : 0 + sound_in heard ≡ sound_in heard = zero-add _ in
@@ -165,13 +165,13 @@ module _ (b : Batch) (used : ℕ) (log samples ancillary marks : List ℕ) (read
       same_long column e = ap length (append-nil (column h)) ∙ e ∙ ap length (sym (append-nil h.samples))
 
       pub steps_on : entries ≤ length samples - b.entries → {r : Batch} {samples₁ ancillary₁ marks₁ : List ℕ}
-          → Puts (h ∷ []) b.entries samples ancillary marks samples₁ ancillary₁ marks₁ → r ≡ past_one_lem b got entries
+          → Puts (h ∷ []) b.entries samples ancillary marks samples₁ ancillary₁ marks₁ → r ≡ past_one b got entries
           → Steps b used log samples ancillary marks r samples₁ ancillary₁ marks₁
       unfolding flat_map
       steps_on room {r} puts r-is =
           let facts = cell_facts log b.next there in
-          let moved : r ≡ past_all_lem b (h ∷ []) =
-          r-is ∙ ap₂ (λ (g : Received) (k : ℕ). past_one_lem b g k) is entries_is ∙ past_one_is b h in
+          let moved : r ≡ past_all b (h ∷ []) =
+          r-is ∙ ap₂ (λ (g : Received) (k : ℕ). past_one b g k) is entries_is ∙ past_one_is b h in
           let state : r.state ≡ onward h = ap (λ (x : Batch). x.state) r-is ∙ ap (λ (g : Received). g.state) is in
           let next : r.next ≡ b.next + 49 = ap (λ (x : Batch). x.next) r-is in
           let few = missing_few b.state whole in
@@ -179,7 +179,7 @@ module _ (b : Batch) (used : ℕ) (log samples ancillary marks : List ℕ) (read
           record {
             new = h ∷ [];
             comes = comes_next b.state log b.next there ∙ (λ i. h ∷ all_from (sym state i) log (sym next i));
-            moves = moved ∙ ap (stopped_as (past_all_lem b (h ∷ []))) (sym (ap (λ (x : Batch). x.stop) moved));
+            moves = moved ∙ ap (stopped_as (past_all b (h ∷ []))) (sym (ap (λ (x : Batch). x.stop) moved));
             on = λ z. (omega arith, omega (arith, next, facts.0));
             full = λ z. absurd (z (ap (λ (x : Batch). x.stop) r-is ∙ ready.going));
             ancillary_long = same_long (λ (x : Heard). x.ancillary) (ancillary_long b.state whole ∙ sym (samples_long b.state whole));
@@ -205,14 +205,14 @@ module _ (b : Batch) (used : ℕ) (log samples ancillary marks : List ℕ) (read
       unfolding flat_map fitting end_by
       steps_full short {r} r-is =
           let stop : r.stop ≡ 10 = ap (λ (x : Batch). x.stop) r-is in
-          let moved : stopped_as b 10 ≡ stopped_as (past_all_lem b []) 10 = ap (λ (x : Batch). stopped_as x 10) (past_none b) in
+          let moved : stopped_as b 10 ≡ stopped_as (past_all b []) 10 = ap (λ (x : Batch). stopped_as x 10) (past_none b) in
           let none-fit : fitting (length samples - b.entries) (all_from b.state log b.next) ≡ [] =
           ap (fitting (length samples - b.entries)) (comes_next b.state log b.next there)
           ∙ rw (lt-leb (length h.samples) (length samples - b.entries) (omega (arith, entries_is, short))) in
           record {
             new = [];
             comes = λ i. all_from (sym r-is i).state log (sym r-is i).next;
-            moves = r-is ∙ moved ∙ ap (stopped_as (past_all_lem b [])) (sym stop);
+            moves = r-is ∙ moved ∙ ap (stopped_as (past_all b [])) (sym stop);
             on = λ z. absurd (omega (arith, stop, z));
             full = λ z. (
               stop,

@@ -18,7 +18,7 @@ use Rattle.reading.proofs.Places.{stop_at}
 use Rattle.hearing.specs.declared.receiving.Batch.{Batch}
 use Rattle.hearing.specs.Judging.{all_from, stop_of}
 use Rattle.hearing.specs.Receiving.{fitting, received_in, samples_of, ancillary_of, marks_of, received_to, begun_as, ReceivesOn}
-use Rattle.hearing.specs.Steps.{stopped_as, past_all_lem, Counted, Ready, Steps}
+use Rattle.hearing.specs.Steps.{stopped_as, past_all, Counted, Ready, Steps}
 use Rattle.hearing.proofs.Walks.{over_on}
 use Rattle.hearing.proofs.Past.{flat_joined, fitting_past, past_twice, past_none, received_is}
 
@@ -28,7 +28,7 @@ module _ (st : Receiver) (used : ℕ) (log : List ℕ) (place : ℕ) (samples₀
   pub record Stood (b : Batch) (samples ancillary marks : List ℕ) : Type 0 where
     pub done : List Heard
     pub all : all_from st log place ≡ done ++ all_from b.state log b.next
-    pub is : b ≡ stopped_as (past_all_lem (begun_as 0 st place) done) b.stop
+    pub is : b ≡ stopped_as (past_all (begun_as 0 st place) done) b.stop
     pub samples_out_lem : samples ≡ over (samples_of done) samples₀
     pub ancillary_out_lem : ancillary ≡ over (ancillary_of done) ancillary₀
     pub marks_out : marks ≡ over (marks_of done) marks₀
@@ -50,7 +50,7 @@ module _ (st : Receiver) (used : ℕ) (log : List ℕ) (place : ℕ) (samples₀
       record {
         done = [];
         all = λ i. all_from (sym b-is i).state log (sym b-is i).next;
-        is = b-is ∙ past_none (begun_as 0 st place) ∙ ap (stopped_as (past_all_lem (begun_as 0 st place) [])) (sym stop);
+        is = b-is ∙ past_none (begun_as 0 st place) ∙ ap (stopped_as (past_all (begun_as 0 st place) [])) (sym stop);
         samples_out_lem = refl;
         ancillary_out_lem = refl;
         marks_out = refl;
@@ -110,7 +110,7 @@ module _ (st : Receiver) (used : ℕ) (log : List ℕ) (place : ℕ) (samples₀
         ∙ ap₂ (λ (x y : ℕ). x + y) d n
         ∙ sym (length-append (samples_of s.done) (samples_of t.new))
         ∙ ap length (sym (flat_joined (λ (h : Heard). h.samples) s.done t.new)) in
-        let from : Batch = past_all_lem (begun_as 0 st place) s.done in
+        let from : Batch = past_all (begun_as 0 st place) s.done in
         let b-is : b ≡ from = s.is ∙ ap (stopped_as from) going in
         record {
           done = s.done ++ t.new;
@@ -120,7 +120,7 @@ module _ (st : Receiver) (used : ℕ) (log : List ℕ) (place : ℕ) (samples₀
               ∙ sym (append_assoc s.done t.new (all_from r.state log r.next));
           is =
               t.moves
-              ∙ ap (λ (x : Batch). stopped_as (past_all_lem x t.new) r.stop) b-is
+              ∙ ap (λ (x : Batch). stopped_as (past_all x t.new) r.stop) b-is
               ∙ ap (λ (x : Batch). stopped_as x r.stop) (past_twice (begun_as 0 st place) s.done t.new);
           samples_out_lem = columns (λ h. h.samples) (sym entries_are) samples₀ samples _ s.samples_out_lem t.puts.samples_are;
           ancillary_out_lem =
@@ -141,7 +141,7 @@ module _ (st : Receiver) (used : ℕ) (log : List ℕ) (place : ℕ) (samples₀
     ends : received_in st log place (length samples₀) ≡ s.done → {answer : Batch} → answer ≡ stopped_as b (stop_of (record_at log b.next))
         → ReceivesOn st log place samples₀ ancillary₀ marks₀ answer samples ancillary marks
     ends e {answer} a =
-        let from : Batch = past_all_lem (begun_as 0 st place) s.done in
+        let from : Batch = past_all (begun_as 0 st place) s.done in
         let there : stop_of (record_at log b.next) ≡ stop_of (record_at log (place + 49 * length s.done)) =
         ap (λ (x : Batch). stop_of (record_at log x.next)) s.is in
         let so : answer ≡ received_to st log place s.done =

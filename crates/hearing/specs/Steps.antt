@@ -35,8 +35,8 @@ abbrev pub needed_of : Received → ℕ → ℕ
 needed_of got used = cond (eqb got.refusal 0) ((got.missing + 1) * used) 0
 
 -- past a record that was answered so, with so many entries
-abbrev pub past_one_lem : Batch → Received → ℕ → Batch
-past_one_lem b got entries =
+abbrev pub past_one : Batch → Received → ℕ → Batch
+past_one b got entries =
     record {
       refusal = b.refusal;
       state = got.state;
@@ -52,8 +52,8 @@ past_one_lem b got entries =
     }
 
 -- past records
-abbrev pub past_all_lem : Batch → List Heard → Batch
-past_all_lem b heard =
+abbrev pub past_all : Batch → List Heard → Batch
+past_all b heard =
     record {
       refusal = b.refusal;
       state = end_of b.state heard;
@@ -101,7 +101,7 @@ pub record Ready (b : Batch) (used : ℕ) (log samples ancillary marks : List �
 pub record Steps (b : Batch) (used : ℕ) (log samples ancillary marks : List ℕ) (r : Batch) (samples₁ ancillary₁ marks₁ : List ℕ) : Type 0 where
   pub new : List Heard
   pub comes : all_from b.state log b.next ≡ new ++ all_from r.state log r.next
-  pub moves : r ≡ stopped_as (past_all_lem b new) r.stop
+  pub moves : r ≡ stopped_as (past_all b new) r.stop
   pub on : r.stop ≡ 0 → (1 ≤ length new) × (r.next ≤ length log)
   pub full : (r.stop ≡ 0 → ⊥) → (r.stop ≡ 10) × ((record_at log r.next).what ≡ 1) × (fitting (length samples - r.entries) (all_from r.state log r.next) ≡ [])
   pub ancillary_long : length (ancillary_of new) ≡ length (samples_of new)

@@ -3,7 +3,7 @@ ghost use Rattle.std.specs.Prelude.{[], ◌∷◌, ◌≡◌, ◌+◌, ◌*◌, 
 ghost use Rattle.cell_log.specs.Records.{record_at};
 ghost use Rattle.receiver.specs.Receiver.{state_refusal, used_now};
 ghost use Rattle.hearing.specs.Receiving.{begun_as, ReceivesOn, ReceivesLog};
-ghost use Rattle.hearing.specs.Steps.{stopped_as, one_if, needed_of, past_one_lem, heard_at, Counted, Puts, Ready, Steps};
+ghost use Rattle.hearing.specs.Steps.{stopped_as, one_if, needed_of, past_one, heard_at, Counted, Puts, Ready, Steps};
 
 use crate::states;
 use receiver::{Received, Receiver};
@@ -83,7 +83,7 @@ fn needed(got: Received, used: usize) -> usize
 // Past a record that was answered so, with so many entries.
 fn past_one(b: Batch, got: Received, entries: usize) -> Batch
     requires { Counted b × (b.next + 49 < 2 ^ 63) × (b.entries + entries < 2 ^ 64) }
-    ensures { result ≡ past_one_lem b got entries }
+    ensures { result ≡ past_one b got entries }
 {
     let taken = b.taken + one_if(got.refusal, 0);
     let refused_8 = b.refused_8 + one_if(got.refusal, 8);

@@ -12,7 +12,7 @@ use Rattle.sender.specs.declared.Sender.{Sender}
 use Rattle.sender.specs.Sender as S
 use Rattle.reading.specs.Totals.{Each}
 use Rattle.line.specs.Calls.{SendCall, MeetsSend, MeetsReceive}
-use Rattle.line.specs.Line.{Fate, unaltered, Fair, longest, wrote, arrivals, from_first_lem, all_lost, to_last, left_by, Demand3}
+use Rattle.line.specs.Line.{Fate, unaltered, Fair, longest, wrote, arrivals, from_first, all_lost, to_last, left_by, Demand3}
 use Rattle.line.proofs.Counts.{count_within}
 use Rattle.line.proofs.Examples.{studio, fresh, sending, trips, sends, receives, receives_in_a_row, honest_plays}
 use Rattle.line.proofs.Opened.{opened}
@@ -69,10 +69,10 @@ unfolding trips to_last all_lost
 past_all zero st = refl
 past_all (suc n) st = ap (λ (m : ℕ). suc m) (past_all n (sending st 1).answer.state)
 
-from_first : (n : ℕ) (st : Sender) → from_first_lem (trips st (all_unaltered n)) ≡ trips st (all_unaltered n)
-unfolding trips from_first_lem
-from_first zero st = refl
-from_first (suc n) st = refl
+from_first_lem : (n : ℕ) (st : Sender) → from_first (trips st (all_unaltered n)) ≡ trips st (all_unaltered n)
+unfolding trips from_first
+from_first_lem zero st = refl
+from_first_lem (suc n) st = refl
 
 pub at_most_so_many : (n : ℕ) → Demand3 3 14 n MeetsSend MeetsReceive → n ≤ 4294967295
 at_most_so_many n meets =
@@ -80,7 +80,7 @@ at_most_so_many n meets =
     let kept = honest_plays 3 14 n meets (all_unaltered n) (all_written n false 0 (omega arith))
     (subst (λ (m : ℕ). m ≤ n) (sym (as_many n studio)) (le_refl n)) (all_fair n studio) (none_lost n studio) in
     let counts : (left_by fresh calls).count ≡ n
-    = kept.counted ∙ ap (λ ts. length (to_last ts)) (from_first n studio) ∙ past_all n studio in
+    = kept.counted ∙ ap (λ ts. length (to_last ts)) (from_first_lem n studio) ∙ past_all n studio in
     let low : (left_by fresh calls).count ≤ 4294967295 = count_within fresh calls (omega arith) (receives_in_a_row fresh _) in
     subst (λ (m : ℕ). m ≤ 4294967295) counts low
 

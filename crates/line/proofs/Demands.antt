@@ -20,7 +20,7 @@ use Rattle.cell_log.specs.declared.Number.{Number}
 use Rattle.cell_log.specs.declared.Header.{Header}
 use Rattle.cell_log.specs.declared.Record.{Record}
 use Rattle.cell_log.specs.declared.keep.Kept.{Kept}
-use Rattle.cell_log.specs.Numbers.{is_cut_lem, is_long, is_padded, number_at}
+use Rattle.cell_log.specs.Numbers.{is_cut, is_long, is_padded, number_at}
 use Rattle.cell_log.specs.Records.{header_refusal, second_number, third_number}
 use Rattle.cell_log.specs.Written.{number_refusal, header_refused_of, record_refusal}
 use Rattle.presence.specs.declared.Presence.{Presence}
@@ -135,7 +135,7 @@ pub demand_1_status : (block : Block) (ancillary mark : ℕ) (r : Stepped) → M
 demand_1_status = steps
 
 pub demand_1_read_number : (log : List ℕ) (place : ℕ) (r : Number) → MeetsReadNumber log place r
-    → Refuses r.refusal (cond (is_cut_lem log place || (is_long log place || is_padded log place)) 11 0) ((r.value ≡ 0) × (r.next ≡ 0))
+    → Refuses r.refusal (cond (is_cut log place || (is_long log place || is_padded log place)) 11 0) ((r.value ≡ 0) × (r.next ≡ 0))
 demand_1_read_number = reads_number
 
 pub demand_1_read_header : (log : List ℕ) (r : Header) → MeetsReadHeader log r

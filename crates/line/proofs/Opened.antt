@@ -55,7 +55,7 @@ unfolding R.opened_of R.last_refused R.count_refused R.state_refusal R.lengths_r
 receiver = tt
 
 line : Unit {0}
-unfolding L.Row L.wrote L.longest L.places_of L.from_first_lem L.all_lost L.to_last L.left_by L.CountsCells L.Demand3
+unfolding L.Row L.wrote L.longest L.places_of L.from_first L.all_lost L.to_last L.left_by L.CountsCells L.Demand3
 line = tt
 
 losses : Unit {0}

@@ -28,7 +28,7 @@ use Rattle.line.specs.Line.{
   longest,
   Place,
   places_of,
-  from_first_lem,
+  from_first,
   all_lost,
   to_last,
   OverTheLine,
@@ -41,7 +41,7 @@ use Rattle.line.specs.Losses.{
   never,
   after,
   lost_since,
-  one_more_lem,
+  one_more,
   comes_round,
   story_from,
   taken_from,
@@ -57,7 +57,7 @@ use Rattle.line.proofs.Steps.{missing}
 unfoldable pub Between : ℕ → Since → List Trip → Type 0
 Between row since [] = Unit {0}
 Between row since (t ∷ ts) =
-    (is_lost t.fate ≡ true → Between row (one_more_lem since) ts)
+    (is_lost t.fate ≡ true → Between row (one_more since) ts)
     × (is_lost t.fate ≡ false → (lost_since since ≤ row) × Between row (after 0) ts)
 
 -- all cells of a row have as many places
@@ -130,8 +130,8 @@ shown_after used place k (t ∷ ts) alike between =
     ∙ append_assoc (replicate (k * used) missing) (places_of t) (flat_map places_of (to_last ts))))
 
 shown_places : (used place : ℕ) (ts : List Trip) → Alike used ts → Between 14 never ts
-    → flat_map places_with (taken_from place never ts) ≡ flat_map places_of (to_last (from_first_lem ts))
-unfolding story_from those Each Between from_first_lem all_lost to_last flat_map
+    → flat_map places_with (taken_from place never ts) ≡ flat_map places_of (to_last (from_first ts))
+unfolding story_from those Each Between from_first all_lost to_last flat_map
 shown_places used place [] alike between = refl
 shown_places used place (t ∷ ts) alike between =
     split (is_lost t.fate)
@@ -170,8 +170,8 @@ count_after_lem place k (t ∷ ts) between =
     rw (here, not_round (after k) few.0) (ap₂ (λ (a b : ℕ). suc a + b) (all_shown few.0) rest ∙ next))
 
 count_places : (place : ℕ) (ts : List Trip) → Between 14 never ts
-    → total_of cells_with (taken_from place never ts) ≡ length (to_last (from_first_lem ts))
-unfolding story_from those total_of Between from_first_lem to_last all_lost
+    → total_of cells_with (taken_from place never ts) ≡ length (to_last (from_first ts))
+unfolding story_from those total_of Between from_first to_last all_lost
 count_places place [] between = refl
 count_places place (t ∷ ts) between =
     split (is_lost t.fate)
@@ -202,7 +202,7 @@ refused_as_ever place since (t ∷ ts) between =
     (λ lost.
     rw lost
     (ap₂ (λ (x y : List ℕ). x ++ y) (as_lost (comes_round since) t.fate lost)
-    (refused_as_ever (suc place) (one_more_lem since) ts (between.0 lost))))
+    (refused_as_ever (suc place) (one_more since) ts (between.0 lost))))
     (λ here.
     let few = between.1 here in
     let turns = not_round since few.0 in
@@ -215,7 +215,7 @@ unfolding all_lost Between
 all_between row since [] e = tt
 all_between row since (t ∷ ts) e =
     let both = both_true (is_lost t.fate) (all_lost ts) e in
-    (λ lost. all_between row (one_more_lem since) ts both.1, λ here. absurd (true≢false (sym both.0 ∙ here)))
+    (λ lost. all_between row (one_more since) ts both.1, λ here. absurd (true≢false (sym both.0 ∙ here)))
 
 between_after : (row k : ℕ) (ts : List Trip) → longest k (to_last ts) ≤ row → Between row (after k) ts
 unfolding longest to_last all_lost Between
@@ -230,8 +230,8 @@ between_after row k (t ∷ ts) h = (
       (omega arith, between_after row 0 ts (omega arith)),
 )
 
-between : (row : ℕ) (ts : List Trip) → longest 0 (to_last (from_first_lem ts)) ≤ row → Between row never ts
-unfolding longest from_first_lem to_last all_lost Between
+between : (row : ℕ) (ts : List Trip) → longest 0 (to_last (from_first ts)) ≤ row → Between row never ts
+unfolding longest from_first to_last all_lost Between
 between row [] h = tt
 between row (t ∷ ts) h = (
   λ lost. between row ts (rw lost at h),
@@ -264,16 +264,16 @@ longest_to_last k (t ∷ ts) =
     (λ some. rw (lost, some, lost) (longest_to_last (suc k) ts)))
     (λ here. let less = longest_to_last 0 ts in rw (here, here) (omega arith))
 
-longest_from_first : (ts : List Trip) → longest 0 (from_first_lem ts) ≤ longest 0 ts
-unfolding longest from_first_lem
+longest_from_first : (ts : List Trip) → longest 0 (from_first ts) ≤ longest 0 ts
+unfolding longest from_first
 longest_from_first [] = le_refl 0
 longest_from_first (t ∷ ts) =
     split (is_lost t.fate)
     (λ lost. rw lost (le_trans (longest_from_first ts) (longest_more 0 ts)))
     (λ here. rw (here, here) (le_refl _))
 
-pub longest_inside : (ts : List Trip) → longest 0 (to_last (from_first_lem ts)) ≤ longest 0 ts
-longest_inside ts = le_trans (longest_to_last 0 (from_first_lem ts)) (longest_from_first ts)
+pub longest_inside : (ts : List Trip) → longest 0 (to_last (from_first ts)) ≤ longest 0 ts
+longest_inside ts = le_trans (longest_to_last 0 (from_first ts)) (longest_from_first ts)
 
 -- What the calls come to, whatever is lost.
 pub whatever : (longest-row : ℕ) → OverTheLine 3 longest-row 4294967295 MeetsSend MeetsReceive
@@ -296,7 +296,7 @@ pub record Inside (fresh : Receiver) (trips : List Trip) (receives : List Receiv
   pub refused_so : refusals receives ≡ flat_map (λ t. refusals_of t.fate) trips
 
 pub demand_3_inside : (longest-row : ℕ) → OverTheLine 3 longest-row 4294967295 MeetsSend MeetsReceive
-    (λ fresh trips receives. longest 0 (to_last (from_first_lem trips)) ≤ 14 → Inside fresh trips receives)
+    (λ fresh trips receives. longest 0 (to_last (from_first trips)) ≤ 14 → Inside fresh trips receives)
 demand_3_inside longest-row st sends trips receives with_overhead row these within fair few meets came room inside =
     let bounded = between 14 trips inside in
     let all = whatever longest-row st sends trips receives with_overhead row these within fair few meets came room in

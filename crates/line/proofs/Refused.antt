@@ -23,7 +23,7 @@ use Rattle.cell_log.specs.declared.Number.{Number}
 use Rattle.cell_log.specs.declared.Header.{Header}
 use Rattle.cell_log.specs.declared.Record.{Record}
 use Rattle.cell_log.specs.declared.keep.Kept.{Kept}
-use Rattle.cell_log.specs.Numbers.{is_cut_lem, is_long, is_padded, number_at}
+use Rattle.cell_log.specs.Numbers.{is_cut, is_long, is_padded, number_at}
 use Rattle.cell_log.specs.Records.{header_refusal, header_of_numbers, header_of, second_number, third_number, record_at}
 use Rattle.cell_log.specs.Written.{Keeps}
 use Rattle.cell_log.proofs.Refused.{refused_number, refused_header, refused_record, refused_cell, refused_place, keeps_refusal, refused_keeps}
@@ -113,11 +113,11 @@ steps block ancillary mark r meets =
 
 -- the refusals of a log's numbers and of its header
 abbrev number_table : List ℕ → ℕ → ℕ
-number_table log place = cond (is_cut_lem log place || (is_long log place || is_padded log place)) 11 0
+number_table log place = cond (is_cut log place || (is_long log place || is_padded log place)) 11 0
 
 number_table_lem : (log : List ℕ) (place : ℕ) → (number_at log place).refusal ≡ number_table log place
 unfolding number_at
-number_table_lem log place = split (is_cut_lem log place || (is_long log place || is_padded log place)) (λ e. rw e) (λ e. rw e)
+number_table_lem log place = split (is_cut log place || (is_long log place || is_padded log place)) (λ e. rw e) (λ e. rw e)
 
 pub reads_number : (log : List ℕ) (place : ℕ) (r : Number) → MeetsReadNumber log place r
     → Refuses r.refusal (number_table log place) ((r.value ≡ 0) × (r.next ≡ 0))

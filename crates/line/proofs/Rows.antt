@@ -49,7 +49,7 @@ use Rattle.line.specs.Losses.{
   never,
   after,
   lost_since,
-  one_more_lem,
+  one_more,
   comes_round,
   Told,
   is_taken,
@@ -201,7 +201,7 @@ placed_on : {left now before first : ℕ} (k rest : ℕ) → left ≡ now + rest
 placed_on k rest here there start = omega arith
 
 within_lost : (since : Since) (rc : Receiver) (t : Trip) (ts : List Trip) → Within rc since (t ∷ ts)
-    → Within rc (one_more_lem since) ts
+    → Within rc (one_more since) ts
 within_lost never rc t ts few = let less : rc.count + 0 + suc (length ts) ≤ 4294967295 = few in omega arith
 within_lost (after k) rc t ts few = let less : rc.count + k + suc (length ts) ≤ 4294967295 = few in omega arith
 
@@ -232,13 +232,13 @@ module _ (t : Trip) (ts : List Trip) (sends : MeetsSend t.sent) (sent : t.sent.a
     unfolding S.after
     next_number = ap (λ x. x.number) (next_state s sends sent)
 
-    stands_on : (rc : Receiver) (since : Since) → Stands s.state rc since → Stands s.answer.state rc (one_more_lem since)
+    stands_on : (rc : Receiver) (since : Since) → Stands s.state rc since → Stands s.answer.state rc (one_more since)
     stands_on rc never stands = stands
     stands_on rc (after k) stands =
         (stands.0, stands.1, next_number ∙ ap (λ (n : ℕ). (n + 1) % 16) stands.2 ∙ number_after rc.last k)
 
     -- a receiver that stayed as it was when the cell was lost
-    beside_lost : {rc : Receiver} (since : Since) → Beside s.state rc since → Beside s.answer.state rc (one_more_lem since)
+    beside_lost : {rc : Receiver} (since : Since) → Beside s.state rc since → Beside s.answer.state rc (one_more since)
     beside_lost {rc} since beside =
         record {
           with_overhead = next_overhead beside.with_overhead;
@@ -265,7 +265,7 @@ module _ (t : Trip) (ts : List Trip) (sends : MeetsSend t.sent) (sent : t.sent.a
           → Skipped again refusal rc calls (arrivals ts) → Comes rc place since (t ∷ ts) calls
       unfolding story_from those total_of flat_map
       not_taken again refusal e lost these skipped =
-          let on = follows rc (suc place) (one_more_lem since) skipped.rest (beside_lost since beside)
+          let on = follows rc (suc place) (one_more since) skipped.rest (beside_lost since beside)
           (within_lost since rc t ts within) skipped.takes in
           record {
             hands = skipped.hands ∙ on.hands ∙ rw lost;

@@ -30,7 +30,7 @@ use Rattle.line.specs.Line.{
   WithRoom,
   Place,
   handed,
-  from_first_lem,
+  from_first,
   to_last,
   left_by,
   Demand3,
@@ -65,7 +65,7 @@ plays xs = receives fresh (arrivals (trips studio xs))
 -- what is shown of a row of cells: how many cells it was, from the first unaltered one to the last, what the calls answered, how
 -- many cells they placed, and the marks
 pub record Shown (sent placed : ℕ) (answers marks : List ℕ) (these : List Trip) (calls : List ReceiveCall) : Type 0 where
-  pub were : length (to_last (from_first_lem these)) ≡ sent
+  pub were : length (to_last (from_first these)) ≡ sent
   pub placed_so : (left_by fresh calls).count ≡ placed
   pub answered_so : refusals calls ≡ answers
   pub marked_so : map (λ p. p.1.1) (handed calls) ≡ marks

@@ -35,7 +35,7 @@ use Rattle.line.specs.Line.{
   arrivals,
   Place,
   places_of,
-  from_first_lem,
+  from_first,
   all_lost,
   to_last,
   refusals_of,
@@ -208,47 +208,47 @@ lost_to_last (t ∷ ts) =
     (λ stays. rw (stays, stays) (let more : 0 + lost + (1 + here) ≡ suc (length (to_last ts)) = omega arith in more))
 
 lost_inside : (ts : List Trip)
-    → count_of (λ t. is_lost t.fate) (to_last (from_first_lem ts)) + count_of is_unaltered ts ≡ length (to_last (from_first_lem ts))
-unfolding total_of from_first_lem
+    → count_of (λ t. is_lost t.fate) (to_last (from_first ts)) + count_of is_unaltered ts ≡ length (to_last (from_first ts))
+unfolding total_of from_first
 lost_inside [] = lost_to_last []
 lost_inside (t ∷ ts) =
     split (is_lost t.fate)
     (λ gone.
-    let lost = count_of (λ t. is_lost t.fate) (to_last (from_first_lem ts)) in
+    let lost = count_of (λ t. is_lost t.fate) (to_last (from_first ts)) in
     let here = count_of is_unaltered ts in
-    rw gone (let same : lost + (0 + here) ≡ length (to_last (from_first_lem ts)) = omega (arith, lost_inside ts) in same))
+    rw gone (let same : lost + (0 + here) ≡ length (to_last (from_first ts)) = omega (arith, lost_inside ts) in same))
     (λ stays. rw stays (rw stays at (lost_to_last (t ∷ ts))))
 
 -- the records that are kept
-unfoldable kept_by_lem : List ℕ → List Whole → List Whole
-kept_by_lem [] ws = []
-kept_by_lem (n ∷ ns) [] = []
-kept_by_lem (n ∷ ns) (w ∷ ws) = cond (eqb n 0) (w ∷ kept_by_lem ns ws) (kept_by_lem ns ws)
+unfoldable kept_by : List ℕ → List Whole → List Whole
+kept_by [] ws = []
+kept_by (n ∷ ns) [] = []
+kept_by (n ∷ ns) (w ∷ ws) = cond (eqb n 0) (w ∷ kept_by ns ws) (kept_by ns ws)
 
-kept_by : (hs : List Heard) → kept_of hs ≡ kept_by_lem (map (λ h. h.answer.refusal) hs) (map (λ h. h.arrived) hs)
-unfolding those kept_by_lem
-kept_by [] = refl
-kept_by (h ∷ hs) =
-    split (is_sound h) (λ e. rw e (ap (λ (l : List Whole). h.arrived ∷ l) (kept_by hs))) (λ e. rw e (kept_by hs))
+kept_by_lem : (hs : List Heard) → kept_of hs ≡ kept_by (map (λ h. h.answer.refusal) hs) (map (λ h. h.arrived) hs)
+unfolding those kept_by
+kept_by_lem [] = refl
+kept_by_lem (h ∷ hs) =
+    split (is_sound h) (λ e. rw e (ap (λ (l : List Whole). h.arrived ∷ l) (kept_by_lem hs))) (λ e. rw e (kept_by_lem hs))
 
 kept_none : {refusal : ℕ} → (refusal ≡ 0 → ⊥) → (n : ℕ) (a : Whole) (ns : List ℕ) (more : List Whole)
-    → kept_by_lem (replicate n refusal ++ ns) (replicate n a ++ more) ≡ kept_by_lem ns more
-unfolding kept_by_lem
+    → kept_by (replicate n refusal ++ ns) (replicate n a ++ more) ≡ kept_by ns more
+unfolding kept_by
 kept_none some zero a ns more = refl
 kept_none some (suc n) a ns more = rw (ne_eqb _ 0 some) (kept_none some n a ns more)
 
 kept_fate : (s : SendCall) (fate : Fate) (ns : List ℕ) (more : List Whole)
-    → kept_by_lem (refusals_of fate ++ ns) (arrival_of s fate ++ more)
-    ≡ cond (not (is_lost fate)) (record { indication = s.indication; cell = s.written } ∷ kept_by_lem ns more) (kept_by_lem ns more)
-unfolding kept_by_lem
+    → kept_by (refusals_of fate ++ ns) (arrival_of s fate ++ more)
+    ≡ cond (not (is_lost fate)) (record { indication = s.indication; cell = s.written } ∷ kept_by ns more) (kept_by ns more)
+unfolding kept_by
 kept_fate s dropped ns more = refl
 kept_fate s (spoiled came indication again) ns more = kept_none (refused_so (eqb (length came) 48)) (suc again) _ ns more
 kept_fate s (unaltered again) ns more =
     ap (λ (l : List Whole). record { indication = s.indication; cell = s.written } ∷ l)
     (kept_none (suc-ne-zero 8) again _ ns more)
 
-kept_trips : (ts : List Trip) → kept_by_lem (flat_map (λ t. refusals_of t.fate) ts) (arrivals ts) ≡ map first_delivery (those is_unaltered ts)
-unfolding kept_by_lem those flat_map
+kept_trips : (ts : List Trip) → kept_by (flat_map (λ t. refusals_of t.fate) ts) (arrivals ts) ≡ map first_delivery (those is_unaltered ts)
+unfolding kept_by those flat_map
 kept_trips [] = refl
 kept_trips (t ∷ ts) =
     kept_fate t.sent t.fate (flat_map (λ t. refusals_of t.fate) ts) (arrivals ts)
@@ -298,8 +298,8 @@ total_to_last f none (t ∷ ts) =
     (λ all. rw all (sym (none_outside f none (t ∷ ts) all)))
     (λ some. rw some (ap (λ (n : ℕ). f t + n) (total_to_last f none ts)))
 
-total_from_first : (f : Trip → ℕ) → NoneOf f → (ts : List Trip) → total_of f (from_first_lem ts) ≡ total_of f ts
-unfolding total_of from_first_lem
+total_from_first : (f : Trip → ℕ) → NoneOf f → (ts : List Trip) → total_of f (from_first ts) ≡ total_of f ts
+unfolding total_of from_first
 total_from_first f none [] = refl
 total_from_first f none (t ∷ ts) =
     split (is_lost t.fate)
@@ -324,12 +324,12 @@ all_there (t ∷ ts) each =
     ∙ sym (total_joined (λ n. cond (not_zero n) 1 0) t.sent.samples (flat_map (λ t. t.sent.samples) (those is_unaltered ts)))))
 
 there_inside : (ts : List Trip) → Each (λ t. Wrote t.sent) ts
-    → count_of sound_not_zero (flat_map places_of (to_last (from_first_lem ts)))
+    → count_of sound_not_zero (flat_map places_of (to_last (from_first ts)))
     ≡ count_of not_zero (flat_map (λ t. t.sent.samples) (those is_unaltered ts))
 unfolding there
 there_inside ts each =
-    total_flat (λ p. cond (sound_not_zero p) 1 0) places_of (to_last (from_first_lem ts))
-    ∙ total_to_last there none_there (from_first_lem ts)
+    total_flat (λ p. cond (sound_not_zero p) 1 0) places_of (to_last (from_first ts))
+    ∙ total_to_last there none_there (from_first ts)
     ∙ total_from_first there none_there ts
     ∙ all_there ts each
 
@@ -360,7 +360,7 @@ module _ (st : Receiver) (trips : List Trip) (none : st.count ≡ 0)
         ∙ total_each (λ t. count_of test (refusals_of t.fate)) (λ t. per t.fate) trips
         (each_map (λ t. FramedFate t.fate) _ (λ t. each t.fate) trips (framed_trips trips framed))
 
-    placed : flat_map places_heard heard ≡ flat_map places_of (to_last (from_first_lem trips))
+    placed : flat_map places_heard heard ≡ flat_map places_of (to_last (from_first trips))
     placed = sym (calls_hand st records) ∙ inside.comes_out.handed_out
 
     pub tells_story : TellsStory trips heard
@@ -391,8 +391,8 @@ module _ (st : Receiver) (trips : List Trip) (none : st.count ≡ 0)
           handed_out = placed;
           marks = λ mark. heard_marks mark st records ∙ ap (λ (l : List Place). count_of (has_mark mark) l) placed;
           kept =
-              kept_by heard
-              ∙ ap₂ kept_by_lem answers_are (all_arrived hear onward (λ h. h.arrived) arrived_is st records)
+              kept_by_lem heard
+              ∙ ap₂ kept_by answers_are (all_arrived hear onward (λ h. h.arrived) arrived_is st records)
               ∙ kept_trips trips;
           anything = ap (λ (l : List Place). count_of sound_not_zero l) placed ∙ there_inside trips sent;
         }

@@ -9,19 +9,19 @@ use Rattle.figures.specs.declared.Counts.{Counts}
 use Rattle.figures.specs.Figures.{counts_of}
 use Rattle.presence.specs.Presence.{presence_of}
 use Rattle.line.specs.Calls.{SendCall}
-use Rattle.line.specs.Line.{is_lost, Trip, places_of, from_first_lem, to_last}
+use Rattle.line.specs.Line.{is_lost, Trip, places_of, from_first, to_last}
 use Rattle.line.specs.Tools.{is_unaltered, spoiled_times, copies, has_mark, not_zero, OfALog}
 
 -- the line's own counts: "(8 and 9 apart in the sheet)", no other refusal, and "the sheet's marks are those of what demand 3 hands
 -- out"
 abbrev pub marked_in : ℕ → List Trip → ℕ
-marked_in mark trips = count_of (has_mark mark) (flat_map places_of (to_last (from_first_lem trips)))
+marked_in mark trips = count_of (has_mark mark) (flat_map places_of (to_last (from_first trips)))
 
 abbrev pub counts_of_line : List Trip → Counts
 counts_of_line trips =
     record {
       sound = count_of is_unaltered trips;
-      missing = count_of (λ t. is_lost t.fate) (to_last (from_first_lem trips));
+      missing = count_of (λ t. is_lost t.fate) (to_last (from_first trips));
       refused_8 = total_of (λ t. spoiled_times t.fate) trips;
       refused_9 = total_of (λ t. copies t.fate) trips;
       refused_15 = 0;

@@ -110,9 +110,9 @@ places_of t =
     (places t.sent.samples t.sent.ancillary (replicate (S.used_now t.sent.state) 0))
 
 -- "from the first unaltered cell"
-unfoldable pub from_first_lem : List Trip → List Trip
-from_first_lem [] = []
-from_first_lem (t ∷ ts) = cond (is_lost t.fate) (from_first_lem ts) (t ∷ ts)
+unfoldable pub from_first : List Trip → List Trip
+from_first [] = []
+from_first (t ∷ ts) = cond (is_lost t.fate) (from_first ts) (t ∷ ts)
 
 -- "to the last"
 unfoldable pub all_lost : List Trip → Bool
@@ -148,8 +148,8 @@ OverTheLine most row cells SendBox ReceiveBox Holds =
 -- what demand 3 says of it. Request 5: "this number is the last unaltered cell's place counted from the first unaltered one, plus
 -- 1, or 0 where no cell came unaltered"; places are counted from 0, so it is how many cells there are from the first to the last
 pub record ComesOut (fresh : Receiver) (trips : List Trip) (receives : List ReceiveCall) : Type 0 where
-  pub handed_out : handed receives ≡ flat_map places_of (to_last (from_first_lem trips))
-  pub counted : (left_by fresh receives).count ≡ length (to_last (from_first_lem trips))
+  pub handed_out : handed receives ≡ flat_map places_of (to_last (from_first trips))
+  pub counted : (left_by fresh receives).count ≡ length (to_last (from_first trips))
 
 -- Demand 3 of two boxes
 unfoldable pub Demand3 : ℕ → ℕ → ℕ → (SendCall → Type 0) → (ReceiveCall → Type 0) → Type 0

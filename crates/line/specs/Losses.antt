@@ -31,9 +31,9 @@ abbrev pub lost_since : Since → ℕ
 lost_since never = 0
 lost_since (after k) = k
 
-abbrev pub one_more_lem : Since → Since
-one_more_lem never = never
-one_more_lem (after k) = after (suc k)
+abbrev pub one_more : Since → Since
+one_more never = never
+one_more (after k) = after (suc k)
 
 -- "after 15 modulo 16 lost ones": the next cell has the number of the one taken last
 abbrev pub comes_round : Since → Bool
@@ -55,7 +55,7 @@ unfoldable pub story_from : ℕ → Since → List Trip → List Told
 story_from place since [] = []
 story_from place since (t ∷ ts) =
     record { trip = t; place = place; since = since }
-    ∷ story_from (suc place) (cond (is_taken (record { trip = t; place = place; since = since })) (after 0) (one_more_lem since)) ts
+    ∷ story_from (suc place) (cond (is_taken (record { trip = t; place = place; since = since })) (after 0) (one_more since)) ts
 
 abbrev pub story : List Trip → List Told
 story trips = story_from 0 never trips

@@ -29,7 +29,7 @@ use Rattle.line.specs.Line.{
   Place,
   places,
   places_of,
-  from_first_lem,
+  from_first,
   to_last,
 }
 
@@ -104,15 +104,15 @@ pub record TellsStory (trips : List Trip) (heard : List Heard) : Type 0 where
   -- "sound cells are the unaltered ones"
   pub sound : sound_in heard ≡ count_of is_unaltered trips
   -- "missing ones the dropped and spoiled ones between the first and the last unaltered one"
-  pub missing : missing_in heard ≡ count_of (λ t. is_lost t.fate) (to_last (from_first_lem trips))
+  pub missing : missing_in heard ≡ count_of (λ t. is_lost t.fate) (to_last (from_first trips))
   -- "refused ones the spoiled ones and the copies (8 and 9 apart in the sheet)"
   pub refused : refused_in heard ≡ total_of (λ t. spoiled_times t.fate) trips + total_of (λ t. copies t.fate) trips
   pub refused_8 : refused_with 8 heard ≡ total_of (λ t. spoiled_times t.fate) trips
   pub refused_9 : refused_with 9 heard ≡ total_of (λ t. copies t.fate) trips
   pub refused_else : (refusal : ℕ) → (refusal ≡ 0 → ⊥) → (refusal ≡ 8 → ⊥) → (refusal ≡ 9 → ⊥) → refused_with refusal heard ≡ 0
   -- "the sheet's marks are those of what demand 3 hands out"
-  pub handed_out : flat_map places_heard heard ≡ flat_map places_of (to_last (from_first_lem trips))
-  pub marks : (mark : ℕ) → marked_with mark heard ≡ count_of (has_mark mark) (flat_map places_of (to_last (from_first_lem trips)))
+  pub handed_out : flat_map places_heard heard ≡ flat_map places_of (to_last (from_first trips))
+  pub marks : (mark : ℕ) → marked_with mark heard ≡ count_of (has_mark mark) (flat_map places_of (to_last (from_first trips)))
   -- "salvage keeps just the first deliveries of the unaltered cells"
   pub kept : kept_of heard ≡ map first_delivery (those is_unaltered trips)
   -- "`anything` says yes exactly where one of the sent samples .., in an unaltered cell, isn't zero": there are as many of them
@@ -127,7 +127,7 @@ pub record ToldBy (st : Sender) (trips : List Trip) (log : List ℕ) : Type 0 wh
   pub list : length log ≤ 4294967295 → list_of log
       ≡ format_line st.format st.channels st.order
       ++ (lines_of 0 (reading_of log).heard
-      ++ end_line (count_of is_unaltered trips) (count_of (λ t. is_lost t.fate) (to_last (from_first_lem trips)))
+      ++ end_line (count_of is_unaltered trips) (count_of (λ t. is_lost t.fate) (to_last (from_first trips)))
       (total_of (λ t. spoiled_times t.fate) trips + total_of (λ t. copies t.fate) trips))
   pub salvage : new_log log ≡ take 3 log ++ octets_in (map first_delivery (those is_unaltered trips))
 

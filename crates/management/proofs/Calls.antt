@@ -105,17 +105,17 @@ module _ (c : EquipmentCall) (meets : Equips c) (written : get_or c.report 0 0 �
   answered_alone = meets.leaves ∙ answered_nothing c.ports c.message (length c.answer) (λ none. written (count ∙ none))
 
 module _ (c : EquipmentCall) (meets : Equips c) where
-  abbrev comes-to : Outcome
-  comes-to = equipment_of c.ports c.message (length c.answer)
+  abbrev comes_to : Outcome
+  comes_to = equipment_of c.ports c.message (length c.answer)
 
   -- the numbers of the report
-  reported : (k : ℕ) → get_or c.report k 0 ≡ get_or (report_of comes-to) k 0
+  reported : (k : ℕ) → get_or c.report k 0 ≡ get_or (report_of comes_to) k 0
   reported k = ap (λ (l : List ℕ). get_or l k 0) meets.reports
 
   pub ended_call : get_or c.report 1 0 ≡ 1
       → (get_or c.report 3 0 ≡ 0) × (first_reference c.ports_after (get_or c.report 2 0) ≡ 0 → ⊥)
   ended_call setup =
-      let ends : SetUp comes-to = set_up c.ports c.message (length c.answer) in
+      let ends : SetUp comes_to = set_up c.ports c.message (length c.answer) in
       let said = ends (sym (reported 1) ∙ setup) in (
         reported 3 ∙ said.0,
         λ none. said.1 ((λ i. first_reference (sym meets.leaves i) (sym (reported 2) i)) ∙ none),

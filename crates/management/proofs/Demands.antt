@@ -139,17 +139,17 @@ module _ (a b : EquipmentCall) (one : Equips a) (two : Equips b) (ports : a.port
       equipment_alike a b one two ports answer some (is ∙ sym (brought_longer specified a.message long))
 
 module _ (a b : ControllerCall) (one : Controls a) (two : Controls b) (ports : a.ports ≡ b.ports) where
-  abbrev specified-status : ℕ
-  specified-status = controller_length a.message
+  abbrev specified_status : ℕ
+  specified_status = controller_length a.message
 
-  pub shorter_controller : length a.message ≤ specified-status
-      → b.message ≡ a.message ++ replicate (specified-status - length a.message) 0 → a.ports_after ≡ b.ports_after
+  pub shorter_controller : length a.message ≤ specified_status
+      → b.message ≡ a.message ++ replicate (specified_status - length a.message) 0 → a.ports_after ≡ b.ports_after
   shorter_controller short is =
-      controller_alike a b one two ports (is ∙ sym (brought_shorter specified-status a.message short))
+      controller_alike a b one two ports (is ∙ sym (brought_shorter specified_status a.message short))
 
-  pub longer_controller : specified-status ≤ length a.message → b.message ≡ take specified-status a.message → a.ports_after ≡ b.ports_after
+  pub longer_controller : specified_status ≤ length a.message → b.message ≡ take specified_status a.message → a.ports_after ≡ b.ports_after
   longer_controller long is =
-      controller_alike a b one two ports (is ∙ sym (brought_longer specified-status a.message long))
+      controller_alike a b one two ports (is ∙ sym (brought_longer specified_status a.message long))
 
 -- The two sides agree: "a status message that the equipment writes of a port in the format asked for, taken by a controlling entity that
 -- has a record of that port, leaves there the octets of the equipment's record that the table carries". The port's status is one with which

@@ -16,7 +16,7 @@ use Rattle.reading.specs.Reading.{reading_of, fresh_of, behind_header}
 use Rattle.reading.specs.Records.{records_in}
 use Rattle.presence.specs.Handed.{FirstIn, AllSilent}
 use Rattle.presence.specs.Presence.{presence_of}
-use Rattle.presence.specs.Taking.{reads_on_lem}
+use Rattle.presence.specs.Taking.{reads_on}
 use Rattle.presence.specs.declared.Search.{Search}
 use Rattle.presence.proofs.Theorems as presence
 use Rattle.saving.specs.declared.Salvaged.{Salvaged}
@@ -59,8 +59,8 @@ use Rattle.pages.specs.Papers.{
 }
 
 -- request 7: a search behind its yes
-pub anything_stops : (s : Search) → s.sought.found ≡ true → reads_on_lem s ≡ false
-unfolding reads_on_lem
+pub anything_stops : (s : Search) → s.sought.found ≡ true → reads_on s ≡ false
+unfolding reads_on
 anything_stops s found = rw found
 
 -- request 1: a frame imported and exported again

@@ -79,8 +79,8 @@ receiver_back st few =
 
 -- a call of `rime_send`
 module _ (c : SendFace) (meets : MeetsSendFace c) where
-  abbrev sent-here : SendCall
-  sent-here =
+  abbrev sent_call : SendCall
+  sent_call =
       record {
         state = sender_of c.state;
         indication = c.indication;
@@ -91,14 +91,14 @@ module _ (c : SendFace) (meets : MeetsSendFace c) where
         written = c.written;
       }
 
-  left_sender : sender_of c.left ≡ sent-here.answer.state
+  left_sender : sender_of c.left ≡ sent_call.answer.state
   left_sender =
-      split (eqb sent-here.answer.refusal 0)
-      (λ e. ap sender_of (meets.leaves ∙ rw e) ∙ sender_back sent-here.answer.state)
+      split (eqb sent_call.answer.refusal 0)
+      (λ e. ap sender_of (meets.leaves ∙ rw e) ∙ sender_back sent_call.answer.state)
       (λ e.
       ap sender_of (meets.leaves ∙ rw e)
       ∙ sym
-      ((line.demand_1_send sent-here (record { answered = refl; cell_after_lem = meets.writes })).then_nothing (eqb-false _ 0 e)).state_as_given)
+      ((line.demand_1_send sent_call (record { answered = refl; cell_after_lem = meets.writes })).then_nothing (eqb-false _ 0 e)).state_as_given)
 
   pub sends_as : MeetsSend (send_of c)
   sends_as =
@@ -106,8 +106,8 @@ module _ (c : SendFace) (meets : MeetsSendFace c) where
 
 -- a call of `rime_receive`
 module _ (c : ReceiveFace) (meets : MeetsReceiveFace c) where
-  abbrev received-here : ReceiveCall
-  received-here =
+  abbrev received_call : ReceiveCall
+  received_call =
       record {
         state = receiver_of c.state;
         cell = c.cell;
@@ -123,22 +123,22 @@ module _ (c : ReceiveFace) (meets : MeetsReceiveFace c) where
       }
 
   -- a state that a call leaves has a count below 2^32
-  count_few : received-here.answer.refusal ≡ 0 → received-here.answer.state.count ≤ 4294967295
+  count_few : received_call.answer.refusal ≡ 0 → received_call.answer.state.count ≤ 4294967295
   unfolding R.received_of R.after
   count_few none =
-      let table = sym (line.demand_1_receive received-here meets.receives).by_the_table ∙ none in
+      let table = sym (line.demand_1_receive received_call meets.receives).by_the_table ∙ none in
       rw table
       (passes (receiver_of c.state) c.cell c.indication (length c.samples) (length c.ancillary) (length c.marks) table).count_to
 
-  left_receiver : receiver_of c.left ≡ received-here.answer.state
+  left_receiver : receiver_of c.left ≡ received_call.answer.state
   left_receiver =
-      split (eqb received-here.answer.refusal 0)
+      split (eqb received_call.answer.refusal 0)
       (λ e.
       ap receiver_of (meets.leaves ∙ rw e)
-      ∙ receiver_back received-here.answer.state (count_few (eqb-true _ 0 e)))
+      ∙ receiver_back received_call.answer.state (count_few (eqb-true _ 0 e)))
       (λ e.
       ap receiver_of (meets.leaves ∙ rw e)
-      ∙ sym ((line.demand_1_receive received-here meets.receives).then_nothing (eqb-false _ 0 e)).nothing_answered.state_as_given)
+      ∙ sym ((line.demand_1_receive received_call meets.receives).then_nothing (eqb-false _ 0 e)).nothing_answered.state_as_given)
 
   pub receives_as : MeetsReceive (receive_of c)
   unfolding report_octets
@@ -153,7 +153,7 @@ module _ (c : ReceiveFace) (meets : MeetsReceiveFace c) where
               number = ap (λ (o : List ℕ). get_or o 1 0) meets.reports i;
               second = ap (λ (o : List ℕ). get_or o 2 0) meets.reports i;
               indication =
-                  (ap (λ (o : List ℕ). is_yes (get_or o 3 0)) meets.reports ∙ said_back received-here.answer.indication) i;
+                  (ap (λ (o : List ℕ). is_yes (get_or o 3 0)) meets.reports ∙ said_back received_call.answer.indication) i;
             };
         samples_after = meets.receives.samples_after;
         ancillary_after = meets.receives.ancillary_after;

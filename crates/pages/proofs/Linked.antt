@@ -15,7 +15,7 @@ use Rattle.rimesatchel.proofs.boxes.rime_send.Reads as send-reads
 use Rattle.rimesatchel.proofs.boxes.rime_receive.Kinds as receive-kinds
 use Rattle.rimesatchel.proofs.boxes.rime_receive.Reads as receive-reads
 use Rattle.line.specs.Demands.{IsDocument01's, GivesBack, Tells}
-use Rattle.line.specs.Line.{longest, to_last, from_first_lem, ComesOut, Demand3, refusals, refusals_of, CountsCells}
+use Rattle.line.specs.Line.{longest, to_last, from_first, ComesOut, Demand3, refusals, refusals_of, CountsCells}
 use Rattle.line.specs.Losses.{Shows, AnyLoss}
 use Rattle.line.proofs.Beyond as beyond
 use Rattle.line.proofs.Demands as line
@@ -112,9 +112,9 @@ demand_3 = over_face 3 14 4294967295 ComesOut line.demand_3
 
 -- The minutes: cells lost before the first and after the last unaltered one may be more than fourteen.
 pub demand_3_between : (longest-row : ℕ)
-    → OverTheFace 3 longest-row 4294967295 (λ fresh trips receives. longest 0 (to_last (from_first_lem trips)) ≤ 14 → Inside fresh trips receives)
+    → OverTheFace 3 longest-row 4294967295 (λ fresh trips receives. longest 0 (to_last (from_first trips)) ≤ 14 → Inside fresh trips receives)
 demand_3_between longest-row =
-    over_face 3 longest-row 4294967295 (λ fresh trips receives. longest 0 (to_last (from_first_lem trips)) ≤ 14 → Inside fresh trips receives)
+    over_face 3 longest-row 4294967295 (λ fresh trips receives. longest 0 (to_last (from_first trips)) ≤ 14 → Inside fresh trips receives)
     (demand_3_inside longest-row)
 
 -- "Extra copies of an unaltered cell are refused 9 and leave nothing behind"

@@ -118,7 +118,7 @@ module _ (log : List ℕ) (refusal : ℕ) (answer : List ℕ) (said : (refusal �
   anything_no = Asked.anything_no log refusal answer said
 
 -- "It should stop at the first one": behind a yes the program asks for no octet more, and whatever follows, the answer stays
-pub anything_stops : (s : Search) → s.sought.found ≡ true → P.reads_on_lem s ≡ false
+pub anything_stops : (s : Search) → s.sought.found ≡ true → P.reads_on s ≡ false
 anything_stops = Asked.anything_stops
 
 pub anything_settled : (log more : List ℕ) → (presence_of log).found ≡ true → presence_of (log ++ more) ≡ presence_of log

@@ -192,8 +192,8 @@ module _ (f left records : ℕ) (part : List ℕ) (x : ℕ) (short : length part
   abbrev t : Taking
   t = record { stage = 1; fault = f; left = left; records = records; part = part }
 
-  abbrev longer-part : List ℕ
-  longer-part = part ++ (x ∷ [])
+  abbrev longer_part : List ℕ
+  longer_part = part ++ (x ∷ [])
 
   to_13 : left ≡ 0 → (octets : List ℕ) → ahead t (x ∷ octets) ≡ broken 13 ∷ []
   unfolding ahead
@@ -210,23 +210,23 @@ module _ (f left records : ℕ) (part : List ℕ) (x : ℕ) (short : length part
       ∙ ap (λ (p : List ℕ). record_parts (suc (left - 1)) (p ++ x ∷ octets)) empty
       ∙ parts_11 (left - 1) x octets large
 
-  to_whole : (left ≡ 0 → ⊥) → length part ≡ 48 → get_or longer-part 0 0 ≤ 1 → (octets : List ℕ)
-      → ahead t (x ∷ octets) ≡ whole (front_of longer-part) ∷ record_parts (left - 1 + 0) octets
+  to_whole : (left ≡ 0 → ⊥) → length part ≡ 48 → get_or longer_part 0 0 ≤ 1 → (octets : List ℕ)
+      → ahead t (x ∷ octets) ≡ whole (front_of longer_part) ∷ record_parts (left - 1 + 0) octets
   unfolding ahead
   to_whole some is first octets =
       let n : left + length part ≡ 49 + (left - 1) = omega (arith, some) in
       let z : left - 1 ≡ left - 1 + 0 = omega arith in
       ap (λ (m : ℕ). record_parts m (part ++ x ∷ octets)) n
       ∙ ap (record_parts (49 + (left - 1))) (sym (append_snoc part x octets))
-      ∙ parts_whole longer-part (more_length part x ∙ ap suc is) first (left - 1) octets
-      ∙ ap (λ (m : ℕ). whole (front_of longer-part) ∷ record_parts m octets) z
+      ∙ parts_whole longer_part (more_length part x ∙ ap suc is) first (left - 1) octets
+      ∙ ap (λ (m : ℕ). whole (front_of longer_part) ∷ record_parts m octets) z
 
-  to_held : (left ≡ 0 → ⊥) → (octets : List ℕ) → ahead t (x ∷ octets) ≡ record_parts (left - 1 + length longer-part) (longer-part ++ octets)
+  to_held : (left ≡ 0 → ⊥) → (octets : List ℕ) → ahead t (x ∷ octets) ≡ record_parts (left - 1 + length longer_part) (longer_part ++ octets)
   unfolding ahead
   to_held some octets =
-      let n : left + length part ≡ left - 1 + length longer-part = omega (arith, some, more_length part x) in
+      let n : left + length part ≡ left - 1 + length longer_part = omega (arith, some, more_length part x) in
       ap (λ (m : ℕ). record_parts m (part ++ x ∷ octets)) n
-      ∙ ap (record_parts (left - 1 + length longer-part)) (sym (append_snoc part x octets))
+      ∙ ap (record_parts (left - 1 + length longer_part)) (sym (append_snoc part x octets))
 
   not_above : eqb (length part) 0 && ltb 1 x ≡ false → length part ≡ 0 → x ≤ 1
   not_above b none = ltb-false 1 x (rw (eq-eqb (length part) 0 none) at b)
@@ -243,22 +243,22 @@ module _ (f left records : ℕ) (part : List ℕ) (x : ℕ) (short : length part
       let both = both_true (eqb (length part) 0) (ltb 1 x) b in
       goes_as {w = faulty t 3 11} (rw (l, b)) (ended 3 11 left records refl refl) (to_11 some (eqb-true (length part) 0 both.0) (ltb-true 1 x both.1)))
       (λ b.
-      let first : get_or longer-part 0 0 ≤ 1 = starts_with part x (not_above b) small in
+      let first : get_or longer_part 0 0 ≤ 1 = starts_with part x (not_above b) small in
       split (eqb (length part) 48)
       (λ e.
       goes_as
       {w = record {
         taking = record { stage = 1; fault = f; left = left - 1; records = (records + 1) % 2 ^ 64; part = [] };
-        parts = whole (front_of longer-part) ∷ [];
+        parts = whole (front_of longer_part) ∷ [];
       }}
       (rw (l, b, e))
       (nothing_held f (left - 1) ((records + 1) % 2 ^ 64))
       (to_whole some (eqb-true (length part) 48 e) first))
       (λ e.
       goes_as
-      {w = quietly (record { stage = 1; fault = f; left = left - 1; records = records; part = longer-part })}
+      {w = quietly (record { stage = 1; fault = f; left = left - 1; records = records; part = longer_part })}
       (rw (l, b, e))
-      (holding f (left - 1) records longer-part (omega (arith, more_length part x, eqb-false (length part) 48 e)) (λ h. first))
+      (holding f (left - 1) records longer_part (omega (arith, more_length part x, eqb-false (length part) 48 e)) (λ h. first))
       (to_held some))))
 
 -- in the header

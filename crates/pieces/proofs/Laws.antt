@@ -16,7 +16,7 @@ use Rattle.pieces.specs.Steps.{
   header_found,
   record_found,
   whole_found,
-  lies_whole_lem,
+  lies_whole,
   begins_above,
   next_of,
   held_now,
@@ -86,21 +86,21 @@ pub begun : {count : ℕ} (octet : ℕ) → (count ≡ 0 → ⊥) → false ≡ 
 unfolding begins_above
 begun {count} octet some = rw (ne_eqb count 0 some)
 
-pub lies_not : {count : ℕ} (ahead left : ℕ) → (count ≡ 0 → ⊥) → false ≡ lies_whole_lem count ahead left
-unfolding lies_whole_lem
+pub lies_not : {count : ℕ} (ahead left : ℕ) → (count ≡ 0 → ⊥) → false ≡ lies_whole count ahead left
+unfolding lies_whole
 lies_not {count} ahead left some = rw (ne_eqb count 0 some)
 
-pub lies_cut : {count ahead : ℕ} (left : ℕ) → count ≡ 0 → ahead < 49 → false ≡ lies_whole_lem count ahead left
-unfolding lies_whole_lem
+pub lies_cut : {count ahead : ℕ} (left : ℕ) → count ≡ 0 → ahead < 49 → false ≡ lies_whole count ahead left
+unfolding lies_whole
 lies_cut {count} {ahead} left z h = rw (eq-eqb count 0 z, lt-leb 49 ahead h)
 
-pub lies_to : {count ahead : ℕ} (left : ℕ) → count ≡ 0 → 49 ≤ ahead → leb 49 left ≡ lies_whole_lem count ahead left
-unfolding lies_whole_lem
+pub lies_to : {count ahead : ℕ} (left : ℕ) → count ≡ 0 → 49 ≤ ahead → leb 49 left ≡ lies_whole count ahead left
+unfolding lies_whole
 lies_to {count} {ahead} left z h = rw (eq-eqb count 0 z, le-leb 49 ahead h)
 
 -- a record that lies whole: none is begun, and 49 octets are ahead and within the limit
-pub lies_facts : (count ahead left : ℕ) → lies_whole_lem count ahead left ≡ true → (count ≡ 0) × (49 ≤ ahead) × (49 ≤ left)
-unfolding lies_whole_lem
+pub lies_facts : (count ahead left : ℕ) → lies_whole count ahead left ≡ true → (count ≡ 0) × (49 ≤ ahead) × (49 ≤ left)
+unfolding lies_whole
 lies_facts count ahead left e =
     let one = both_true (eqb count 0) (leb 49 ahead && leb 49 left) e in
     let two = both_true (leb 49 ahead) (leb 49 left) one.1 in
@@ -187,12 +187,12 @@ module _ (s : Standing) (held piece : List ℕ) (place : ℕ) where
           first_above b e = record { answered = e ∙ rw (inside, f, t, l, b); left = rw (inside, f, t, l, b) }
 
           module _ (b : begins_above (s.count % 49) (get_or piece place 0) ≡ false) where
-            pub lies_in_piece : {answer : Found} → lies_whole_lem (s.count % 49) (length piece - place) s.left ≡ true → answer ≡ whole_found s (place + 49)
+            pub lies_in_piece : {answer : Found} → lies_whole (s.count % 49) (length piece - place) s.left ≡ true → answer ≡ whole_found s (place + 49)
                 → Steps s held piece place answer held
             unfolding next_of held_now
             lies_in_piece w e = record { answered = e ∙ rw (inside, f, t, l, b, w); left = rw (inside, f, t, l, b, w) }
 
-            pub held_more : {answer : Found} → lies_whole_lem (s.count % 49) (length piece - place) s.left ≡ false → answer ≡ record_found s (place + 1)
+            pub held_more : {answer : Found} → lies_whole (s.count % 49) (length piece - place) s.left ≡ false → answer ≡ record_found s (place + 1)
                 → Steps s held piece place answer (set held (s.count % 49) (get_or piece place 0))
             unfolding next_of held_now
             held_more w e = record { answered = e ∙ rw (inside, f, t, l, b, w); left = rw (inside, f, t, l, b, w) }

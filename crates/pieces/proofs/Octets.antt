@@ -16,7 +16,7 @@ use Rattle.pieces.specs.Steps.{
   header_found,
   record_found,
   whole_found,
-  lies_whole_lem,
+  lies_whole,
   begins_above,
   next_of,
   held_now,
@@ -379,9 +379,9 @@ module _ (s : Standing) (held piece : List ℕ) (place : ℕ) (size : length hel
             ap (λ (u : Taking). handed u octets) stands_empty
             ∙ handed_whole s.fault s.records s.left octets octets_length octets_first enough
 
-        lies_whole : Follows s held piece place (whole_found s (place + 49)) held
+        lies_whole_lem : Follows s held piece place (whole_found s (place + 49)) held
         unfolding taking_of held_count found_parts
-        lies_whole =
+        lies_whole_lem =
             record {
               state = ap (after t) two_parts ∙ after_joined t octets (drop (place + 49) piece)
                   ∙ ap (λ (u : Taking). after u (drop (place + 49) piece)) whole_after;
@@ -412,14 +412,14 @@ module _ (s : Standing) (held piece : List ℕ) (place : ℕ) (size : length hel
       (λ h. rw (inside, a, b, l, z, h) (begins_above_lem not-header o some none (ltb-true 1 x h)))
       (λ h.
       let small : x ≤ 1 = ltb-false 1 x h in
-      split (lies_whole_lem (s.count % 49) (length piece - place) s.left)
+      split (lies_whole (s.count % 49) (length piece - place) s.left)
       (λ w.
       let facts = lies_facts (s.count % 49) (length piece - place) s.left w in
-      rw (inside, a, b, l, z, h, w) (lies_whole not-header o some none small facts.1 facts.2))
+      rw (inside, a, b, l, z, h, w) (lies_whole_lem not-header o some none small facts.1 facts.2))
       (λ w. rw (inside, a, b, l, z, h, w) (one_more not-header o some (λ e. small)))))
       (λ z.
       let begun : s.count % 49 ≡ 0 → ⊥ = eqb-false (s.count % 49) 0 z in
-      let w : lies_whole_lem (s.count % 49) (length piece - place) s.left ≡ false = sym (lies_not (length piece - place) s.left begun) in
+      let w : lies_whole (s.count % 49) (length piece - place) s.left ≡ false = sym (lies_not (length piece - place) s.left begun) in
       rw (inside, a, b, l, z, w) (one_more not-header o some (λ e. absurd (begun e))))))
       (λ b. rw (inside, a, b) (behind a b)))
 

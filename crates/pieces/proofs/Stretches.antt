@@ -9,7 +9,7 @@ use Rattle.pieces.specs.declared.Found.{Found}
 use Rattle.pieces.specs.declared.Standing.{Standing}
 use Rattle.pieces.specs.declared.Stretch.{Stretch}
 use Rattle.pieces.specs.Limit.{Part, whole}
-use Rattle.pieces.specs.Steps.{whole_found, lies_whole_lem, begins_above, next_of, held_now, Steps, found_parts}
+use Rattle.pieces.specs.Steps.{whole_found, lies_whole, begins_above, next_of, held_now, Steps, found_parts}
 use Rattle.pieces.specs.Stretch.{least, stretch_of, standing_past, past_stretch}
 use Rattle.pieces.proofs.Walks.{Along, along_turn, found_lies}
 
@@ -278,7 +278,7 @@ module _ (s : Standing) (piece : List ℕ) (place : ℕ) (one : s.stage ≡ 1) (
     first_here = let none : place + 0 ≡ place = omega arith in get_or-drop place piece 0 0 ∙ ap (λ (k : ℕ). get_or piece k 0) none
 
     step_whole : (held : List ℕ) → Steps s held piece place found held
-    unfolding next_of held_now begins_above lies_whole_lem
+    unfolding next_of held_now begins_above lies_whole
     step_whole held =
         let inside : leb (length piece) place ≡ false = lt-leb (length piece) place (omega (arith, within)) in
         let stage-0 : eqb s.stage 0 ≡ false = ne_eqb s.stage 0 (λ e. omega (arith, e, one)) in

@@ -13,7 +13,7 @@ use Rattle.pieces.specs.Steps.{
   taking_of,
   header_found,
   record_found,
-  lies_whole_lem,
+  lies_whole,
   begins_above,
   next_of,
   held_now,
@@ -198,7 +198,7 @@ lies s held piece place =
     split (begins_above (s.count % 49) (get_or piece place 0))
     (λ g. rw (a, b, o, l, g) (λ e. absurd (omega (arith, e))))
     (λ g.
-    split (lies_whole_lem (s.count % 49) (length piece - place) s.left)
+    split (lies_whole (s.count % 49) (length piece - place) s.left)
     (λ w.
     let facts = lies_facts (s.count % 49) (length piece - place) s.left w in
     let found : Lies s piece place =

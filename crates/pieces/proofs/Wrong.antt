@@ -14,7 +14,7 @@ use Rattle.pieces.specs.Steps.{
   taking_of,
   header_found,
   record_found,
-  lies_whole_lem,
+  lies_whole,
   begins_above,
   next_of,
   held_now,
@@ -42,7 +42,7 @@ use Rattle.pieces.proofs.stretch_at.Reads as stretch-at-reads
 
 -- every definition on the way down to the numbers
 unfoldable pub steps_unfolded : Unit {0}
-unfolding log.unfolded held_count taking_of header_found record_found lies_whole_lem begins_above next_of held_now end_fault
+unfolding log.unfolded held_count taking_of header_found record_found lies_whole begins_above next_of held_now end_fault
 steps_unfolded = tt
 
 unfoldable pub unfolded : Unit {0}

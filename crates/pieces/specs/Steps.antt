@@ -47,8 +47,8 @@ record_found s next =
     (record { what = 0; next = next; standing = record { stage = 1; fault = s.fault; count = s.count % 49 + 1; left = s.left - 1; records = s.records } })
 
 -- a record begins here and lies whole in what is ahead, and within the limit
-unfoldable pub lies_whole_lem : ℕ → ℕ → ℕ → Bool
-lies_whole_lem count ahead left = count == 0 && (nat_le 49 ahead && nat_le 49 left)
+unfoldable pub lies_whole : ℕ → ℕ → ℕ → Bool
+lies_whole count ahead left = count == 0 && (nat_le 49 ahead && nat_le 49 left)
 
 abbrev pub whole_found : Standing → ℕ → Found
 whole_found s next =
@@ -65,7 +65,7 @@ next_of s held piece place =
     (cond (not (s.stage == 1)) (record { what = 0; next = length piece; standing = s })
     (cond (s.left == 0) (fault_found s 3 13 (length piece))
     (cond (begins_above (s.count % 49) (slice_index piece place)) (fault_found s 3 11 (length piece))
-    (cond (lies_whole_lem (s.count % 49) (length piece - place) s.left) (whole_found s (place + 49))
+    (cond (lies_whole (s.count % 49) (length piece - place) s.left) (whole_found s (place + 49))
     (record_found s (place + 1)))))))
 
 -- the array afterwards: an octet more is held, in the header or in a record that doesn't lie whole in the piece
@@ -76,7 +76,7 @@ held_now s held piece place =
     (cond (not (s.stage == 1)) held
     (cond (s.left == 0) held
     (cond (begins_above (s.count % 49) (slice_index piece place)) held
-    (cond (lies_whole_lem (s.count % 49) (length piece - place) s.left) held
+    (cond (lies_whole (s.count % 49) (length piece - place) s.left) held
     (slice_set held (s.count % 49) (slice_index piece place)))))))
 
 -- the whole promise of a step: the answer, and what the lent array holds afterwards

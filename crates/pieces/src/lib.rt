@@ -10,7 +10,7 @@ ghost use Rattle.pieces.specs.Steps.{
   record_found,
   whole_found,
   begins_above,
-  lies_whole_lem,
+  lies_whole,
   Steps,
   is_record,
   in_piece,
@@ -184,9 +184,9 @@ fn begins_above(count: usize, octet: u8) -> bool
 }
 
 // Whether a record begins here and lies whole in what is ahead, and within the limit.
-#[tactic(auto, unfolding(crate::specs::Steps::lies_whole_lem))]
+#[tactic(auto, unfolding(crate::specs::Steps::lies_whole))]
 fn lies_whole(count: usize, ahead: usize, left: u64) -> bool
-    ensures { result ≡ lies_whole_lem count ahead left }
+    ensures { result ≡ lies_whole count ahead left }
 {
     if count != 0 {
         return false;

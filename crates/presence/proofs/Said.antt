@@ -125,19 +125,19 @@ module _ (st : Receiver) (cell : List ℕ) (indication : Bool) {answer : Receive
   abbrev record_here : Whole
   record_here = record { indication = indication; cell = cell }
 
-  abbrev heard-here : Heard
-  heard-here = hear st record_here
+  abbrev heard_in_place : Heard
+  heard_in_place = hear st record_here
 
-  state_is : answer.state ≡ onward heard-here
+  state_is : answer.state ≡ onward heard_in_place
   unfolding hear
   state_is = ap (λ (r : Received). r.state) judged
 
   pub refused_says : (answer.refusal ≡ 0 → ⊥) → record { state = answer.state; sounds = false } ≡ said_of st cell indication
   unfolding sounds some hear
   refused_says some-refusal =
-      let none : reading.is_sound heard-here ≡ false
+      let none : reading.is_sound heard_in_place ≡ false
       = ne_eqb _ 0 (λ e. some-refusal (ap (λ (r : Received). r.refusal) judged ∙ e)) in
-      let silent-here : sounds heard-here ≡ false = rw (refused_gives st record_here none (samples_now st cell)) in
+      let silent-here : sounds heard_in_place ≡ false = rw (refused_gives st record_here none (samples_now st cell)) in
       λ i. record { state = state_is i; sounds = sym silent-here i }
 
   module _ (taken : answer.refusal ≡ 0) where
@@ -177,7 +177,7 @@ module _ (st : Receiver) (cell : List ℕ) (indication : Bool) {answer : Receive
             ap (λ (n : ℕ). get_or (replicate gap value ++ own) (n + i) 0) (sym (length-replicate {A = ℕ} gap value))
             ∙ get_or-append-add (replicate gap value) own i 0
 
-    looks : sounds_of st cell ≡ sounds heard-here
+    looks : sounds_of st cell ≡ sounds heard_in_place
     unfolding sounds_of sounds hear readable
     looks =
         let whole : gap_of st cell * used_now st ≡ gap + used_now st

@@ -16,7 +16,7 @@ use Rattle.presence.specs.declared.Presence.{Presence}
 use Rattle.presence.specs.declared.Search.{Search}
 use Rattle.presence.specs.Presence.{sounds, some_of, first_of, yes_at, answer_of, presence_of}
 use Rattle.presence.specs.Line.{line_of}
-use Rattle.presence.specs.Taking.{reads_on_lem, past_heard, past_record, past_part, sought_of, search_start}
+use Rattle.presence.specs.Taking.{reads_on, past_heard, past_record, past_part, sought_of, search_start}
 use Rattle.presence.proofs.anything.Kinds as anything-kinds
 use Rattle.presence.proofs.anything.Reads as anything-reads
 use Rattle.presence.proofs.end.Kinds as end-kinds
@@ -164,13 +164,13 @@ module _ (κs : Lfts 0) where
 
   -- a search that reads on behind its yes, or behind a broken record, and one that stops among silent records
   pub yes_reads_no_more : Wanted (stands_at 1 true) (λ x. x ≡ true)
-  unfolding reads_on_lem
+  unfolding reads_on
   yes_reads_no_more x v wrong s = true≢false (sym wrong ∙ s)
 
   pub broken_reads_no_more : Wanted (stands_at 3 false) (λ x. x ≡ true)
-  unfolding reads_on_lem
+  unfolding reads_on
   broken_reads_no_more x v wrong s = true≢false (sym wrong ∙ s)
 
   pub silence_reads_on : Wanted (stands_at 1 false) (λ x. x ≡ false)
-  unfolding reads_on_lem
+  unfolding reads_on
   silence_reads_on x v wrong s = true≢false (sym s ∙ wrong)

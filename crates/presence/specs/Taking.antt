@@ -17,8 +17,8 @@ use Rattle.presence.specs.Presence.{sounds}
 
 -- "It should stop at the first one": more octets can change the answer until a record says yes, or a fault ends the log, stages 2
 -- and 3
-unfoldable pub reads_on_lem : Search → Bool
-reads_on_lem s = not s.sought.found && nat_lt s.standing.stage 2
+unfoldable pub reads_on : Search → Bool
+reads_on s = not s.sought.found && nat_lt s.standing.stage 2
 
 -- a receiver opened by a header, and nothing found yet
 abbrev pub fresh_sought : Header → Sought

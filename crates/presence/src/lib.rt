@@ -6,7 +6,7 @@ ghost use Rattle.text.specs.Text.{item};
 ghost use Rattle.text.specs.Words.{words};
 ghost use Rattle.presence.specs.Line.{Writes};
 ghost use Rattle.presence.specs.Presence.{presence_of, read_from};
-ghost use Rattle.presence.specs.Taking.{search_start, reads_on_lem, Takes, answer_at_end};
+ghost use Rattle.presence.specs.Taking.{search_start, reads_on, Takes, answer_at_end};
 
 use cell_log::Header;
 use pieces::Standing;
@@ -106,7 +106,7 @@ pub fn start() -> Search
 
 // "It should stop at the first one": whether more octets of the log could change the answer. Not behind a yes, nor behind a fault.
 pub fn reads_on(search: Search) -> bool
-    ensures { result ≡ reads_on_lem search }
+    ensures { result ≡ reads_on search }
 {
     let sought = search.sought;
     if sought.found {

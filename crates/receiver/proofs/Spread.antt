@@ -58,10 +58,10 @@ module _ (set : Settled) (octets : List ℕ) (place records missing : ℕ) where
   abbrev own : (ℕ → ℕ) → ℕ → List ℕ
   own read k = own_entries read set (cell_from octets place k)
 
-  abbrev so-many : ℕ → (ℕ → ℕ) → ℕ → List ℕ
-  so-many v read k = replicate missing v ++ many_own read set octets place k
+  abbrev so_many : ℕ → (ℕ → ℕ) → ℕ → List ℕ
+  so_many v read k = replicate missing v ++ many_own read set octets place k
 
-  pub many_length : (v : ℕ) (read : ℕ → ℕ) (k : ℕ) → length (so-many v read k) ≡ missing + k * used_in set
+  pub many_length : (v : ℕ) (read : ℕ → ℕ) (k : ℕ) → length (so_many v read k) ≡ missing + k * used_in set
   many_length v read k =
       length-append (replicate missing v) (many_own read set octets place k)
       ∙ omega (arith, length-replicate missing v, length_joined (own read) (used_in set) k (λ j. own_length set (cell_from octets place j) read))
@@ -69,21 +69,21 @@ module _ (set : Settled) (octets : List ℕ) (place records missing : ℕ) where
   pub next_within : {k : ℕ} → k < records → k * used_in set + used_in set ≤ records * used_in set
   next_within {k} less = omega (arith, suc-mul k (used_in set), mul-le-mul_right {m = suc k} {n = records} (used_in set) less)
 
-  many_more : (v : ℕ) (read : ℕ → ℕ) (k : ℕ) → so-many v read k ++ own read k ≡ so-many v read (k + 1)
+  many_more : (v : ℕ) (read : ℕ → ℕ) (k : ℕ) → so_many v read k ++ own read k ≡ so_many v read (k + 1)
   unfolding joined
   many_more v read k =
       append_assoc (replicate missing v) (many_own read set octets place k) (own read k)
-      ∙ ap (λ (n : ℕ). so-many v read n) (sym (add-one k))
+      ∙ ap (λ (n : ℕ). so_many v read n) (sym (add-one k))
 
   -- a run with the cells so far, and one more
   more : (v : ℕ) (read : ℕ → ℕ) (run₀ : List ℕ) {run run₁ : List ℕ} {k : ℕ} → missing + records * used_in set ≤ length run₀ → k < records
-      → run ≡ over (so-many v read k) run₀ → run₁ ≡ written run (missing + k * used_in set) (own read k)
-      → run₁ ≡ over (so-many v read (k + 1)) run₀
+      → run ≡ over (so_many v read k) run₀ → run₁ ≡ written run (missing + k * used_in set) (own read k)
+      → run₁ ≡ over (so_many v read (k + 1)) run₀
   more v read run₀ {k = k} room less so_far w =
-      over_then (so-many v read k) (own read k) run₀ (many_length v read k) (omega (arith, next_within less)) so_far w
+      over_then (so_many v read k) (own read k) run₀ (many_length v read k) (omega (arith, next_within less)) so_far w
       ∙ ap (λ (l : List ℕ). over l run₀) (many_more v read k)
 
-  none_yet : (v : ℕ) (read : ℕ → ℕ) → so-many v read 0 ≡ replicate missing v
+  none_yet : (v : ℕ) (read : ℕ → ℕ) → so_many v read 0 ≡ replicate missing v
   unfolding joined
   none_yet v read = append-nil (replicate missing v)
 
@@ -92,9 +92,9 @@ module _ (set : Settled) (octets : List ℕ) (place records missing : ℕ) where
     -- so many cells are unpacked
     pub record Spread (k : ℕ) (samples ancillary marks : List ℕ) : Type 0 where
       pub few : k ≤ records
-      pub samples_so_far : samples ≡ over (so-many 0 (sample_in set.format) k) samples₀
-      pub ancillary_so_far : ancillary ≡ over (so-many 0 (ancillary_in set.format) k) ancillary₀
-      pub marks_so_far : marks ≡ over (so-many 2 (mark_in set.format) k) marks₀
+      pub samples_so_far : samples ≡ over (so_many 0 (sample_in set.format) k) samples₀
+      pub ancillary_so_far : ancillary ≡ over (so_many 0 (ancillary_in set.format) k) ancillary₀
+      pub marks_so_far : marks ≡ over (so_many 2 (mark_in set.format) k) marks₀
       pub samples_same : length samples ≡ length samples₀
       pub ancillary_same : length ancillary ≡ length ancillary₀
       pub marks_same : length marks ≡ length marks₀
@@ -114,7 +114,7 @@ module _ (set : Settled) (octets : List ℕ) (place records missing : ℕ) where
         ahead : (i : ℕ) → get_or ancillary (missing + k * used_in set + i) 0 ≡ get_or ancillary₀ (missing + (k * used_in set + i)) 0
         unfolding over
         ahead i =
-            let front : List ℕ = so-many 0 (ancillary_in set.format) k in
+            let front : List ℕ = so_many 0 (ancillary_in set.format) k in
             let long : length front ≡ missing + k * used_in set = many_length 0 (ancillary_in set.format) k in
             let far : length front + i ≡ missing + (k * used_in set + i) = omega (arith, long) in
             ap (λ (l : List ℕ). get_or l (missing + k * used_in set + i) 0) s.ancillary_so_far
@@ -200,10 +200,10 @@ module _ (set : Settled) (octets : List ℕ) (place records missing : ℕ) where
 
       -- what the loop's runs are at its end
       hidden : (v few : ℕ) (read : ℕ → ℕ) (run : List ℕ) {run₀ : List ℕ} → few ≤ missing + records * used_in set → run₀ ≡ over (replicate few v) run
-          → over (so-many v read records) run₀ ≡ over (so-many v read records) run
+          → over (so_many v read records) run₀ ≡ over (so_many v read records) run
       hidden v few read run less is =
-          ap (over (so-many v read records)) is
-          ∙ over_hides (so-many v read records) (replicate few v) run (omega (arith, length-replicate {A = ℕ} few v, many_length v read records, less))
+          ap (over (so_many v read records)) is
+          ∙ over_hides (so_many v read records) (replicate few v) run (omega (arith, length-replicate {A = ℕ} few v, many_length v read records, less))
 
       pub spread_done : {k : ℕ} {samples₁ ancillary₁ marks₁ : List ℕ} → Spread samples₀ ancillary₀ marks₀ k samples₁ ancillary₁ marks₁ → records ≤ k
           → FillsMany set octets place records missing samples ancillary marks samples₁ ancillary₁ marks₁
@@ -212,14 +212,14 @@ module _ (set : Settled) (octets : List ℕ) (place records missing : ℕ) where
           record {
             samples_are =
                 s.samples_so_far
-                ∙ ap (λ (n : ℕ). over (so-many 0 (sample_in set.format) n) samples₀) whole
+                ∙ ap (λ (n : ℕ). over (so_many 0 (sample_in set.format) n) samples₀) whole
                 ∙ hidden 0 missing (sample_in set.format) samples (omega arith) lost.samples_are;
             ancillary_is =
                 s.ancillary_so_far
-                ∙ ap (λ (n : ℕ). over (so-many 0 (ancillary_in set.format) n) ancillary₀) whole
+                ∙ ap (λ (n : ℕ). over (so_many 0 (ancillary_in set.format) n) ancillary₀) whole
                 ∙ hidden 0 blank (ancillary_in set.format) ancillary blank_to blank_is;
             marks_are =
                 s.marks_so_far
-                ∙ ap (λ (n : ℕ). over (so-many 2 (mark_in set.format) n) marks₀) whole
+                ∙ ap (λ (n : ℕ). over (so_many 2 (mark_in set.format) n) marks₀) whole
                 ∙ hidden 2 missing (mark_in set.format) marks (omega arith) marked_is;
           }

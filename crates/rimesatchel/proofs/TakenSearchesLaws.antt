@@ -16,7 +16,7 @@ use Rattle.pieces.specs.Taken.{joined_of}
 use Rattle.presence.specs.declared.Presence.{Presence}
 use Rattle.presence.specs.declared.Search.{Search}
 use Rattle.presence.specs.Presence.{sounds, some_of, answer_of, presence_of}
-use Rattle.presence.specs.Taking.{search_after, reads_on_lem, answer_at_end, answer_over, Takes}
+use Rattle.presence.specs.Taking.{search_after, reads_on, answer_at_end, answer_over, Takes}
 use Rattle.presence.proofs.Going.{any_division_answer}
 use Rattle.rimesatchel.specs.Contents.{presence_numbers}
 use Rattle.rimesatchel.specs.States.{number_of, Turns}
@@ -57,7 +57,7 @@ module _ (s : Search) where
       }
 
 pub search_taken : (state held piece : List ℕ) {s after : Search} {held₁ state₁ : List ℕ} {on : Bool} → s ≡ search_from state
-    → Takes s held piece after held₁ → on ≡ reads_on_lem after → state₁ ≡ search_numbers after → search_from state₁ ≡ after
+    → Takes s held piece after held₁ → on ≡ reads_on after → state₁ ≡ search_numbers after → search_from state₁ ≡ after
     → SearchTaken state held piece 0 state₁ held₁ (bool_byte on)
 search_taken state held piece {s} {after} {held₁} {state₁} {on} is takes reads gives back =
     let goes : after ≡ search_after (search_from state) held piece =
@@ -67,7 +67,7 @@ search_taken state held piece {s} {after} {held₁} {state₁} {on} is takes rea
       leaves = gives ∙ ap search_numbers goes;
       holds = takes.holds ∙ ap (λ (x : Search). (stood_of x.standing held piece).held) is;
       goes_on = back ∙ goes;
-      reads = byte_of on ∙ ap number_of (reads ∙ ap reads_on_lem goes);
+      reads = byte_of on ∙ ap number_of (reads ∙ ap reads_on goes);
     }
 
 -- a refusal's zeros, and else the two numbers

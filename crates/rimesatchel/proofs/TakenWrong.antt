@@ -14,7 +14,7 @@ use Rattle.pieces.specs.Taken.{handed, end_parts}
 use Rattle.figures.specs.Adding.{closed_of}
 use Rattle.figures.specs.Figures.{too_many_of, row_of, per_million}
 use Rattle.figures.specs.Taking.{noted_by}
-use Rattle.presence.specs.Taking.{reads_on_lem, past_part, sought_of}
+use Rattle.presence.specs.Taking.{reads_on, past_part, sought_of}
 use Rattle.salvaging.specs.Taking as salvaging
 use Rattle.listing.specs.Taking as listing
 use Rattle.rimesatchel.specs.TakenFigures.{figures_from, figure_numbers}
@@ -48,7 +48,7 @@ use Rattle.rimesatchel.proofs.taken_searches.rime_anything_end.Reads as anything
 
 -- every definition on the way down to the numbers
 unfoldable unfolded : Unit {0}
-unfolding over end_part held_count taking_of steps_from stood_of handed end_parts closed_of too_many_of row_of per_million noted_by reads_on_lem past_part sought_of salvaging.octets_by salvaging.text_by salvaging.tally_by salvaging.last_text listing.text_of listing.tally_of figures_from figure_numbers listing_from list_numbers salvaging_from salvage_numbers search_from search_numbers answer_numbers
+unfolding over end_part held_count taking_of steps_from stood_of handed end_parts closed_of too_many_of row_of per_million noted_by reads_on past_part sought_of salvaging.octets_by salvaging.text_by salvaging.tally_by salvaging.last_text listing.text_of listing.tally_of figures_from figure_numbers listing_from list_numbers salvaging_from salvage_numbers search_from search_numbers answer_numbers
 unfolded = tt
 
 abbrev nines : ℕ → List ℕ

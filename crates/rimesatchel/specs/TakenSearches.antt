@@ -4,7 +4,7 @@ use Rattle.std.specs.Prelude.{cond, not, List, [], ◌∷◌, ◌≡◌, ℕ, �
 use Rattle.pieces.specs.Steps.{stood_of}
 use Rattle.presence.specs.declared.Presence.{Presence}
 use Rattle.presence.specs.declared.Search.{Search}
-use Rattle.presence.specs.Taking.{search_start, search_after, reads_on_lem, answer_at_end}
+use Rattle.presence.specs.Taking.{search_start, search_after, reads_on, answer_at_end}
 use Rattle.rimesatchel.specs.Contents.{presence_numbers}
 use Rattle.rimesatchel.specs.States.{standing_in, receiver_in, with_numbers, number_of, Turns}
 
@@ -37,7 +37,7 @@ pub record SearchTaken (state held piece : List ℕ) (refusal : ℕ) (state₁ h
   pub leaves : state₁ ≡ search_numbers (search_after (search_from state) held piece)
   pub holds : held₁ ≡ (stood_of (search_from state).standing held piece).held
   pub goes_on : search_from state₁ ≡ search_after (search_from state) held piece
-  pub reads : more ≡ number_of (reads_on_lem (search_after (search_from state) held piece))
+  pub reads : more ≡ number_of (reads_on (search_after (search_from state) held piece))
 
 -- the answer's two numbers, and zeros where the header is refused, whatever the state
 unfoldable pub answer_numbers : Presence → List ℕ

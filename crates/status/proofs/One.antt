@@ -36,7 +36,7 @@ step_one κs a x y v w pre p q = (p ∙ sym q, refl)
 pub brought_forward_one : One brought-forward-kinds.ps brought-forward-kinds.r brought-forward-reads.Pre brought-forward-reads.Post
 brought_forward_one κs a x y v w pre p q = (p ∙ sym q, refl)
 
--- the borrow checker reads no contract with a reference to a struct, so this is stated over the clauses
+-- stated over the clauses
 module _ {M : Type 1} {𝓤 : Ura M} (𝓛 : Logic 𝓤) (mem : Memory → SProp 𝓤) (run : Routine → Fun 𝓤) (κs : Lfts 1)
     (a : Args bring-forward.signature κs) where
   abbrev pub Ensures : Handed → Lasts bring-forward.ended κs a → SProp 𝓤

@@ -14,7 +14,7 @@ use Rattle.figures.proofs.Adding.{added_closed, added_rows}
 use Rattle.table.specs.declared.Ended.{Ended}
 use Rattle.table.specs.declared.Input.{Input}
 use Rattle.table.specs.Table.{names_line, log_line, all_line, refused_line, log_lines, table_of}
-use Rattle.table.specs.Taking.{Stood, last_of, refused_end_lem, closed_end, ended_of, row_at, line_of, lines_from, lines_of}
+use Rattle.table.specs.Taking.{Stood, last_of, refused_end, closed_end, ended_of, row_at, line_of, lines_from, lines_of}
 use Rattle.table.proofs.Counted.{Counted}
 
 -- the row at a log's place
@@ -72,7 +72,7 @@ printed e rows = lines_from e rows 0 e.lines
 
 -- one line alone of a sheet that is refused
 refused_line_lem : (answer : Answer) (rows : List ℕ) → (answer.refusal ≡ 0 → ⊥)
-    → printed (refused_end_lem answer) rows ≡ refused_line answer.refusal
+    → printed (refused_end answer) rows ≡ refused_line answer.refusal
 unfolding lines_from line_of
 refused_line_lem answer rows some = rw (ne_eqb answer.refusal 0 some) (append-nil (refused_line answer.refusal))
 
@@ -80,7 +80,7 @@ refused_line_lem answer rows some = rw (ne_eqb answer.refusal 0 some) (append-ni
 pub one_line : (s : Stood) {refusal : ℕ} → last_of s.sheet.input ≡ refusal → (refusal ≡ 0 → ⊥) → lines_of s ≡ refused_line refusal
 unfolding ended_of
 one_line s {refusal} is some =
-    let at : ended_of s.sheet ≡ refused_end_lem (refused_by refusal) = rw (is, ne_eqb refusal 0 some) in
+    let at : ended_of s.sheet ≡ refused_end (refused_by refusal) = rw (is, ne_eqb refusal 0 some) in
     ap (λ (e : Ended). printed e s.rows) at ∙ refused_line_lem (refused_by refusal) s.rows some
 
 pub stopped_last : (i : Input) → (i.refusal ≡ 0 → ⊥) → last_of i ≡ i.refusal

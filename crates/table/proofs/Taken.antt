@@ -36,7 +36,7 @@ use Rattle.table.specs.Taking.{
   stepped_by,
   taken_from,
   taken_of,
-  refused_end_lem,
+  refused_end,
   closed_end,
   ended_of,
 }
@@ -96,7 +96,7 @@ module _ (s : Sheet) (step : Step) (rows kept : List ℕ) {held octets held₁ :
 
 -- the end
 module _ (s : Sheet) where
-  pub ends_refused : {refusal : ℕ} → refusal ≡ last_of s.input → (refusal ≡ 0 → ⊥) → refused_end_lem (refused_by refusal) ≡ ended_of s
+  pub ends_refused : {refusal : ℕ} → refusal ≡ last_of s.input → (refusal ≡ 0 → ⊥) → refused_end (refused_by refusal) ≡ ended_of s
   unfolding ended_of
   ends_refused {refusal} is some = sym (rw (← is, ne_eqb refusal 0 some))
 
@@ -107,7 +107,7 @@ module _ (s : Sheet) where
       answered =
           ap (λ (x : Answer). closed_end x s.input.logs) closed ∙ sym (rw (eq-eqb (last_of s.input) 0 (sym is ∙ none)))
 
-      pub ends_19 : (a.refusal ≡ 0 → ⊥) → refused_end_lem a ≡ ended_of s
+      pub ends_19 : (a.refusal ≡ 0 → ⊥) → refused_end a ≡ ended_of s
       unfolding closed_end
       ends_19 some = sym (rw (ne_eqb a.refusal 0 some)) ∙ answered
 

@@ -176,18 +176,18 @@ pub record Takes (s : Sheet) (held rows kept piece : List ℕ) (answer : Sheet) 
       ≡ taken_of (record { sheet = s; held = held; rows = rows; kept = kept }) piece
 
 -- a sheet that is refused, and one that isn't, at its end
-abbrev pub refused_end_lem : Answer → Ended
-refused_end_lem answer = record { answer = answer; logs = 0; lines = 1 }
+abbrev pub refused_end : Answer → Ended
+refused_end answer = record { answer = answer; logs = 0; lines = 1 }
 
 unfoldable pub closed_end : Answer → ℕ → Ended
 closed_end answer logs =
-    cond (answer.refusal == 0) (record { answer = answer; logs = logs; lines = (logs + 2) % 2 ^ 64 }) (refused_end_lem answer)
+    cond (answer.refusal == 0) (record { answer = answer; logs = logs; lines = (logs + 2) % 2 ^ 64 }) (refused_end answer)
 
 unfoldable pub ended_of : Sheet → Ended
 ended_of s =
     cond (last_of s.input == 0)
     (closed_end (closed_of s.totals) s.input.logs)
-    (refused_end_lem (refused_by (last_of s.input)))
+    (refused_end (refused_by (last_of s.input)))
 
 -- the row at a log's place, where the rows go so far
 unfoldable pub row_at : List ℕ → ℕ → List ℕ

@@ -30,7 +30,7 @@ use Rattle.units.specs.Units.{
   entries_in,
   read_refusal,
   entered_of,
-  read_off_lem,
+  read_off,
   read_gives,
   Reads,
 }
@@ -194,16 +194,16 @@ module _ (octet channels : ℕ) (unit samples ancillary : List ℕ) where
       -- what was taken apart is what is read off the subframes
       samples_are : tab (λ entry. number_at (format_of octet).width unit entry / 2 ^ (format_of octet).ancillary_bits)
           (entries_in (format_of octet) (length unit))
-          ≡ read_gives octet channels unit (length samples) (length ancillary) (read_off_lem (sample_in (format_of octet)) (format_of octet) unit)
-      unfolding read_gives read_off_lem
+          ≡ read_gives octet channels unit (length samples) (length ancillary) (read_off (sample_in (format_of octet)) (format_of octet) unit)
+      unfolding read_gives read_off
       samples_are =
           ap (λ (g : ℕ → ℕ). tab g (entries_in (format_of octet) (length unit))) (λ i entry. sample_is (format_of octet) read_passed.bare unit entry i)
           ∙ rw (← none)
 
       ancillary_are : tab (λ entry. number_at (format_of octet).width unit entry % 2 ^ (format_of octet).ancillary_bits)
           (entries_in (format_of octet) (length unit))
-          ≡ read_gives octet channels unit (length samples) (length ancillary) (read_off_lem (ancillary_in (format_of octet)) (format_of octet) unit)
-      unfolding read_gives read_off_lem
+          ≡ read_gives octet channels unit (length samples) (length ancillary) (read_off (ancillary_in (format_of octet)) (format_of octet) unit)
+      unfolding read_gives read_off
       ancillary_are =
           ap (λ (g : ℕ → ℕ). tab g (entries_in (format_of octet) (length unit))) (λ i entry. ancillary_is (format_of octet) read_passed.bare unit entry i)
           ∙ rw (← none)

@@ -31,7 +31,7 @@ use Rattle.units.specs.Units.{
   entries_in,
   read_refusal,
   entered_of,
-  read_off_lem,
+  read_off,
   read_gives,
 }
 use Rattle.units.specs.Back.{
@@ -172,25 +172,25 @@ module _ (e : ExportCall) (meets : MeetsExport e) (taken : e.answer.refusal ≡ 
     handed : (part : ℕ → ℕ) (run run₁ : List ℕ)
         → run₁
         ≡ over
-        (read_gives r.octet r.channels r.unit (length r.samples) (length r.ancillary) (read_off_lem part (format_of r.octet) r.unit))
+        (read_gives r.octet r.channels r.unit (length r.samples) (length r.ancillary) (read_off part (format_of r.octet) r.unit))
         run
-        → take r.answer.entries run₁ ≡ read_off_lem part (format_of r.octet) r.unit
-    unfolding read_gives over read_off_lem
+        → take r.answer.entries run₁ ≡ read_off part (format_of r.octet) r.unit
+    unfolding read_gives over read_off
     handed part run run₁ left =
-        let all : List ℕ = read_off_lem part (format_of r.octet) r.unit in
+        let all : List ℕ = read_off part (format_of r.octet) r.unit in
         let run_is : run₁ ≡ all ++ drop (length all) run = left ∙ rw table_none in
         ap₂ take entries_are run_is
         ∙ take_at all (drop (length all) run) (entries_in (format_of r.octet) (length r.unit)) (length_tab _ _)
 
-    pub samples_handed : samples_read r ≡ read_off_lem (sample_in f) f (unit_octets f e.channels e.samples e.ancillary fit k)
+    pub samples_handed : samples_read r ≡ read_off (sample_in f) f (unit_octets f e.channels e.samples e.ancillary fit k)
     samples_handed =
         handed (sample_in (format_of r.octet)) r.samples r.samples_after met.samples_after
-        ∙ (λ i. read_off_lem (sample_in (format_of (reads.same_octet i))) (format_of (reads.same_octet i)) ((reads.the_unit ∙ unit_is less) i))
+        ∙ (λ i. read_off (sample_in (format_of (reads.same_octet i))) (format_of (reads.same_octet i)) ((reads.the_unit ∙ unit_is less) i))
 
-    pub ancillary_handed : ancillary_read r ≡ read_off_lem (ancillary_in f) f (unit_octets f e.channels e.samples e.ancillary fit k)
+    pub ancillary_handed : ancillary_read r ≡ read_off (ancillary_in f) f (unit_octets f e.channels e.samples e.ancillary fit k)
     ancillary_handed =
         handed (ancillary_in (format_of r.octet)) r.ancillary r.ancillary_after met.ancillary_after
-        ∙ (λ i. read_off_lem (ancillary_in (format_of (reads.same_octet i))) (format_of (reads.same_octet i)) ((reads.the_unit ∙ unit_is less) i))
+        ∙ (λ i. read_off (ancillary_in (format_of (reads.same_octet i))) (format_of (reads.same_octet i)) ((reads.the_unit ∙ unit_is less) i))
 
   -- the units of an export read back, one after the other
   pub back_whole : (reads : ℕ → ReadCall) → ((k : ℕ) → k < e.answer.units → ReadsUnit e k (reads k) × MeetsRead (reads k)) → BackWhole e reads
@@ -199,13 +199,13 @@ module _ (e : ExportCall) (meets : MeetsExport e) (taken : e.answer.refusal ≡ 
         none_refused = λ k less. not_refused less (reads k) (each k less).0 (each k less).1;
         samples_back =
             joined_same _ _ e.answer.units (λ k less. samples_handed less (reads k) (each k less).0 (each k less).1)
-            ∙ ap (joined (λ k. read_off_lem (sample_in f) f (unit_octets f e.channels e.samples e.ancillary fit k))) units_are
+            ∙ ap (joined (λ k. read_off (sample_in f) f (unit_octets f e.channels e.samples e.ancillary fit k))) units_are
             ∙ read_all_back f e.channels e.samples e.ancillary known.limits.sound known.small known.few (sample_in f) e.samples
             (sample_of f e.channels e.samples e.ancillary known.limits.sound known.small known.few)
             known.whole (λ i. length e.samples) fit;
         ancillary_back =
             joined_same _ _ e.answer.units (λ k less. ancillary_handed less (reads k) (each k less).0 (each k less).1)
-            ∙ ap (joined (λ k. read_off_lem (ancillary_in f) f (unit_octets f e.channels e.samples e.ancillary fit k))) units_are
+            ∙ ap (joined (λ k. read_off (ancillary_in f) f (unit_octets f e.channels e.samples e.ancillary fit k))) units_are
             ∙ read_all_back f e.channels e.samples e.ancillary known.limits.sound known.small known.few (ancillary_in f) e.ancillary
             (ancillary_of_lem f e.channels e.samples e.ancillary known.limits.sound known.small known.few)
             known.whole known.as_many fit;

@@ -16,7 +16,7 @@ use Rattle.formats.specs.declared.Format.{Format}
 use Rattle.formats.specs.Sound.{Sound}
 use Rattle.cells.specs.Cells.{subframe_of, subframe_at, sample_in, ancillary_in}
 use Rattle.cells.proofs.Subframes.{subframe_lt, sample_back, ancillary_back}
-use Rattle.units.specs.Units.{subframe_octets, frame_octets, frame_size, frames_in, units_of, unit_octets, export_octets, export_size, read_off_lem}
+use Rattle.units.specs.Units.{subframe_octets, frame_octets, frame_size, frames_in, units_of, unit_octets, export_octets, export_size, read_off}
 use Rattle.units.proofs.Joined.{
   joined_same,
   regrouped,
@@ -174,8 +174,8 @@ module _ (f : Format) (channels : ℕ) (samples ancillary : List ℕ) where
         abbrev single : ℕ → List ℕ
         single i = get_or run i 0 ∷ []
 
-        read_subframes : (first n : ℕ) → read_off_lem part f (joined (λ j. sub (first + j)) n) ≡ joined (λ i. single (first + i)) n
-        unfolding read_off_lem
+        read_subframes : (first n : ℕ) → read_off part f (joined (λ j. sub (first + j)) n) ≡ joined (λ i. single (first + i)) n
+        unfolding read_off
         read_subframes first n =
             ap (tab _) (ap (λ (m : ℕ). m / f.width) (subs_length first n) ∙ mul-div_cancel n sound.width_from)
             ∙ tab_is _ n (tab (λ i. get_or run (first + i) 0) n) (length_tab _ n)
@@ -183,18 +183,18 @@ module _ (f : Format) (channels : ℕ) (samples ancillary : List ℕ) where
             ∙ singly (λ i. get_or run (first + i) 0) n
 
         pub read_unit_back : (fit k : ℕ)
-            → read_off_lem part f (unit_octets f channels samples ancillary fit k)
+            → read_off part f (unit_octets f channels samples ancillary fit k)
             ≡ joined (λ j. joined (λ channel. single ((k * fit + j) * channels + channel)) channels) (frames_in (length samples / channels) fit k)
         unfolding unit_octets
         read_unit_back fit k =
             let n : ℕ = frames_in (length samples / channels) fit k in
-            ap (read_off_lem part f) (frames_are (k * fit) n)
+            ap (read_off part f) (frames_are (k * fit) n)
             ∙ read_subframes (k * fit * channels) (n * channels)
             ∙ sym (regrouped single channels (k * fit) n)
 
         -- all units, one after the other
         pub read_all_back : length samples % channels ≡ 0 → length run ≡ length samples → (fit : ℕ)
-            → joined (λ k. read_off_lem part f (unit_octets f channels samples ancillary fit k)) (units_of (length samples / channels) fit) ≡ run
+            → joined (λ k. read_off part f (unit_octets f channels samples ancillary fit k)) (units_of (length samples / channels) fit) ≡ run
         read_all_back whole same fit =
             joined_same _ _ (units_of (length samples / channels) fit) (λ k less. read_unit_back fit k)
             ∙ units_joined (length samples / channels) fit (λ time. joined (λ channel. single (time * channels + channel)) channels)

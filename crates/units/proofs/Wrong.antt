@@ -27,7 +27,7 @@ use Rattle.units.specs.Units.{
   unit_refused,
   read_refusal,
   entered_of,
-  read_off_lem,
+  read_off,
   read_gives,
 }
 use Rattle.units.proofs.export_units.Kinds as export-kinds
@@ -41,7 +41,7 @@ unfolding subframe_octets frame_octets frames_in units_of unit_octets export_oct
 units_unfolded = tt
 
 unfoldable pub unfolded : Unit {0}
-unfolding sender.unfolded units_unfolded tab read_on over subframe_at sample_in ancillary_in unit_refused read_refusal entered_of read_off_lem read_gives
+unfolding sender.unfolded units_unfolded tab read_on over subframe_at sample_in ancillary_in unit_refused read_refusal entered_of read_off read_gives
 unfolded = tt
 
 module _ (κs : Lfts 3) (s a o : Place) where

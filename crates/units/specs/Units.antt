@@ -130,8 +130,8 @@ entered_of octet channels unit samples ancillary =
     (record { refusal = read_refusal octet channels unit samples ancillary; entries = 0 })
 
 -- "Reading the units back gives every sample and ancillary bit": what is read off each subframe of a unit
-unfoldable pub read_off_lem : (ℕ → ℕ) → Format → List ℕ → List ℕ
-read_off_lem part f unit = tab (λ entry. part (subframe_at f unit entry)) (entries_in f (length unit))
+unfoldable pub read_off : (ℕ → ℕ) → Format → List ℕ → List ℕ
+read_off part f unit = tab (λ entry. part (subframe_at f unit entry)) (entries_in f (length unit))
 
 -- what one run is given: nothing where the call is refused
 unfoldable pub read_gives : ℕ → ℕ → List ℕ → ℕ → ℕ → List ℕ → List ℕ
@@ -142,6 +142,6 @@ read_gives octet channels unit samples ancillary entries =
 pub record Reads (octet channels : ℕ) (unit samples ancillary : List ℕ) (answer : Entered) (samples₁ ancillary₁ : List ℕ) : Type 0 where
   pub answered : answer ≡ entered_of octet channels (length unit) (length samples) (length ancillary)
   pub samples_after : samples₁
-      ≡ over (read_gives octet channels unit (length samples) (length ancillary) (read_off_lem (sample_in (format_of octet)) (format_of octet) unit)) samples
+      ≡ over (read_gives octet channels unit (length samples) (length ancillary) (read_off (sample_in (format_of octet)) (format_of octet) unit)) samples
   pub ancillary_after : ancillary₁
-      ≡ over (read_gives octet channels unit (length samples) (length ancillary) (read_off_lem (ancillary_in (format_of octet)) (format_of octet) unit)) ancillary
+      ≡ over (read_gives octet channels unit (length samples) (length ancillary) (read_off (ancillary_in (format_of octet)) (format_of octet) unit)) ancillary

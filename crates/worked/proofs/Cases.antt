@@ -11,7 +11,7 @@ use Rattle.listing.specs.List.{line_of, lines_of, end_lines, list_to}
 use Rattle.cable.proofs.Wrong as cable
 use Rattle.circuits.proofs.Wrong as circuits
 use Rattle.figures.proofs.Wrong as figures
-use Rattle.presence.specs.Taking.{reads_on_lem}
+use Rattle.presence.specs.Taking.{reads_on}
 use Rattle.presence.proofs.Wrong as presence
 use Rattle.saving.proofs.Wrong as saving
 use Rattle.status.proofs.Wrong as status
@@ -52,7 +52,7 @@ unfolding sheets_asked sheets_said figures.unfolded heard_by given hear
 sheets_cases = refl
 
 presence_cases : presence_asked ≡ presence_said
-unfolding presence_asked presence_said presence.unfolded reads_on_lem heard_by given hear
+unfolding presence_asked presence_said presence.unfolded reads_on heard_by given hear
 presence_cases = refl
 
 salvage_cases : salvage_asked ≡ salvage_said

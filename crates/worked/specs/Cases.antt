@@ -12,7 +12,7 @@ use Rattle.figures.specs.Sheets.{rows_of, sheet_refusal}
 use Rattle.figures.specs.declared.Counts.{Counts}
 use Rattle.listing.specs.List.{list_of}
 use Rattle.presence.specs.Presence.{presence_of}
-use Rattle.presence.specs.Taking.{reads_on_lem, search_start}
+use Rattle.presence.specs.Taking.{reads_on, search_start}
 use Rattle.presence.specs.declared.Presence.{Presence}
 use Rattle.presence.specs.declared.Search.{Search}
 use Rattle.saving.specs.Salvage as Saving
@@ -175,7 +175,7 @@ present log =
 reads_with : Bool → ℕ
 reads_with found =
     let start : Search = search_start in
-    cond (reads_on_lem (record {
+    cond (reads_on (record {
       standing = start.standing;
       sought = record { state = start.sought.state; refusal = 0; found = found; number = 0 };
     })) 1 0

@@ -33,11 +33,11 @@ module _ (l : In-loop-cells) where
   used_is : used ≡ used_now s.args.state
   used_is = used_now_lem s.args.state s.requires.state_none s.requires.given
 
-  in-s : at + used ≤ length s.args.samples.now
-  in-s = omega (arith, in_samples _ _ _ _ _ _ _ _ s.requires l.loop-cells.invariant l.loop-cells-test.true, used_is)
+  in_s : at + used ≤ length s.args.samples.now
+  in_s = omega (arith, in_samples _ _ _ _ _ _ _ _ s.requires l.loop-cells.invariant l.loop-cells-test.true, used_is)
 
-  in-a : at + used ≤ length s.args.ancillary.now
-  in-a = omega (arith, in-s, s.requires.same)
+  in_a : at + used ≤ length s.args.ancillary.now
+  in_a = omega (arith, in_s, s.requires.same)
 
   in_log : to + 49 ≤ length log
   in_log = room_here _ _ _ _ _ _ _ _ s.requires l.loop-cells.invariant l.loop-cells-test.true
@@ -58,13 +58,13 @@ pub loop-cells-init : goal.loop-cells-init
 loop-cells-init c = begun _ _ _ _ _ _ _ _ c.requires
 
 pub overflow_add-past : goal.overflow_add-past
-overflow_add-past c = omega (arith, in-s (goal.at.overflow_add-past c).In-loop-cells, c.well_formed)
+overflow_add-past c = omega (arith, in_s (goal.at.overflow_add-past c).In-loop-cells, c.well_formed)
 
 pub offset_bounds-samples-at : goal.offset_bounds-samples-at
-offset_bounds-samples-at c = omega (arith, in-s (goal.at.offset_bounds-samples-at c).In-loop-cells, c.well_formed)
+offset_bounds-samples-at c = omega (arith, in_s (goal.at.offset_bounds-samples-at c).In-loop-cells, c.well_formed)
 
 pub slice_bounds-too_large-end : goal.slice_bounds-too_large-end
-slice_bounds-too_large-end c = in-s (goal.at.slice_bounds-too_large-end c).In-loop-cells
+slice_bounds-too_large-end c = in_s (goal.at.slice_bounds-too_large-end c).In-loop-cells
 
 pub too_large-requires : goal.too_large-requires
 too_large-requires c = let b = c.requires in
@@ -92,10 +92,10 @@ pub bounds-log-to : goal.bounds-log-to
 bounds-log-to c = omega (arith, in_log (goal.at.bounds-log-to c).In-loop-cells)
 
 pub offset_bounds-samples-at-in-loop-cells : goal.offset_bounds-samples-at-in-loop-cells
-offset_bounds-samples-at-in-loop-cells c = omega (arith, in-s (goal.at.offset_bounds-samples-at-in-loop-cells c).In-loop-cells, c.well_formed)
+offset_bounds-samples-at-in-loop-cells c = omega (arith, in_s (goal.at.offset_bounds-samples-at-in-loop-cells c).In-loop-cells, c.well_formed)
 
 pub slice_bounds-pack-end : goal.slice_bounds-pack-end
-slice_bounds-pack-end c = in-s (goal.at.slice_bounds-pack-end c).In-loop-cells
+slice_bounds-pack-end c = in_s (goal.at.slice_bounds-pack-end c).In-loop-cells
 
 pub pack-requires : goal.pack-requires
 pack-requires c = let small = sym c.too_large.ensures ∙ c.if-too_large.false in (

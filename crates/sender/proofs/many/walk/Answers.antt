@@ -21,13 +21,13 @@ module _ (q : After-least_of-most) where
   to_room : most ≤ room
   to_room = omega (arith, q.least_of-most.ensures.1, q.records_from-room.ensures)
 
-  or-whole : most < room → most ≡ length s.args.samples.now / (s.args.set.channels * s.args.set.times)
-  or-whole less = q.least_of-most.ensures.2 (omega (arith, less, q.records_from-room.ensures))
+  or_whole : most < room → most ≡ length s.args.samples.now / (s.args.set.channels * s.args.set.times)
+  or_whole less = q.least_of-most.ensures.2 (omega (arith, less, q.records_from-room.ensures))
 
   there : most * (s.args.set.channels * s.args.set.times) ≤ length s.args.samples.now
   there =
       most_there s.args.state s.requires.0 s.requires.1 s.args.samples.now s.args.ancillary.now s.args.log.now s.args.place
-      s.requires.2 q.least_of-most.ensures.0 to_room or-whole
+      s.requires.2 q.least_of-most.ensures.0 to_room or_whole
 
 pub overflow_mul-used : goal.overflow_mul-used
 overflow_mul-used c = omega (arith, (limits_now c.args.state c.requires.1 c.requires.0).used_to)
@@ -49,12 +49,12 @@ values_refused-sound-requires c = let l = limits_now c.args.state c.requires.1 c
   l.sample_to,
   l.ancillary_to,
   parts_same c.args.state c.requires.0 c.requires.1 c.args.samples.now c.args.ancillary.now c.args.log.now
-      c.args.place c.requires.2 c.least_of-most.ensures.0 (to_room (goal.at.values_refused-sound-requires c).After-least_of-most) (or-whole (goal.at.values_refused-sound-requires c).After-least_of-most),
+      c.args.place c.requires.2 c.least_of-most.ensures.0 (to_room (goal.at.values_refused-sound-requires c).After-least_of-most) (or_whole (goal.at.values_refused-sound-requires c).After-least_of-most),
 )
 
 pub row-sent-requires : goal.row-sent-requires
 row-sent-requires c = bounds c.args.state c.requires.0 c.requires.1 c.args.samples.now c.args.ancillary.now c.args.log.now
-    c.args.place c.requires.2 c.least_of-most.ensures.0 (to_room (goal.at.row-sent-requires c).After-least_of-most) (or-whole (goal.at.row-sent-requires c).After-least_of-most) c.values_refused-sound.ensures refl
+    c.args.place c.requires.2 c.least_of-most.ensures.0 (to_room (goal.at.row-sent-requires c).After-least_of-most) (or_whole (goal.at.row-sent-requires c).After-least_of-most) c.values_refused-sound.ensures refl
 
 pub overflow_mul-next : goal.overflow_mul-next
 overflow_mul-next c = omega (arith, to_room (goal.at.overflow_mul-next c).After-least_of-most, c.row-sent.ensures.within, c.well_formed)
@@ -68,5 +68,5 @@ overflow_mul-entries c = let used = c.args.set.channels * c.args.set.times in
 
 pub returns : goal.returns
 returns c = batch_sent c.args.state c.requires.0 c.requires.1 c.args.samples.now c.args.ancillary.now c.args.log.now
-    c.args.place c.requires.2 c.least_of-most.ensures.0 (to_room (goal.at.returns c).After-least_of-most) (or-whole (goal.at.returns c).After-least_of-most) c.args.indications c.row-sent.ensures
+    c.args.place c.requires.2 c.least_of-most.ensures.0 (to_room (goal.at.returns c).After-least_of-most) (or_whole (goal.at.returns c).After-least_of-most) c.args.indications c.row-sent.ensures
     c.stop_of-stop.ensures
