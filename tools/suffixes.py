@@ -36,7 +36,11 @@ def write(path, text):
 
 
 def turned(names, text):
-    return TOKEN.sub(lambda it: names.get(it[0], it[0]), text)
+    def one(it):
+        if '-' in it[0] and text[it.start() - 1:it.start()] == '.':
+            return it[0]  # a name of another module
+        return names.get(it[0], it[0])
+    return TOKEN.sub(one, text)
 
 
 def files():

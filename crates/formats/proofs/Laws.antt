@@ -413,7 +413,7 @@ module _ {set : Settled} (channels : ℕ) (given : set ≡ settings_of 0x56 (con
       let first = both_true (eqb octet 0x56) _ is in
       let next = both_true (eqb order 0) _ first.1 in
       let last = both_true (not (ltb channels 1)) _ next.1 in
-      let from : 1 ≤ channels = ltb-false channels 1 (Tests.not_true (ltb channels 1) last.0) in
+      let from : 1 ≤ channels = ltb-false channels 1 (Tests.not-true (ltb channels 1) last.0) in
       let to : channels < 3 = ltb-true channels 3 last.1 in
       let same : cond (eqb channels 2) 2 1 ≡ channels
       = split (eqb channels 2) (λ two. rw two (sym (eqb-true channels 2 two)))
