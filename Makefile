@@ -25,7 +25,7 @@ help:
 	@echo 'to work on it'
 	@echo '  make                  prove every crate that changed, and build the programs'
 	@echo '  make module           the LLVM modules that the archives were compiled from: target/module/NAME.bc'
-	@echo '  make test             the gate: prove all from nothing, try the must-fail edits, run every test; some 30 minutes from nothing'
+	@echo '  make test             the gate: prove every crate, try the must-fail edits, run every test; some 30 minutes from nothing'
 	@echo '  make dist-test        unpack that tarball elsewhere and run the gate there'
 	@echo '  make mutants          try the wrong programs of tests/mutants; CRATES="sender log" for some crates'
 	@echo '  make edits            wrong edits of the four programs (tests/edits), and the test that stops each; CRATES="sheet"'
