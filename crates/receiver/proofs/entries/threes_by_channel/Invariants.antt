@@ -11,6 +11,3 @@ abbrev pub invariant-loop-i : goal.invariant-loop-i
 invariant-loop-i l = Filled l.run l.initial.run l.at (own_entries (λ x. x) l.set l.cell) l.i
     × (l.slot ≡ slot_of_entry true l.set.channels l.set.times l.i)
     × (l.i ≤ used_in l.set - 1)
-
-abbrev pub decreases-loop-i : goal.decreases-loop-i
-decreases-loop-i l = used_in l.set - l.i

@@ -6,6 +6,3 @@ use Rattle.receiver.proofs.entries.threes_by_time.Given as goal
 
 abbrev pub invariant-loop-i : goal.invariant-loop-i
 invariant-loop-i l = Filled l.run l.initial.run l.at (own_entries (λ x. x) l.set l.cell) l.i × (l.i ≤ used_in l.set - 1)
-
-abbrev pub decreases-loop-i : goal.decreases-loop-i
-decreases-loop-i l = used_in l.set - l.i
