@@ -1,6 +1,6 @@
 -- Laws of unpacking: runs that are filled with entries, taken apart in place, and filled with a cell's own.
 -- Assumes nothing.
-use mathlib.Core.Bool.{false}
+use mathlib.Core.Bool.{Bool, true, false}
 use mathlib.Core.List.{List, ◌++◌, append_assoc}
 use mathlib.Core.Logic.{◌⊎◌, inl, inr, ⊎_elim}
 use mathlib.Core.Path.{◌≡◌, refl, sym, ◌∙◌, ap, ap₂}
@@ -32,8 +32,9 @@ use Rattle.formats.specs.declared.Format.{Format}
 use Rattle.formats.specs.declared.Settled.{Settled}
 use Rattle.formats.specs.Sound.{Limits}
 use Rattle.cells.specs.Cells.{subframe_at, sample_in, ancillary_in, mark_in, entries_of}
+use Rattle.cells.specs.Code.{step_on}
 use Rattle.cells.specs.Placement.{slot_of, slot_of_entry}
-use Rattle.cells.proofs.Placement.{slot_lt}
+use Rattle.cells.proofs.Placement.{slot_lt, slot_next}
 use Rattle.receiver.specs.Unpacking.{used_in, own_entries, Unpacks, Fills, Room, Misses, blank_end, Blank, held, Splits}
 
 -- a run that a loop fills with as many entries as it counts
@@ -234,6 +235,19 @@ module _ (set : Settled) (cell : List ℕ) where
   pub slot_straight : set.by_channel ≡ false → (i : ℕ) → i ≡ slot_of_entry set.by_channel set.channels set.times i
   unfolding slot_of_entry slot_of
   slot_straight e i = rw e (sym (div-add-mod' i set.channels))
+
+  -- from one entry's slot to the next one's
+  pub slot_on : set.by_channel ≡ false → (i : ℕ) {slot : ℕ} → slot ≡ slot_of_entry set.by_channel set.channels set.times i
+      → slot + 1 ≡ slot_of_entry set.by_channel set.channels set.times (i + 1)
+  slot_on is i e = ap (λ (n : ℕ). n + 1) (e ∙ sym (slot_straight is i)) ∙ slot_straight is (i + 1)
+
+  pub slot_stepped : Limits set → set.by_channel ≡ true → {i slot : ℕ} → i < used_in set
+      → slot ≡ slot_of_entry set.by_channel set.channels set.times i
+      → step_on set.times (used_in set) slot ≡ slot_of_entry set.by_channel set.channels set.times (i + 1)
+  slot_stepped limits is {i} less e =
+      ap (step_on set.times (used_in set)) (e ∙ ap (λ (b : Bool). slot_of_entry b set.channels set.times i) is)
+      ∙ slot_next set.channels set.times limits.channels_from less
+      ∙ ap (λ (b : Bool). slot_of_entry b set.channels set.times (i + 1)) (sym is)
 
   pub used_from : Limits set → 1 ≤ used_in set
   used_from limits = mul-le-mul limits.channels_from limits.times_from

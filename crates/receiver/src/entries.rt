@@ -86,57 +86,37 @@ pub(crate) fn cleared(
     fill(&mut ancillary[..blank], 0);
 }
 
-// Writes the subframes of the used slots to a run from `at` on, in order 0.
-fn subframes_by_time(set: Settled, cell: &[u8], at: usize, run: &mut [u64])
-    requires { Limits set × (length cell.now ≡ 48) × (at + used_in set ≤ length run.old) × (set.by_channel ≡ false) }
+// Writes the subframes of the used slots to a run from `at` on, compiled for each order, and for subframes of three octets apart. It
+// steps from slot to slot: a division by C would cost as much as the rest of the loop. Three octets are read with the octet behind
+// them, by one load; those of the last used slot alone, since they may have none behind them.
+fn subframes_in<const BY_CHANNEL: bool, const THREE: bool>(
+    set: Settled,
+    cell: &[u8],
+    at: usize,
+    run: &mut [u64],
+)
+    requires { Limits set × (length cell.now ≡ 48) × (at + used_in set ≤ length run.old) × (set.by_channel ≡ BY_CHANNEL)
+        × (THREE ≡ true → set.format.width ≡ 3) }
     ensures { run.new ≡ written run.old at (own_entries (λ x. x) set cell.now) }
 {
     let used = set.channels * set.times;
-    for i in 0..used {
-        run[at + i] = octets::subframe_in(set.format, cell, i);
-    }
-}
-
-// The same in order 1. It steps from slot to slot: a division by C would cost as much as the rest of the loop.
-fn subframes_by_channel(set: Settled, cell: &[u8], at: usize, run: &mut [u64])
-    requires { Limits set × (length cell.now ≡ 48) × (at + used_in set ≤ length run.old) × (set.by_channel ≡ true) }
-    ensures { run.new ≡ written run.old at (own_entries (λ x. x) set cell.now) }
-{
-    let used = set.channels * set.times;
+    let count = if THREE { used - 1 } else { used };
     let mut slot = 0;
-    for i in 0..used {
-        run[at + i] = octets::subframe_in(set.format, cell, slot);
-        slot = next_slot(set.times, used, slot);
+    for i in 0..count {
+        run[at + i] = if THREE {
+            octets::three_in(set.format, cell, slot)
+        } else {
+            octets::subframe_in(set.format, cell, slot)
+        };
+        slot = if BY_CHANNEL {
+            next_slot(set.times, used, slot)
+        } else {
+            slot + 1
+        };
     }
-}
-
-// The same in order 0 where a subframe has three octets. A slot is read with the octet behind it, by one load; the last one alone,
-// since it may have none behind it.
-fn threes_by_time(set: Settled, cell: &[u8], at: usize, run: &mut [u64])
-    requires { Limits set × (length cell.now ≡ 48) × (at + used_in set ≤ length run.old) × (set.by_channel ≡ false) × (set.format.width ≡ 3) }
-    ensures { run.new ≡ written run.old at (own_entries (λ x. x) set cell.now) }
-{
-    let used = set.channels * set.times;
-    let last = used - 1;
-    for i in 0..last {
-        run[at + i] = octets::three_in(set.format, cell, i);
+    if THREE {
+        run[at + count] = octets::subframe_in(set.format, cell, count);
     }
-    run[at + last] = octets::subframe_in(set.format, cell, last);
-}
-
-// The same in order 1, where the last entry is in the last used slot too.
-fn threes_by_channel(set: Settled, cell: &[u8], at: usize, run: &mut [u64])
-    requires { Limits set × (length cell.now ≡ 48) × (at + used_in set ≤ length run.old) × (set.by_channel ≡ true) × (set.format.width ≡ 3) }
-    ensures { run.new ≡ written run.old at (own_entries (λ x. x) set cell.now) }
-{
-    let used = set.channels * set.times;
-    let last = used - 1;
-    let mut slot = 0;
-    for i in 0..last {
-        run[at + i] = octets::three_in(set.format, cell, slot);
-        slot = next_slot(set.times, used, slot);
-    }
-    run[at + last] = octets::subframe_in(set.format, cell, last);
 }
 
 // The same in the order of the settings.
@@ -144,19 +124,12 @@ fn subframes(set: Settled, cell: &[u8], at: usize, run: &mut [u64])
     requires { Limits set × (length cell.now ≡ 48) × (at + used_in set ≤ length run.old) }
     ensures { run.new ≡ written run.old at (own_entries (λ x. x) set cell.now) }
 {
-    if set.format.width == 3 {
-        if set.by_channel {
-            threes_by_channel(set, cell, at, run);
-            return;
-        }
-        threes_by_time(set, cell, at, run);
-        return;
+    match (set.by_channel, set.format.width == 3) {
+        (true, true) => subframes_in::<true, true>(set, cell, at, run),
+        (true, false) => subframes_in::<true, false>(set, cell, at, run),
+        (false, true) => subframes_in::<false, true>(set, cell, at, run),
+        (false, false) => subframes_in::<false, false>(set, cell, at, run),
     }
-    if set.by_channel {
-        subframes_by_channel(set, cell, at, run);
-        return;
-    }
-    subframes_by_time(set, cell, at, run);
 }
 
 // Takes subframes with ancillary bits and overhead apart, in place.

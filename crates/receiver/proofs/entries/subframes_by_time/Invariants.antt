@@ -1,7 +1,0 @@
--- `receiver::entries::subframes_by_time` meets its contract.
-use Rattle.runs.proofs.Filling.{Filled}
-use Rattle.receiver.specs.Unpacking.{own_entries}
-use Rattle.receiver.proofs.entries.subframes_by_time.Given as goal
-
-abbrev pub invariant-loop-i : goal.invariant-loop-i
-invariant-loop-i l = Filled l.run l.initial.run l.at (own_entries (λ x. x) l.set l.cell) l.i
