@@ -1,0 +1,12 @@
+-- `sender::fill::fill` meets its contract.
+use Rattle.std.proofs.Common.{◌≡◌, ◌/◌, ◌^◌, length}
+use Rattle.sender.specs.Packing.{entry_at}
+use Rattle.sender.proofs.Filling.{Filling}
+use Rattle.sender.proofs.fill.fill.Given as goal
+
+abbrev pub invariant-loop-slot : goal.invariant-loop-slot
+invariant-loop-slot l = record {
+  filling : Filling l.set l.sequence l.samples l.ancillary l.initial.cell (length l.samples) l.cell l.slot;
+  entry_is : l.entry ≡ entry_at l.set l.slot;
+  rest_is : l.rest ≡ l.sequence / 2 ^ l.slot;
+}
