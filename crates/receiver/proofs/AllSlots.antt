@@ -7,6 +7,7 @@ use Prim.Native.Nat.{ℕ, ◌+◌, ◌*◌, ◌/◌, ◌%◌, ◌^◌, ◌≤◌
 use native.Mathlib.Omega.{arith}
 use lib.Dec.{eqb}
 use lib.ListN.{length, get_or, replicate}
+use Rattle.std.specs.Prelude.{Option, Some}
 use Rattle.runs.specs.Runs.{tab, over}
 use Rattle.runs.proofs.Filling.{Filled, begun}
 use Rattle.formats.specs.declared.Format.{Format}
@@ -16,8 +17,6 @@ use Rattle.formats.specs.Settings.{settings_of}
 use Rattle.formats.specs.Code.{is_usual, usual_with}
 use Rattle.formats.specs.Sound.{Sound}
 use Rattle.formats.proofs.Laws.{usual_is, usual_set}
-use Rattle.numbers.specs.declared.Found.{Found}
-use Rattle.numbers.specs.declared.Found.TheVariants.{Number}
 use Rattle.numbers.specs.Numbers.{found_of}
 use Rattle.cells.specs.Cells.{subframe_at, sample_in, ancillary_in, mark_in, eight_in, entries_of}
 use Rattle.cells.specs.Placement.{slot_of, slot_of_entry}
@@ -142,10 +141,10 @@ module _ (st : Receiver) {set : Settled} (settled : set ≡ settings_of 0x56 (co
       usual_is st.channels settled (λ (x : Settled). own_entries (read fours) straight cell ≡ own_entries (read x.format) x cell)
       (own_one (read fours) cell) (own_two (read fours) cell)
 
-  abbrev found_by : List ℕ → Format → Found
-  found_by cell f = cond (eqb f.overhead_bits 0) (Number 0) (found_of (eight_in f cell))
+  abbrev found_by : List ℕ → Format → Option ℕ
+  found_by cell f = cond (eqb f.overhead_bits 0) (Some 0) (found_of (eight_in f cell))
 
-  pub usual_found : (cell : List ℕ) {found : Found} → set.format ≡ format_of st.format → found ≡ found_of (eight_in set.format cell)
+  pub usual_found : (cell : List ℕ) {found : Option ℕ} → set.format ≡ format_of st.format → found ≡ found_of (eight_in set.format cell)
       → found ≡ found_now st cell
   unfolding found_now
   usual_found cell is e =

@@ -10,10 +10,9 @@ ghost use Rattle.receiver.specs.Unpacking.{Unpacks, Fills, Room, Enters, straigh
 
 use crate::{Received, Receiver, bits, entries, judge, octets};
 use formats::Format;
-use numbers::Found;
 
 // What the cell's number is found to be. This is no part of `found_now`, which is too long to be compiled into both ways.
-fn found_in(format: Format, cell: &[u8]) -> Found
+fn found_in(format: Format, cell: &[u8]) -> Option<u8>
     requires { Sound format × (length cell.now ≡ 48) }
     ensures { result ≡ found_of (eight_in format cell.now) }
 {
@@ -50,7 +49,7 @@ pub(crate) fn own_entries(
 {
     for i in 0..12 {
         let subframe = octets::in4(cell, i * 4);
-        let bits = tables::marks_for_usual(subframe / 8388608);
+        let bits = tables::marks(subframe / 8388608);
         enter(subframe, bits, at + i, samples, ancillary, marks);
     }
 }

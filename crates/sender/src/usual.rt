@@ -30,7 +30,7 @@ pub(crate) fn fill_usual(
     for slot in 0..12 {
         let bit = (sequence >> slot) % 2;
         let sample = samples[slot];
-        let guard = tables::protection_for_usual(sample / 32768);
+        let guard = tables::protection(sample / 32768);
         let number = guarded(24, 4, sample, guard, u64::from(ancillary[slot]), bit);
         put_four(cell, slot * 4, number);
     }

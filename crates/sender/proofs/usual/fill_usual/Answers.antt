@@ -24,7 +24,7 @@ loop-slot-init c = let a = c.args in
 pub guarded-number-requires : goal.guarded-number-requires
 guarded-number-requires c = let given = (from (goal.at.guarded-number-requires c).In-loop-slot).requires in
     let slot = c.loop-slot.slot in
-    subframe_ready given.0 given.2 slot (guard_of_24 (small_at given.0 given.2 slot) c.protection_for_usual-guard.ensures)
+    subframe_ready given.0 given.2 slot (guard_of_24 (small_at given.0 given.2 slot) c.protection-guard.ensures)
     c.from.ensures (omega arith)
 
 pub put_four-requires : goal.put_four-requires
