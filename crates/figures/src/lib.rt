@@ -32,21 +32,21 @@ pub struct Counts {
 }
 
 // The receiver's state, and what was counted so far.
-#[derive(Clone, Copy)]
+#[derive(Clone, Copy, Debug, PartialEq, Eq, Hash)]
 pub struct Noted {
     pub state: Receiver,
     pub counts: Counts,
 }
 
 // The figures of a log under way: where it stands, and what was counted.
-#[derive(Clone, Copy)]
+#[derive(Clone, Copy, Debug, PartialEq, Eq, Hash)]
 pub struct Tally {
     pub standing: Standing,
     pub noted: Noted,
 }
 
 // The refusal (0: none), and the row of all logs together, which is zeros where it is refused.
-#[derive(Clone, Copy)]
+#[derive(Clone, Copy, Debug, PartialEq, Eq, Hash)]
 pub struct Answer {
     pub refusal: u8,
     pub totals: [u32; 10],

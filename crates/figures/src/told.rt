@@ -10,7 +10,7 @@ use formats::{Format, Settled};
 use receiver::Receiver;
 
 // The refusal (0: none), how many cells are missing before this one, and the state to go on with.
-#[derive(Clone, Copy)]
+#[derive(Clone, Copy, Debug, PartialEq, Eq, Hash)]
 pub(crate) struct Told {
     pub refusal: u8,
     pub missing: u8,

@@ -5,7 +5,7 @@
 ghost use Rattle.std.specs.Prelude.{◌≡◌, ◌<◌, ◌≤◌, true, length, take};
 ghost use Rattle.table.specs.Taking.{Takes};
 
-use source::{Reader, Source, Turn};
+use source::{Argument, Reader, Source, Turn};
 use std::io;
 use stops::Stop;
 use table::{Ended, Sheet};
@@ -182,7 +182,7 @@ fn files_named(rt: &HostRuntime) -> usize {
     }
     let mut name = [0u8; 4096];
     let length = source::word(rt, 1, &mut name).unwrap_or(0);
-    if source::kind(&name[..length]) == 2 {
+    if source::kind(&name[..length]) == Argument::Standard {
         return 0;
     }
     1

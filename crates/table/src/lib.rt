@@ -14,7 +14,7 @@ mod logs; // logs.rt: logs after their lengths
 
 // Logs on standard input, one after the other, each after its length: the refusal so far (0: none), how many logs are whole, how
 // many octets are left of the one that is read (0: between two logs), how many digits are read of a length, and their number.
-#[derive(Clone, Copy)]
+#[derive(Clone, Copy, Debug, PartialEq, Eq, Hash)]
 pub struct Input {
     pub refusal: u8,
     pub logs: usize,
@@ -24,7 +24,7 @@ pub struct Input {
 }
 
 // A sheet under way: where its input stands, the log that is counted, and the totals of the logs before it.
-#[derive(Clone, Copy)]
+#[derive(Clone, Copy, Debug, PartialEq, Eq, Hash)]
 pub struct Sheet {
     pub input: Input,
     pub tally: Tally,
@@ -32,7 +32,7 @@ pub struct Sheet {
 }
 
 // A sheet at its end: its refusal and the row of all logs together, how many logs, and how many lines.
-#[derive(Clone, Copy)]
+#[derive(Clone, Copy, Debug, PartialEq, Eq, Hash)]
 pub struct Ended {
     pub answer: Answer,
     pub logs: usize,

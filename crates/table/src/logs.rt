@@ -17,7 +17,7 @@ use crate::Input;
 
 // What the octets ahead are: how many belong to the log that is read, how many are used, whether the log is whole behind them, and
 // the input there.
-#[derive(Clone, Copy)]
+#[derive(Clone, Copy, Debug, PartialEq, Eq, Hash)]
 pub(crate) struct Step {
     pub input: Input,
     pub octets: usize,
