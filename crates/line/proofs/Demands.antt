@@ -14,8 +14,7 @@ use Rattle.receiver.specs.declared.Receiver.{Receiver}
 use Rattle.receiver.specs.declared.Received.{Received}
 use Rattle.receiver.specs.Receiver as R
 use Rattle.status.specs.declared.step.Block.{Block}
-use Rattle.status.specs.declared.step.Stepped.{Stepped}
-use Rattle.status.specs.Step.{is_refused}
+use Rattle.status.specs.Step.{Stepped, is_refused}
 use Rattle.cell_log.specs.declared.Number.{Number}
 use Rattle.cell_log.specs.declared.Header.{Header}
 use Rattle.cell_log.specs.declared.Record.{Record}

@@ -28,7 +28,7 @@ use Rattle.receiver.proofs.receive.Kinds as receive-kinds
 use Rattle.receiver.proofs.receive.Reads as receive-reads
 use Rattle.receiver.proofs.placed.Kinds as placed-kinds
 use Rattle.receiver.proofs.placed.Reads as placed-reads
-use Rattle.status.specs.declared.step.Handed.{Handed}
+use Rattle.status.specs.Answers.{answered_handed, answered_step}
 use Rattle.status.proofs.step.step.Kinds as step-kinds
 use Rattle.status.proofs.step.step.Reads as step-reads
 use Rattle.status.proofs.assembler.brought_forward.Kinds as brought-forward-kinds
@@ -155,11 +155,11 @@ pub judged_ensures : Ensured judged-kinds.ps judged-kinds.r judged-reads.Post
     (λ κs a x v. MeetsJudged a.0 a.1.0.now a.1.1.0 x)
 judged_ensures κs a x v p = p
 
-pub step_ensures : Ensured step-kinds.ps step-kinds.r step-reads.Post (λ κs a x v. MeetsStep a.0 a.1.0 a.1.1.0 x)
+pub step_ensures : Ensured step-kinds.ps step-kinds.r step-reads.Post (λ κs a x v. MeetsStep a.0 a.1.0 a.1.1.0 (answered_step a.0 x))
 step_ensures κs a x v p = p
 
 pub brought_forward_ensures : Ensured brought-forward-kinds.ps brought-forward-kinds.r brought-forward-reads.Post
-    (λ κs a x v. MeetsStep a.0 a.1.0 a.1.1.0 x)
+    (λ κs a x v. MeetsStep a.0 a.1.0 a.1.1.0 (answered_step a.0 x))
 brought_forward_ensures κs a x v p = p
 
 pub read_number_ensures : Ensured read-number-kinds.ps read-number-kinds.r read-number-reads.Post
@@ -211,9 +211,9 @@ export_ensures κs a x v p = p
 -- The `ensures` of five functions are stated over their clauses, and not by Kinds and Reads.
 module _ {M : Type 1} {𝓤 : Ura M} (𝓛 : Logic 𝓤) (mem : Memory → SProp 𝓤) (run : Routine → Fun 𝓤) (κs : Lfts 1) where
   -- the block that was lent and what it is afterwards
-  pub bring_forward_ensures : (a : Args bring-forward.signature κs) (x : Handed) (v : Lasts bring-forward.ended κs a)
+  pub bring_forward_ensures : (a : Args bring-forward.signature κs) (x : status.Answer) (v : Lasts bring-forward.ended κs a)
       → ent 𝓤 (status.Ensures 𝓛 mem run κs a x v)
-      (fact 𝓤 (MeetsStep a.0.now a.1.0 a.1.1.0 (record { block = v.0; handed = x })))
+      (fact 𝓤 (MeetsStep a.0.now a.1.0 a.1.1.0 (record { block = v.0; handed = answered_handed x })))
   bring_forward_ensures a x v = fact_mono 𝓤 _ _ (λ p i. record { block = p.1 i; handed = p.0 i })
 
   pub record_here_ensures : (a : Args record_here.signature κs) (x : Record)

@@ -14,8 +14,7 @@ use Rattle.receiver.specs.declared.Ready.{Ready}
 use Rattle.receiver.specs.declared.Received.{Received}
 use Rattle.receiver.specs.Receiver as R
 use Rattle.status.specs.declared.step.Block.{Block}
-use Rattle.status.specs.declared.step.Stepped.{Stepped}
-use Rattle.status.specs.Step.{step_of}
+use Rattle.status.specs.Step.{Stepped, step_of}
 use Rattle.cell_log.specs.declared.Number.{Number}
 use Rattle.cell_log.specs.declared.Header.{Header}
 use Rattle.cell_log.specs.declared.Record.{Record}

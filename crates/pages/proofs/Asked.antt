@@ -29,9 +29,8 @@ use Rattle.salvaging.specs.Said as Said
 use Rattle.status.specs.Bits.{bit_of, with_bit, zeros}
 use Rattle.status.specs.Check.{check_character}
 use Rattle.status.specs.Sender.{block_after, brought_by, brought_out, Octets, SendsBlock}
-use Rattle.status.specs.Step.{b_of, c_of, no_block, fit_of, unfinished, finished, is_refused, added_to, step_of}
+use Rattle.status.specs.Step.{Stepped, b_of, c_of, no_block, fit_of, unfinished, finished, is_refused, added_to, step_of}
 use Rattle.status.specs.declared.step.Block.{Block}
-use Rattle.status.specs.declared.step.Stepped.{Stepped}
 use Rattle.status.proofs.Sent as status
 use Rattle.cable.specs.Back.{Halves, SameFrame}
 use Rattle.cable.specs.Frames.{import_of, export_of}
