@@ -2,7 +2,7 @@
 -- Assumes nothing.
 use mathlib.Core.Bool.{Bool}
 use mathlib.Core.List.{List, [], ◌∷◌}
-use mathlib.Core.Path.{◌≡◌, refl, ap}
+use mathlib.Core.Path.{◌≡◌, refl}
 use Prim.Native.Nat.{ℕ, ◌≤◌, ◌<◌}
 use native.Mathlib.Omega.{arith}
 use borrow.Author.Tests.{lt-ltb, le-ltb}
@@ -43,17 +43,3 @@ module _ (ports : List ℕ) (asked : Enquiry) (answer : List ℕ) {octets : ℕ}
       split too_short
       (λ t. rw (t, none) (record { refused = refl; leaves = refl; writes = rw t at replies.left; reports = refl }))
       (λ t. absurd (let all = rw t at replies.counted in omega (arith, all, some_octets ports asked)))
-
-  pub left_replied : (octets ≡ 0 → ⊥) → Leaves (replied ports asked (length answer)) answer 0 ports answer₁ (octets ∷ 0 ∷ 0 ∷ 0 ∷ [])
-  unfolding replied
-  left_replied some =
-      split too_short
-      (λ t. absurd (some (rw t at replies.counted)))
-      (λ t.
-      rw t
-      (record {
-        refused = refl;
-        leaves = refl;
-        writes = rw t at replies.left;
-        reports = ap (λ (n : ℕ). n ∷ 0 ∷ 0 ∷ 0 ∷ []) (rw t at replies.counted);
-      }))

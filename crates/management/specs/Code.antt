@@ -1,6 +1,6 @@
 -- Words that only the code needs.
 -- Assumes nothing.
-use Rattle.std.specs.Prelude.{cond, List, [], ◌∷◌, ◌≡◌, ℕ, ◌+◌, ◌<◌, eqb, ltb, length, get_or}
+use Rattle.std.specs.Prelude.{cond, List, [], ◌∷◌, ◌≡◌, ℕ, ◌+◌, ◌<◌, ◌≤◌, eqb, ltb, length, get_or, Option, Some, None}
 use Rattle.runs.specs.Runs.{over}
 use Rattle.management.specs.declared.ports.Enquiry.{Enquiry}
 use Rattle.management.specs.declared.ports.Fit.{Fit}
@@ -17,9 +17,15 @@ pub record Asks (o : Outcome) (ports₁ report₁ : List ℕ) : Type 0 where
   pub leaves : ports₁ ≡ o.ports
   pub reports : report₁ ≡ report_of o
 
--- a port that fits is one of the ports
-abbrev pub Inside : List ℕ → Fit → Type 0
-Inside ports fit = (fit.misfits ≡ 4 → ⊥) → fit.port < port_count ports
+-- the port that fits best; misfits 4 where there is none
+abbrev pub found_fit : Option Fit → Fit
+found_fit None = record { misfits = 4; port = 0 }
+found_fit (Some fit) = fit
+
+-- a port that fits is one of the ports, and has at most the three misfits
+pub record Inside (ports : List ℕ) (fit : Fit) : Type 0 where
+  pub few : fit.misfits ≤ 3
+  pub there : fit.port < port_count ports
 
 -- octets 0 to 6 of a status message
 abbrev pub status_head : Enquiry → ℕ → List ℕ

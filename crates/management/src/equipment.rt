@@ -17,6 +17,7 @@ use crate::ports::{Enquiry, first_reference, identified};
 use crate::status::write_status;
 
 // What is asked for answered by its status message: a status enquiry, or a request whose port isn't there.
+#[tactic(auto, unfolding(crate::specs::Equipment::replied))]
 fn reply(ports: &[u8], asked: Enquiry, answer: &mut [u8], report: &mut [u64; 4]) -> u8
     ensures { Leaves (replied ports.now asked (length answer.old)) answer.old result
         ports.now answer.new report.new }
@@ -30,6 +31,7 @@ fn reply(ports: &[u8], asked: Enquiry, answer: &mut [u8], report: &mut [u64; 4])
 }
 
 // Steps b and c of an audio connection request (8.4.1.2.3): an ADD PARTY or a SETUP is asked for.
+#[tactic(auto, unfolding(crate::specs::Equipment::connected_to))]
 fn connect_to(ports: &mut [u8], port: usize, high: u8, low: u8, report: &mut [u64; 4])
     requires { port < port_count ports.old }
     ensures { Asks (connected_to ports.old (high ∷ low ∷ []) port) ports.new report.new }
@@ -46,6 +48,7 @@ fn connect_to(ports: &mut [u8], port: usize, high: u8, low: u8, report: &mut [u6
 }
 
 // An audio connection request.
+#[tactic(auto, unfolding(crate::specs::Equipment::connected))]
 fn connect(
     ports: &mut [u8],
     asked: Enquiry,
@@ -60,15 +63,15 @@ fn connect(
     if number(high, low) == 0 {
         return reply(ports, asked, answer, report);
     }
-    let port = identified(ports, asked, true);
-    if ports.len() / 28 <= port {
+    let Some(port) = identified(ports, asked, true) else {
         return reply(ports, asked, answer, report);
-    }
+    };
     connect_to(ports, port, high, low, report);
     0
 }
 
 // Step b of an audio disconnection request (8.4.1.3.2): a RELEASE or a DROP PARTY is asked for.
+#[tactic(auto, unfolding(crate::specs::Equipment::disconnected_from))]
 fn disconnect_from(ports: &mut [u8], port: usize, high: u8, low: u8, report: &mut [u64; 4])
     requires { port < port_count ports.old }
     ensures { Asks (disconnected_from ports.old (high ∷ low ∷ []) port) ports.new report.new }
@@ -88,6 +91,7 @@ fn disconnect_from(ports: &mut [u8], port: usize, high: u8, low: u8, report: &mu
 }
 
 // An audio disconnection request.
+#[tactic(auto, unfolding(crate::specs::Equipment::disconnected))]
 fn disconnect(
     ports: &mut [u8],
     asked: Enquiry,
@@ -99,15 +103,15 @@ fn disconnect(
     ensures { Leaves (disconnected ports.old asked (high ∷ low ∷ []) (length answer.old)) answer.old result
         ports.new answer.new report.new }
 {
-    let port = identified(ports, asked, false);
-    if ports.len() / 28 <= port {
+    let Some(port) = identified(ports, asked, false) else {
         return reply(ports, asked, answer, report);
-    }
+    };
     disconnect_from(ports, port, high, low, report);
     0
 }
 
 // What four octets of a message ask for: a selector and a format.
+#[tactic(auto, unfolding(crate::specs::Code::asked_at))]
 fn asked_at(message: &[u8], subsystem_code: u8, from: usize) -> Enquiry
     requires { from ≤ 2 }
     ensures { result ≡ asked_at message.now subsystem_code from }
@@ -136,7 +140,7 @@ pub fn rime_equipment(
         ports.new answer.new report.new }
 {
     *report = [0, 0, 0, 0];
-    if message.len() == 0 {
+    if message.is_empty() {
         return 24;
     }
     let message_type = message[0];

@@ -8,7 +8,7 @@ use formats::{Format, Settled};
 
 // The bits that any sample has, and those that any ancillary number has: they are below a power of two just where all the numbers
 // are.
-#[derive(Clone, Copy)]
+#[derive(Clone, Copy, Debug, PartialEq, Eq, Hash)]
 struct AllBits {
     samples: u64,
     ancillary: u8,
@@ -20,11 +20,9 @@ fn united(samples: &[u64], ancillary: &[u8]) -> AllBits
 {
     let mut all = 0;
     let mut few = 0;
-    let mut i = 0;
-    while i < samples.len() {
-        all = all | samples[i];
-        few = few | ancillary[i];
-        i += 1;
+    for (i, sample) in samples.iter().enumerate() {
+        all |= *sample;
+        few |= ancillary[i];
     }
     AllBits {
         samples: all,
@@ -33,26 +31,23 @@ fn united(samples: &[u64], ancillary: &[u8]) -> AllBits
 }
 
 // Check 6.
+#[tactic(auto, using(sender::proofs::Laws::samples_refused, sender::proofs::Laws::ancillary_refused), unfolding(crate::specs::Units::values_refused))]
 fn values_refused(format: Format, samples: &[u64], ancillary: &[u8]) -> bool
     requires { (format.sample_bits ≤ 40) × (format.ancillary_bits ≤ 4) × (length ancillary.now ≡ length samples.now) }
     ensures { result ≡ values_refused format samples.now ancillary.now }
 {
     let bits = united(samples, ancillary);
-    if 1 << format.sample_bits <= bits.samples {
-        return true;
-    }
-    1 << format.ancillary_bits <= cells::wide(bits.ancillary)
+    1 << format.sample_bits <= bits.samples
+        || 1 << format.ancillary_bits <= u64::from(bits.ancillary)
 }
 
 // Check 5 of an export: the runs are told by their lengths.
+#[tactic(auto, unfolding(crate::specs::Units::runs_refused))]
 fn runs_refused(channels: usize, samples: usize, ancillary: usize) -> bool
     requires { 1 ≤ channels }
     ensures { result ≡ runs_refused channels samples ancillary }
 {
-    if ancillary != samples {
-        return true;
-    }
-    samples % channels != 0
+    ancillary != samples || samples % channels != 0
 }
 
 // All checks of an export, by the settings of its octet and C; `room` is how many octets are lent.
@@ -97,13 +92,7 @@ fn unit_refused(frame: usize, unit: usize, samples: usize, ancillary: usize) -> 
     requires { 1 ≤ frame }
     ensures { result ≡ unit_refused frame unit samples ancillary }
 {
-    if ancillary != samples {
-        return true;
-    }
-    if unit == 0 {
-        return true;
-    }
-    unit % frame != 0
+    ancillary != samples || unit == 0 || unit % frame != 0
 }
 
 // All checks of a reading, by the settings of its octet and C; the unit and the runs are told by their lengths.

@@ -10,7 +10,7 @@ mod pack;
 mod unpack;
 
 // The refusal (0: none); octets written, octets of a full unit, how many units. All else is zero where the export is refused.
-#[derive(Clone, Copy)]
+#[derive(Clone, Copy, Debug, PartialEq, Eq, Hash)]
 pub struct Exported {
     pub refusal: u8,
     pub octets: usize,
@@ -19,7 +19,7 @@ pub struct Exported {
 }
 
 // The refusal (0: none), and how many entries the unit had: 0 where it is refused.
-#[derive(Clone, Copy)]
+#[derive(Clone, Copy, Debug, PartialEq, Eq, Hash)]
 pub struct Entered {
     pub refusal: u8,
     pub entries: usize,
@@ -31,11 +31,7 @@ fn units_of(frames: usize, fit: usize) -> usize
     requires { 1 ≤ fit }
     ensures { result ≡ units_of frames fit }
 {
-    let full = frames / fit;
-    if frames % fit == 0 {
-        return full;
-    }
-    full + 1
+    frames.div_ceil(fit)
 }
 
 fn not_exported(refusal: u8) -> Exported
