@@ -2,15 +2,15 @@
 -- a number; and that a word read back gives its number and second number.
 -- Assumes nothing.
 use Rattle.std.specs.Prelude.{Option, Some, None}
-use Rattle.std.proofs.Common.{◌≡◌, ℕ, zero, suc, ◌+◌, ◌-◌, ◌*◌, ◌/◌, ◌%◌, ◌^◌, ◌<◌, ◌≤◌, Bool, true, false, cond, ◌||◌, T, eqb, ltb, leb, List, [], ◌∷◌, length, get_or, sym, refl, ap, ◌∙◌, ap₂, le_refl, le_of_suc-le-suc, not-suc-le-zero, mod-lt, arith, eqb→eq, leb→le, pow_mono, ltb-false, ltb-true, le-ltb, lt-ltb, eq-eqb, ne_eqb, eqb-true}
-use native.Mathlib.Nat.{le_step, div-eq_of_lt}
+use Rattle.std.proofs.Common.{◌≡◌, ℕ, zero, suc, ◌+◌, ◌-◌, ◌*◌, ◌/◌, ◌%◌, ◌^◌, ◌<◌, ◌≤◌, Bool, true, false, cond, ◌||◌, T, eqb, ltb, leb, List, [], ◌∷◌, length, get_or, sym, refl, ap, ◌∙◌, ap₂, le_refl, le_of_suc-le-suc, not-suc-le-zero, mod-lt, div-add-mod', arith, eqb→eq, leb→le, pow_mono, ltb-false, ltb-true, le-ltb, lt-ltb, eq-eqb, ne_eqb, eqb-true}
+use native.Mathlib.Nat.{le_step, div-eq_of_lt, add-mul-mod_self_right, mod-add-mod}
 use lib.Arith.{digits_div, digits_mod, digits_lt}
 use lib.Bits.{bit_xor}
 use lib.Count.{ones, ones_in}
 use Rattle.runs.specs.Division.{coefficients, divided, taken_down, remainder}
 use Rattle.runs.specs.Test.{every}
 use Rattle.runs.proofs.Laws.{every_at, split, or_right}
-use Rattle.numbers.specs.Numbers.{table_a1, entry_of, turned, protection_of, seven_of, divided_entry, place_in, number_in, found_of, refusal_of, value_of, Finds, word_bit, gathered, eight_of, second_of}
+use Rattle.numbers.specs.Numbers.{difference_of, table_a1, entry_of, turned, protection_of, seven_of, divided_entry, place_in, number_in, found_of, refusal_of, value_of, Finds, word_bit, gathered, eight_of, second_of}
 use Rattle.numbers.specs.Code.{sequence_of}
 
 -- each entry is what the division and the parity make of its number
@@ -229,6 +229,20 @@ sequence_bit {word} {second} slot hw hs =
         let high : 2 ^ 12 ≤ 2 ^ slot = pow_mono {i = 12} {j = slot} far in
         let small : sequence_of word second < 2 ^ 12 = sequence_lt word hs in
         omega arith
+
+-- what wraps modulo 256 is, modulo 16, the difference
+pub wraps_difference : (r number last : ℕ) → (r + last) % 256 ≡ number → r % 16 ≡ difference_of number last
+unfolding difference_of
+wraps_difference r number last e =
+    let part : last ≡ last / 16 * 16 + last % 16 = sym (div-add-mod' last 16) in
+    let less : last % 16 < 16 = mod-lt last (omega arith) in
+    let whole : r + last + (16 - last % 16) ≡ r + (last / 16 + 1) * 16 = omega arith in
+    let low : number % 16 ≡ (r + last) % 16 = ap (λ (n : ℕ). n % 16) (sym e) ∙ omega arith in
+    sym (add-mul-mod_self_right r (last / 16 + 1) 16)
+    ∙ ap (λ (n : ℕ). n % 16) (sym whole)
+    ∙ sym (mod-add-mod (r + last) 16 (16 - last % 16))
+    ∙ ap (λ (n : ℕ). (n + (16 - last % 16)) % 16) (sym low)
+    ∙ mod-add-mod number 16 (16 - last % 16)
 
 -- bits that agree at each place make one number
 pub gathered_same : (a b : ℕ → ℕ) (n : ℕ) → ((k : ℕ) → k < n → a k ≡ b k) → gathered a n ≡ gathered b n
