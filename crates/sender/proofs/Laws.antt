@@ -330,22 +330,8 @@ module _ (c : Call) (cell : List ℕ) where
             (passes state c.indication c.samples c.ancillary (length cell) (sym writes.refused ∙ taken)).number_to,
           )
 
-      pub sends_taken : {second : ℕ} → second ≡ second_now state c.indication
-          → Sends c.state c.indication c.samples c.ancillary cell
-          (record {
-            refusal = 0;
-            state =
-                record {
-                  format = state.format;
-                  channels = state.channels;
-                  order = state.order;
-                  number = (state.number + 1) % 16;
-                  wanted = state.wanted;
-                  second = second;
-                  sent = true;
-                };
-          })
-          cell₁
-      unfolding sent_of after
-      sends_taken second_is =
-          record { answered = rw (← writes.refused, taken, second_is); cell_after_lem = writes.cell_after_lem }
+      pub sends_taken : {next : Sender} → next ≡ after state c.indication
+          → Sends c.state c.indication c.samples c.ancillary cell (record { refusal = 0; state = next }) cell₁
+      unfolding sent_of
+      sends_taken next_is =
+          record { answered = rw (← writes.refused, taken, next_is); cell_after_lem = writes.cell_after_lem }
