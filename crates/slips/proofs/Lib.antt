@@ -1,5 +1,6 @@
 pub mod Demand1
 pub mod Exactly
+pub mod Known
 pub mod Laws
 pub mod One
 pub mod Rows
