@@ -40,18 +40,6 @@ counts_one b e = rw e
 counts_other : (b : Bool) → b ≡ false → ◌≡◌ {A = ℕ} (cond (not b) 1 0) 1
 counts_other b e = rw e
 
--- past a record, as the code works it out
-module _ (here : Standing) (next : ℕ) (got : Received) where
-  pub after_sound : got.refusal ≡ 0
-      → record { place = next; kept = here.kept + 1; left_out = here.left_out; state = got.state } ≡ after_of here next got
-  unfolding after_of
-  after_sound e = let none : here.left_out + 0 ≡ here.left_out = omega arith in rw (eq-eqb got.refusal 0 e, none)
-
-  pub after_refused : (got.refusal ≡ 0 → ⊥)
-      → record { place = next; kept = here.kept; left_out = here.left_out + 1; state = got.state } ≡ after_of here next got
-  unfolding after_of
-  after_refused some = let none : here.kept + 0 ≡ here.kept = omega arith in rw (ne_eqb got.refusal 0 some, none)
-
 -- the record here, and what is made of it
 module _ (log : List ℕ) (here : Standing) where
   abbrev front : Whole

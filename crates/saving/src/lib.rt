@@ -11,7 +11,7 @@ ghost use Rattle.saving.specs.Salvage.{salvage_refusal, Salvages};
 use receiver::{Received, Receiver};
 
 // The refusal (0: none); the octets of the new log, the records left out, and the octets cut, all zero where it is refused.
-#[derive(Clone, Copy)]
+#[derive(Clone, Copy, Debug, PartialEq, Eq, Hash)]
 pub struct Salvaged {
     pub refusal: u8,
     pub octets: usize,
@@ -20,7 +20,7 @@ pub struct Salvaged {
 }
 
 // Where a walk through a log stands: the place, the records kept and left out so far, and the receiver's state.
-#[derive(Clone, Copy)]
+#[derive(Clone, Copy, Debug, PartialEq, Eq, Hash)]
 struct Standing {
     pub place: usize,
     pub kept: usize,
@@ -29,26 +29,25 @@ struct Standing {
 }
 
 // Past a record that the receiver judged.
+#[tactic(auto, unfolding(crate::specs::Code::after_of))]
 fn after(here: Standing, next: usize, got: Received) -> Standing
     requires { here.kept + here.left_out < here.place }
     ensures { result ≡ after_of here next got }
 {
-    let state = got.state;
+    let past = Standing {
+        place: next,
+        state: got.state,
+        ..here
+    };
     if got.refusal == 0 {
-        let kept = here.kept + 1;
         return Standing {
-            place: next,
-            kept,
-            left_out: here.left_out,
-            state,
+            kept: here.kept + 1,
+            ..past
         };
     }
-    let left_out = here.left_out + 1;
     Standing {
-        place: next,
-        kept: here.kept,
-        left_out,
-        state,
+        left_out: here.left_out + 1,
+        ..past
     }
 }
 
@@ -64,6 +63,8 @@ fn start(state: Receiver) -> Standing
     }
 }
 
+// Two walks, this and `write`, as neither output may be written where one is too short: in one with a closure for what is done of each
+// record the proof would know nothing of what the closure wrote.
 // Counts the records, and stops at the first framing fault or the end.
 fn count(log: &[u8], state: Receiver) -> Standing
     requires { 3 ≤ length log.now }
@@ -90,16 +91,11 @@ fn has_room(log: &[u8], state: Receiver, out: usize, list: usize) -> bool
     ensures { result ≡ eqb (salvage_refusal log.now out list) 0 }
 {
     let size = log.len();
-    if size <= out {
-        if size / 49 * 2 <= list {
-            return true;
-        }
+    if size <= out && size / 49 * 2 <= list {
+        return true;
     }
     let counted = count(log, state);
-    if out < 3 + 49 * counted.kept {
-        return false;
-    }
-    2 * counted.left_out <= list
+    3 + 49 * counted.kept <= out && 2 * counted.left_out <= list
 }
 
 // Two numbers at a place of a lent list.
@@ -107,8 +103,7 @@ fn put_two(list: &mut [u64], place: usize, first: u64, second: u64)
     requires { place + 2 ≤ length list.old }
     ensures { list.new ≡ written list.old place (first ∷ second ∷ []) }
 {
-    list[place] = first;
-    list[place + 1] = second;
+    list[place..place + 2].copy_from_slice(&[first, second]);
 }
 
 // Puts a record where it belongs: a sound one into the new log, another into the list.
@@ -171,12 +166,10 @@ pub fn salvage(log: &[u8], out: &mut [u8], list: &mut [u64]) -> Salvaged
     }
     cell_log::keep::write_header(out, header.format, header.channels, header.order);
     let end = write(log, state, out, list);
-    let octets = 3 + 49 * end.kept;
-    let cut = log.len() - end.place;
     Salvaged {
         refusal: 0,
-        octets,
+        octets: 3 + 49 * end.kept,
         left_out: end.left_out,
-        cut,
+        cut: log.len() - end.place,
     }
 }

@@ -32,8 +32,8 @@ write-end-requires c =
     ∙ eqb-true _ 0 (sym c.has_room.ensures ∙ c.if-not-has_room.false))
 
 -- what is counted is no more than the log
-pub overflow_mul-octets : goal.overflow_mul-octets
-overflow_mul-octets c =
+pub overflow_mul-result : goal.overflow_mul-result
+overflow_mul-result c =
     omega (
       arith,
       c.well_formed,
@@ -42,8 +42,8 @@ overflow_mul-octets c =
           c.write-end.ensures.0,
     )
 
-pub overflow_add-octets : goal.overflow_add-octets
-overflow_add-octets c =
+pub overflow_add-result : goal.overflow_add-result
+overflow_add-result c =
     omega (
       arith,
       c.well_formed,
@@ -52,8 +52,8 @@ overflow_add-octets c =
           c.write-end.ensures.0,
     )
 
-pub overflow_sub-cut : goal.overflow_sub-cut
-overflow_sub-cut c = c.write-end.ensures.0.within
+pub overflow_sub-result : goal.overflow_sub-result
+overflow_sub-result c = c.write-end.ensures.0.within
 
 pub shape_of-out : goal.shape_of-out
 shape_of-out c = c.write-end.auto.out ∙ c.write_header.auto.log
