@@ -3,13 +3,14 @@
 // A loop is called with a format's numbers as constants, and the compiler then makes a loop for that format alone. The promise is
 // said by the settings: the constants are the numbers of their format.
 ghost use Rattle.std.specs.Prelude.{◌≡◌, ◌+◌, ◌*◌, ◌%◌, ◌^◌, ◌<◌, ◌≤◌, true, false, length};
+ghost use Rattle.formats.specs.Settings.{settled_as};
 ghost use Rattle.guards.specs.Guards.{v_of, protected_bits, guard_of};
 ghost use Rattle.guards.specs.Code.{seven_guards};
 ghost use Rattle.sender.specs.Packing.{Packable, Named, filled_to, low_part};
 
 use crate::octets::put;
 use cells::{next_place, wide};
-use formats::Settled;
+use formats::Layout;
 
 // The ancillary bits in their place in a subframe's last octet, and what V adds to the protection bits.
 fn low_of(ancillary: u64) -> u64
@@ -88,7 +89,7 @@ pub(crate) fn subframe(
 
 // With overhead in order 0: slot k carries entry k.
 pub(crate) fn guarded_in_order(
-    set: Settled,
+    set: Layout,
     table: &[u8; 128],
     sample_bits: u64,
     ancillary_bits: u64,
@@ -98,8 +99,8 @@ pub(crate) fn guarded_in_order(
     ancillary: &[u8],
     cell: &mut [u8],
 )
-    requires { Packable set samples.now ancillary.now × (set.by_channel ≡ false) × Named set.format sample_bits ancillary_bits 4 width × (length cell.old ≡ 48) × (table.now ≡ seven_guards) }
-    ensures { cell.new ≡ filled_to set sequence samples.now ancillary.now cell.old (length samples.now) }
+    requires { Packable (settled_as set) samples.now ancillary.now × (set.by_channel ≡ false) × Named set.format sample_bits ancillary_bits 4 width × (length cell.old ≡ 48) × (table.now ≡ seven_guards) }
+    ensures { cell.new ≡ filled_to (settled_as set) sequence samples.now ancillary.now cell.old (length samples.now) }
 {
     let mut rest = sequence;
     let mut slot = 0;
@@ -117,7 +118,7 @@ pub(crate) fn guarded_in_order(
 
 // With overhead in order 1: the entry goes on by C from slot to slot.
 pub(crate) fn guarded_by_channel(
-    set: Settled,
+    set: Layout,
     table: &[u8; 128],
     sample_bits: u64,
     ancillary_bits: u64,
@@ -127,8 +128,8 @@ pub(crate) fn guarded_by_channel(
     ancillary: &[u8],
     cell: &mut [u8],
 )
-    requires { Packable set samples.now ancillary.now × (set.by_channel ≡ true) × Named set.format sample_bits ancillary_bits 4 width × (length cell.old ≡ 48) × (table.now ≡ seven_guards) }
-    ensures { cell.new ≡ filled_to set sequence samples.now ancillary.now cell.old (length samples.now) }
+    requires { Packable (settled_as set) samples.now ancillary.now × (set.by_channel ≡ true) × Named set.format sample_bits ancillary_bits 4 width × (length cell.old ≡ 48) × (table.now ≡ seven_guards) }
+    ensures { cell.new ≡ filled_to (settled_as set) sequence samples.now ancillary.now cell.old (length samples.now) }
 {
     let mut entry = 0;
     let mut rest = sequence;
@@ -148,15 +149,15 @@ pub(crate) fn guarded_by_channel(
 
 // Without overhead in order 0. The sequencing bits aren't sent: the promise has 0 for them.
 pub(crate) fn plain_in_order(
-    set: Settled,
+    set: Layout,
     ancillary_bits: u64,
     width: usize,
     samples: &[u64],
     ancillary: &[u8],
     cell: &mut [u8],
 )
-    requires { Packable set samples.now ancillary.now × (set.by_channel ≡ false) × Named set.format set.format.sample_bits ancillary_bits 0 width × (length cell.old ≡ 48) }
-    ensures { cell.new ≡ filled_to set 0 samples.now ancillary.now cell.old (length samples.now) }
+    requires { Packable (settled_as set) samples.now ancillary.now × (set.by_channel ≡ false) × Named set.format set.format.sample_bits ancillary_bits 0 width × (length cell.old ≡ 48) }
+    ensures { cell.new ≡ filled_to (settled_as set) 0 samples.now ancillary.now cell.old (length samples.now) }
 {
     let mut slot = 0;
     while slot < samples.len() {
@@ -169,15 +170,15 @@ pub(crate) fn plain_in_order(
 
 // Without overhead in order 1.
 pub(crate) fn plain_by_channel(
-    set: Settled,
+    set: Layout,
     ancillary_bits: u64,
     width: usize,
     samples: &[u64],
     ancillary: &[u8],
     cell: &mut [u8],
 )
-    requires { Packable set samples.now ancillary.now × (set.by_channel ≡ true) × Named set.format set.format.sample_bits ancillary_bits 0 width × (length cell.old ≡ 48) }
-    ensures { cell.new ≡ filled_to set 0 samples.now ancillary.now cell.old (length samples.now) }
+    requires { Packable (settled_as set) samples.now ancillary.now × (set.by_channel ≡ true) × Named set.format set.format.sample_bits ancillary_bits 0 width × (length cell.old ≡ 48) }
+    ensures { cell.new ≡ filled_to (settled_as set) 0 samples.now ancillary.now cell.old (length samples.now) }
 {
     let mut entry = 0;
     let mut slot = 0;

@@ -4,7 +4,7 @@
 // their own, and `row_usual` and `row_any` differ in what writes a record.
 ghost use Rattle.std.specs.Prelude.{◌≡◌, ◌-◌, ◌/◌, ◌%◌, ◌<◌, ◌≤◌, true, false, ◌&&◌, length, ◌==◌};
 ghost use Rattle.formats.specs.Code.{is_usual};
-ghost use Rattle.formats.specs.Settings.{settings_of};
+ghost use Rattle.formats.specs.Settings.{settled_as, settings_of};
 ghost use Rattle.cell_log.specs.Written.{octet_of};
 ghost use Rattle.sender.specs.Many.{batch_not, SendsMany};
 ghost use Rattle.sender.specs.ManyCode.{Bounds, WritesMany, stop_by};
@@ -12,7 +12,7 @@ ghost use Rattle.sender.specs.Packing.{values_refused_by};
 ghost use Rattle.sender.specs.Sender.{state_refusal, second_now, after};
 
 use crate::{Sender, judge, pack, usual};
-use formats::{Format, Settled};
+use formats::{Format, Layout};
 
 // The refusal of the call (0: none); the state to go on with, the next place, the entries taken, why it stopped, and the cells.
 #[derive(Clone, Copy)]
@@ -121,7 +121,7 @@ fn too_large(sound: bool, format: Format, samples: &[u64], ancillary: &[u8]) -> 
 
 // At most so many cells, written one after the other.
 fn row_any(
-    set: Settled,
+    set: Layout,
     state: Sender,
     indications: bool,
     samples: &[u64],
@@ -131,7 +131,7 @@ fn row_any(
     most: usize,
     sound: bool,
 ) -> Reached
-    requires { Bounds set state samples.now ancillary.now log.old place most sound }
+    requires { Bounds (settled_as set) state samples.now ancillary.now log.old place most sound }
     ensures { WritesMany indications state samples.now ancillary.now log.old place most result log.new }
 {
     let used = set.channels * set.times;
@@ -167,7 +167,7 @@ fn row_any(
 
 // The same of the usual settings.
 fn row_usual(
-    set: Settled,
+    set: Layout,
     state: Sender,
     indications: bool,
     samples: &[u64],
@@ -177,7 +177,7 @@ fn row_usual(
     most: usize,
     sound: bool,
 ) -> Reached
-    requires { Bounds set state samples.now ancillary.now log.old place most sound × (is_usual state.format state.channels state.order ≡ true) }
+    requires { Bounds (settled_as set) state samples.now ancillary.now log.old place most sound × (is_usual state.format state.channels state.order ≡ true) }
     ensures { WritesMany indications state samples.now ancillary.now log.old place most result log.new }
 {
     let mut now = state;
@@ -211,7 +211,7 @@ fn row_usual(
 }
 
 fn row(
-    set: Settled,
+    set: Layout,
     state: Sender,
     indications: bool,
     samples: &[u64],
@@ -221,7 +221,7 @@ fn row(
     most: usize,
     sound: bool,
 ) -> Reached
-    requires { Bounds set state samples.now ancillary.now log.old place most sound }
+    requires { Bounds (settled_as set) state samples.now ancillary.now log.old place most sound }
     ensures { WritesMany indications state samples.now ancillary.now log.old place most result log.new }
 {
     if formats::is_usual(state.format, state.channels, state.order) {
@@ -252,7 +252,7 @@ fn row(
 
 // The cells of a state and runs that nothing is wrong with.
 fn walk(
-    set: Settled,
+    set: Layout,
     state: Sender,
     indications: bool,
     samples: &[u64],
@@ -260,7 +260,7 @@ fn walk(
     log: &mut [u8],
     place: usize,
 ) -> Batch
-    requires { (set ≡ settings_of state.format state.channels state.order) × (state_refusal state ≡ 0) × (length ancillary.now ≡ length samples.now) }
+    requires { (settled_as set ≡ settings_of state.format state.channels state.order) × (state_refusal state ≡ 0) × (length ancillary.now ≡ length samples.now) }
     ensures { SendsMany indications state samples.now ancillary.now log.old place result log.new }
 {
     let used = set.channels * set.times;
@@ -309,15 +309,14 @@ pub fn send(
 ) -> Batch
     ensures { SendsMany indications state samples.now ancillary.now log.old place result log.new }
 {
-    let set = formats::settings(
+    let set = match formats::settings(
         state.format as u32,
         state.channels as u32,
         state.order as u32,
-    );
-    let refusal = set.refusal;
-    if refusal != 0 {
-        return refused(refusal, state);
-    }
+    ) {
+        Ok(set) => set,
+        Err(refusal) => return refused(refusal.into(), state),
+    };
     let format = set.format;
     if judge::numbers(
         format,

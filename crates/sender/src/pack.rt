@@ -3,6 +3,7 @@
 // The four functions that pick by the format call a loop with the format's numbers as constants. Their last arm takes the numbers
 // from the settings instead: it would serve any other format too, at more cost.
 ghost use Rattle.std.specs.Prelude.{◌≡◌, ◌<◌, true, false, length, ◌≢◌};
+ghost use Rattle.formats.specs.Settings.{settled_as};
 ghost use Rattle.sender.specs.ManyCode.{sequence_in};
 ghost use Rattle.sender.specs.Packing.{
   Packable,
@@ -13,18 +14,18 @@ ghost use Rattle.sender.specs.Packing.{
 
 use crate::fill::{guarded_by_channel, guarded_in_order, plain_by_channel, plain_in_order};
 use crate::octets::put;
-use formats::{Format, Settled};
+use formats::{Format, Layout};
 
 // The used slots with overhead in order 0.
 fn pack_guarded_in_order(
-    set: Settled,
+    set: Layout,
     sequence: u64,
     samples: &[u64],
     ancillary: &[u8],
     cell: &mut [u8],
 )
-    requires { Packable set samples.now ancillary.now × (set.by_channel ≡ false) × (set.format.overhead_bits ≢ 0) × (length cell.old ≡ 48) }
-    ensures { cell.new ≡ filled_to set sequence samples.now ancillary.now cell.old (length samples.now) }
+    requires { Packable (settled_as set) samples.now ancillary.now × (set.by_channel ≡ false) × (set.format.overhead_bits ≢ 0) × (length cell.old ≡ 48) }
+    ensures { cell.new ≡ filled_to (settled_as set) sequence samples.now ancillary.now cell.old (length samples.now) }
 {
     let bits = set.format.sample_bits;
     let few = set.format.ancillary_bits;
@@ -46,14 +47,14 @@ fn pack_guarded_in_order(
 
 // The same in order 1.
 fn pack_guarded_by_channel(
-    set: Settled,
+    set: Layout,
     sequence: u64,
     samples: &[u64],
     ancillary: &[u8],
     cell: &mut [u8],
 )
-    requires { Packable set samples.now ancillary.now × (set.by_channel ≡ true) × (set.format.overhead_bits ≢ 0) × (length cell.old ≡ 48) }
-    ensures { cell.new ≡ filled_to set sequence samples.now ancillary.now cell.old (length samples.now) }
+    requires { Packable (settled_as set) samples.now ancillary.now × (set.by_channel ≡ true) × (set.format.overhead_bits ≢ 0) × (length cell.old ≡ 48) }
+    ensures { cell.new ≡ filled_to (settled_as set) sequence samples.now ancillary.now cell.old (length samples.now) }
 {
     let bits = set.format.sample_bits;
     let few = set.format.ancillary_bits;
@@ -74,9 +75,9 @@ fn pack_guarded_by_channel(
 }
 
 // The used slots without overhead in order 0.
-fn pack_plain_in_order(set: Settled, samples: &[u64], ancillary: &[u8], cell: &mut [u8])
-    requires { Packable set samples.now ancillary.now × (set.by_channel ≡ false) × (set.format.overhead_bits ≡ 0) × (length cell.old ≡ 48) }
-    ensures { cell.new ≡ filled_to set 0 samples.now ancillary.now cell.old (length samples.now) }
+fn pack_plain_in_order(set: Layout, samples: &[u64], ancillary: &[u8], cell: &mut [u8])
+    requires { Packable (settled_as set) samples.now ancillary.now × (set.by_channel ≡ false) × (set.format.overhead_bits ≡ 0) × (length cell.old ≡ 48) }
+    ensures { cell.new ≡ filled_to (settled_as set) 0 samples.now ancillary.now cell.old (length samples.now) }
 {
     let few = set.format.ancillary_bits;
     let width = set.format.width;
@@ -90,9 +91,9 @@ fn pack_plain_in_order(set: Settled, samples: &[u64], ancillary: &[u8], cell: &m
 }
 
 // The same in order 1.
-fn pack_plain_by_channel(set: Settled, samples: &[u64], ancillary: &[u8], cell: &mut [u8])
-    requires { Packable set samples.now ancillary.now × (set.by_channel ≡ true) × (set.format.overhead_bits ≡ 0) × (length cell.old ≡ 48) }
-    ensures { cell.new ≡ filled_to set 0 samples.now ancillary.now cell.old (length samples.now) }
+fn pack_plain_by_channel(set: Layout, samples: &[u64], ancillary: &[u8], cell: &mut [u8])
+    requires { Packable (settled_as set) samples.now ancillary.now × (set.by_channel ≡ true) × (set.format.overhead_bits ≡ 0) × (length cell.old ≡ 48) }
+    ensures { cell.new ≡ filled_to (settled_as set) 0 samples.now ancillary.now cell.old (length samples.now) }
 {
     let few = set.format.ancillary_bits;
     let width = set.format.width;
@@ -106,9 +107,9 @@ fn pack_plain_by_channel(set: Settled, samples: &[u64], ancillary: &[u8], cell: 
 }
 
 // The used slots.
-fn pack_used(set: Settled, sequence: u64, samples: &[u64], ancillary: &[u8], cell: &mut [u8])
-    requires { Packable set samples.now ancillary.now × (length cell.old ≡ 48) }
-    ensures { cell.new ≡ filled_to set sequence samples.now ancillary.now cell.old (length samples.now) }
+fn pack_used(set: Layout, sequence: u64, samples: &[u64], ancillary: &[u8], cell: &mut [u8])
+    requires { Packable (settled_as set) samples.now ancillary.now × (length cell.old ≡ 48) }
+    ensures { cell.new ≡ filled_to (settled_as set) sequence samples.now ancillary.now cell.old (length samples.now) }
 {
     if set.format.overhead_bits == 0 {
         if set.by_channel {
@@ -138,9 +139,9 @@ fn idle_subframe(overhead_bits: u64, bit: u64) -> u64
 }
 
 // The unused slots of a cell whose used slots are filled. The ancillary numbers are for the promise alone.
-fn fill_idle(set: Settled, sequence: u64, samples: &[u64], ancillary: &[u8], cell: &mut [u8])
-    requires { Packable set samples.now ancillary.now × (length cell.old ≡ 48) × (cell.old ≡ filled_to set sequence samples.now ancillary.now cell.old (length samples.now)) }
-    ensures { cell.new ≡ filled_to set sequence samples.now ancillary.now cell.old set.format.slots }
+fn fill_idle(set: Layout, sequence: u64, samples: &[u64], ancillary: &[u8], cell: &mut [u8])
+    requires { Packable (settled_as set) samples.now ancillary.now × (length cell.old ≡ 48) × (cell.old ≡ filled_to (settled_as set) sequence samples.now ancillary.now cell.old (length samples.now)) }
+    ensures { cell.new ≡ filled_to (settled_as set) sequence samples.now ancillary.now cell.old set.format.slots }
 {
     let mut slot = samples.len();
     while slot < set.format.slots {
@@ -152,9 +153,9 @@ fn fill_idle(set: Settled, sequence: u64, samples: &[u64], ancillary: &[u8], cel
 }
 
 // All slots of a cell with these sequencing bits.
-pub(crate) fn pack(set: Settled, sequence: u64, samples: &[u64], ancillary: &[u8], cell: &mut [u8])
-    requires { Packable set samples.now ancillary.now × (length cell.old ≡ 48) }
-    ensures { cell.new ≡ filled_cell set sequence samples.now ancillary.now }
+pub(crate) fn pack(set: Layout, sequence: u64, samples: &[u64], ancillary: &[u8], cell: &mut [u8])
+    requires { Packable (settled_as set) samples.now ancillary.now × (length cell.old ≡ 48) }
+    ensures { cell.new ≡ filled_cell (settled_as set) sequence samples.now ancillary.now }
 {
     pack_used(set, sequence, samples, ancillary, cell);
     fill_idle(set, sequence, samples, ancillary, cell);

@@ -1,11 +1,12 @@
 -- `receiver::entries::subframes_by_time` meets its contract.
 use Prim.Native.Nat.{◌-◌}
+use Rattle.formats.specs.Settings.{settled_as}
 use Rattle.runs.proofs.Filling.{Filled}
 use Rattle.receiver.specs.Unpacking.{used_in, own_entries}
 use Rattle.receiver.proofs.entries.subframes_by_time.Given as goal
 
 abbrev pub invariant-loop-i : goal.invariant-loop-i
-invariant-loop-i l = Filled l.run l.initial.run l.at (own_entries (λ x. x) l.set l.cell) l.i
+invariant-loop-i l = Filled l.run l.initial.run l.at (own_entries (λ x. x) (settled_as l.set) l.cell) l.i
 
 abbrev pub decreases-loop-i : goal.decreases-loop-i
-decreases-loop-i l = used_in l.set - l.i
+decreases-loop-i l = used_in (settled_as l.set) - l.i

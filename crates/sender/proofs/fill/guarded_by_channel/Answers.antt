@@ -1,5 +1,6 @@
 -- `sender::fill::guarded_by_channel` meets its contract.
 -- Assumes nothing.
+use Rattle.formats.specs.Settings.{settled_as}
 use Rattle.std.proofs.Common.{ℕ, ◌%◌, ◌<◌, ap, arith}
 use lib.ListN as L
 use Rattle.sender.proofs.Filling.{filling_begun, filling_on, filling_done, bits_begun, bits_on, entry_first, entry_in, entry_on}
@@ -16,7 +17,7 @@ inside c = entry_in (from c).requires.0 (from c).requires.1 c.loop-slot.invarian
 
 pub loop-slot-init : goal.loop-slot-init
 loop-slot-init c = let a = c.args in (
-  filling_begun a.set a.sequence a.samples.now a.ancillary.now a.cell.now (L.length a.samples.now),
+  filling_begun (settled_as a.set) a.sequence a.samples.now a.ancillary.now a.cell.now (L.length a.samples.now),
   entry_first c.requires.0 c.requires.1,
   bits_begun a.sequence,
 )
@@ -48,7 +49,7 @@ loop-slot-preserved c = let a = (from (goal.at.loop-slot-preserved c).In-loop-sl
     let given = (from (goal.at.loop-slot-preserved c).In-loop-slot).requires in
     let here = c.loop-slot in
     let few = c.wide-few in (
-      filling_on a.set a.sequence a.samples.now a.ancillary.now a.cell.now here.invariant.0
+      filling_on (settled_as a.set) a.sequence a.samples.now a.ancillary.now a.cell.now here.invariant.0
           c.loop-slot-test.true given.2.width_is
           (guarded_number given.0 given.2 here.invariant.1 c.loop-slot-test.true few.ensures.0 (ap (λ (n : ℕ). n % 2) here.invariant.2)
           c.subframe-number.ensures)
@@ -59,4 +60,4 @@ loop-slot-preserved c = let a = (from (goal.at.loop-slot-preserved c).In-loop-sl
 
 pub returns : goal.returns
 returns c = let a = c.args in
-    filling_done a.set a.sequence a.samples.now a.ancillary.now a.cell.now c.loop-slot.invariant.0 c.loop-slot-test.false
+    filling_done (settled_as a.set) a.sequence a.samples.now a.ancillary.now a.cell.now c.loop-slot.invariant.0 c.loop-slot-test.false

@@ -1,5 +1,6 @@
 -- `sender::fill::guarded_in_order` meets its contract.
 -- Assumes nothing.
+use Rattle.formats.specs.Settings.{settled_as}
 use Rattle.std.proofs.Common.{ℕ, ◌%◌, ap, arith}
 use lib.ListN as L
 use Rattle.sender.proofs.Filling.{Filling, filling_begun, filling_on, filling_done, bits_begun, bits_on, guard_ready}
@@ -12,16 +13,16 @@ from c = (goal.at.In-loop-slot c).Start
 
 so_far : (c : In-loop-slot)
     → let a = (from c).args in
-    Filling a.set a.sequence a.samples.now a.ancillary.now a.cell.now (L.length a.samples.now)
+    Filling (settled_as a.set) a.sequence a.samples.now a.ancillary.now a.cell.now (L.length a.samples.now)
     c.loop-slot.cell c.loop-slot.slot
-so_far c = let s = from c in c.loop-slot.invariant.0 s.args.set s.requires.0 s.requires.1 s.requires.2
+so_far c = let s = from c in c.loop-slot.invariant.0 (settled_as s.args.set) s.requires.0 s.requires.1 s.requires.2
 
 ended : (c : After-loop-slot)
     → let a = c.args in
-    Filling a.set a.sequence a.samples.now a.ancillary.now a.cell.now (L.length a.samples.now)
+    Filling (settled_as a.set) a.sequence a.samples.now a.ancillary.now a.cell.now (L.length a.samples.now)
     c.loop-slot.cell c.loop-slot.slot
 ended c =
-    c.loop-slot.invariant.0 c.args.set c.requires.0 c.requires.1 c.requires.2
+    c.loop-slot.invariant.0 (settled_as c.args.set) c.requires.0 c.requires.1 c.requires.2
 
 pub loop-slot-init : goal.loop-slot-init
 loop-slot-init c = let a = c.args in (
@@ -60,4 +61,4 @@ shape_of-cell c = (ended c).same
 
 pub returns : goal.returns
 returns c = let a = c.args in
-    filling_done a.set a.sequence a.samples.now a.ancillary.now a.cell.now (ended c) c.loop-slot-test.false
+    filling_done (settled_as a.set) a.sequence a.samples.now a.ancillary.now a.cell.now (ended c) c.loop-slot-test.false

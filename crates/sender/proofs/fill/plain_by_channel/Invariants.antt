@@ -1,4 +1,5 @@
 -- `sender::fill::plain_by_channel` meets its contract.
+use Rattle.formats.specs.Settings.{settled_as}
 use Rattle.std.proofs.Common.{◌≡◌, ◌-◌}
 use lib.ListN as L
 use Rattle.sender.specs.Packing.{entry_at}
@@ -6,7 +7,7 @@ use Rattle.sender.proofs.Filling.{Filling}
 use Rattle.sender.proofs.fill.plain_by_channel.Given as goal
 
 abbrev pub invariant-loop-slot : goal.invariant-loop-slot
-invariant-loop-slot l = Filling l.set 0 l.samples l.ancillary l.initial.cell (L.length l.samples) l.cell l.slot × (l.entry ≡ entry_at l.set l.slot)
+invariant-loop-slot l = Filling (settled_as l.set) 0 l.samples l.ancillary l.initial.cell (L.length l.samples) l.cell l.slot × (l.entry ≡ entry_at (settled_as l.set) l.slot)
 
 abbrev pub decreases-loop-slot : goal.decreases-loop-slot
 decreases-loop-slot l = L.length l.samples - l.slot

@@ -1,5 +1,6 @@
 -- `sender::many::row_any` meets its contract. The loop: so many cells are sent. The measure is how many may still be.
 -- Assumes nothing.
+use Rattle.formats.specs.Settings.{settled_as}
 use Rattle.std.proofs.Common.{◌≡◌, ℕ, ◌+◌, ◌-◌, ◌*◌, ◌≤◌, List, length, take, drop, sym, refl, ◌∙◌, arith}
 use Rattle.sender.specs.Many.{next_of}
 use Rattle.sender.specs.Sender.{used_now}
@@ -119,7 +120,7 @@ loop-cells-preserved c = let filled = c.pack in
     let small = sym c.too_large.ensures ∙ c.if-too_large.false in
     goes_on _ _ _ _ _ _ _ _ c.requires c.loop-cells.invariant c.loop-cells-test.true (first (goal.at.loop-cells-preserved c).In-loop-cells) (second (goal.at.loop-cells-preserved c).In-loop-cells) small
     c.indicated-indication.ensures c.second_now-second.ensures c.octet_of.ensures
-    (bits_in c.args.set (part (goal.at.loop-cells-preserved c).In-loop-cells c.args.samples.now) (part (goal.at.loop-cells-preserved c).In-loop-cells c.args.ancillary.now) c.loop-cells.now.number
+    (bits_in (settled_as c.args.set) (part (goal.at.loop-cells-preserved c).In-loop-cells c.args.samples.now) (part (goal.at.loop-cells-preserved c).In-loop-cells c.args.ancillary.now) c.loop-cells.now.number
     c.second_now-second.result c.sequence_in-sequence.ensures filled.ensures)
     (cell_size (log (goal.at.loop-cells-preserved c).In-loop-cells) (to (goal.at.loop-cells-preserved c).In-loop-cells) octet (in_log (goal.at.loop-cells-preserved c).In-loop-cells)) (filled.auto.cell ∙ cell_part (log (goal.at.loop-cells-preserved c).In-loop-cells) (to (goal.at.loop-cells-preserved c).In-loop-cells) octet (in_log (goal.at.loop-cells-preserved c).In-loop-cells)) refl
     (log_kept (log (goal.at.loop-cells-preserved c).In-loop-cells) (to (goal.at.loop-cells-preserved c).In-loop-cells) octet (in_log (goal.at.loop-cells-preserved c).In-loop-cells) filled.new.cell filled.auto.cell) refl refl c.behind-now.ensures

@@ -1,5 +1,6 @@
 -- `sender::many::row_usual` meets its contract. The loop: so many cells are sent. The measure is how many may still be.
 -- Assumes nothing.
+use Rattle.formats.specs.Settings.{settled_as}
 use Rattle.std.proofs.Common.{◌≡◌, ℕ, ◌+◌, ◌-◌, ◌≤◌, List, length, take, drop, set, sym, refl, ap, ◌∙◌, arith}
 use borrow.Rule.Slice.PartMut.{mid_of}
 use Rattle.sender.specs.Many.{next_of}
@@ -126,7 +127,7 @@ loop-cells-preserved c = let filled = c.fill_usual in
     goes_on _ _ _ _ _ _ _ _ c.requires.0 c.loop-cells.invariant c.loop-cells-test.true (first (goal.at.loop-cells-preserved c).In-loop-cells) (second (goal.at.loop-cells-preserved c).In-loop-cells) small is
     c.second_now-second.ensures c.octet_of.ensures
     (set_filled c.args.state c.requires.1 c.requires.0.given p c.sequence_of-sequence.result (mid_of (to (goal.at.loop-cells-preserved c).In-loop-cells + 1) (to (goal.at.loop-cells-preserved c).In-loop-cells + 49 - (to (goal.at.loop-cells-preserved c).In-loop-cells + 1)) (set (log (goal.at.loop-cells-preserved c).In-loop-cells) (to (goal.at.loop-cells-preserved c).In-loop-cells) octet)) whole filled.ensures
-    ∙ ap (λ (n : ℕ). filled_cell c.args.set n (part (goal.at.loop-cells-preserved c).In-loop-cells c.args.samples.now) (part (goal.at.loop-cells-preserved c).In-loop-cells c.args.ancillary.now))
+    ∙ ap (λ (n : ℕ). filled_cell (settled_as c.args.set) n (part (goal.at.loop-cells-preserved c).In-loop-cells c.args.samples.now) (part (goal.at.loop-cells-preserved c).In-loop-cells c.args.ancillary.now))
     c.sequence_of-sequence.ensures)
     (cell_size (log (goal.at.loop-cells-preserved c).In-loop-cells) (to (goal.at.loop-cells-preserved c).In-loop-cells) octet (in_log (goal.at.loop-cells-preserved c).In-loop-cells)) (filled.auto.cell ∙ whole) refl
     (log_kept (log (goal.at.loop-cells-preserved c).In-loop-cells) (to (goal.at.loop-cells-preserved c).In-loop-cells) octet (in_log (goal.at.loop-cells-preserved c).In-loop-cells) filled.new.cell filled.auto.cell)

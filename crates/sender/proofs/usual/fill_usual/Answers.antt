@@ -1,5 +1,6 @@
 -- `sender::usual::fill_usual` meets its contract.
 -- Assumes nothing.
+use Rattle.formats.specs.Settings.{settled_as}
 use Rattle.std.proofs.Common.{◌<◌, ◌≤◌, refl, arith}
 use lib.ListN as L
 use Rattle.sender.proofs.Filling.{Filling, filling_begun, filling_on, filling_done}
@@ -13,9 +14,9 @@ from c = (goal.at.In-loop-slot c).Start
 
 so_far : (c : In-loop-slot)
     → let a = (from c).args in
-    Filling a.set a.sequence a.samples.now a.ancillary.now a.cell.now (L.length a.samples.now)
+    Filling (settled_as a.set) a.sequence a.samples.now a.ancillary.now a.cell.now (L.length a.samples.now)
     c.loop-slot.cell c.loop-slot.slot
-so_far c = let s = from c in c.loop-slot.invariant s.args.set s.requires.0 s.requires.1 s.requires.2
+so_far c = let s = from c in c.loop-slot.invariant (settled_as s.args.set) s.requires.0 s.requires.1 s.requires.2
 
 -- twelve slots are all that there are
 less : (c : In-loop-slot) → c.loop-slot.slot < L.length (from c).args.samples.now
@@ -23,10 +24,10 @@ less c = omega (arith, (from c).requires.4, c.loop-slot-test.true)
 
 ended : (c : After-loop-slot)
     → let a = c.args in
-    Filling a.set a.sequence a.samples.now a.ancillary.now a.cell.now (L.length a.samples.now)
+    Filling (settled_as a.set) a.sequence a.samples.now a.ancillary.now a.cell.now (L.length a.samples.now)
     c.loop-slot.cell c.loop-slot.slot
 ended c =
-    c.loop-slot.invariant c.args.set c.requires.0 c.requires.1 c.requires.2
+    c.loop-slot.invariant (settled_as c.args.set) c.requires.0 c.requires.1 c.requires.2
 
 all : (c : After-loop-slot)
     → L.length c.args.samples.now ≤ c.loop-slot.slot
@@ -66,4 +67,4 @@ shape_of-cell c = (ended c).same
 
 pub returns : goal.returns
 returns c = let a = c.args in
-    filling_done a.set a.sequence a.samples.now a.ancillary.now a.cell.now (ended c) (all c)
+    filling_done (settled_as a.set) a.sequence a.samples.now a.ancillary.now a.cell.now (ended c) (all c)
