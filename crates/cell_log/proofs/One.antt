@@ -38,10 +38,10 @@ use Rattle.cell_log.proofs.keep.write_header.Kinds as write-header-kinds
 use Rattle.cell_log.proofs.keep.write_header.Reads as write-header-reads
 use Rattle.cell_log.proofs.keep.write_record.Kinds as write-record-kinds
 use Rattle.cell_log.proofs.keep.write_record.Reads as write-record-reads
-use Rattle.cell_log.specs.contracts.reader.new as new
-use Rattle.cell_log.specs.contracts.reader.record_here as record_here
-use Rattle.cell_log.specs.contracts.reader.cell as cell
-use Rattle.cell_log.specs.contracts.reader.past_record as past-record
+use Rattle.cell_log.specs.contracts.reader.Reader.new as new
+use Rattle.cell_log.specs.contracts.reader.Reader.record_here as record_here
+use Rattle.cell_log.specs.contracts.reader.Reader.cell as cell
+use Rattle.cell_log.specs.contracts.reader.Reader.past_record as past-record
 use Rattle.cell_log.specs.contracts.reader.read as read
 
 pub read_number_one : One read-number-kinds.ps read-number-kinds.r read-number-reads.Pre read-number-reads.Post

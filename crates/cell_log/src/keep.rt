@@ -1,6 +1,5 @@
 // Writes a log into a lent run: its numbers, its header and its records (document 01, "The log").
 ghost use Rattle.std.specs.Prelude.{◌≡◌, ◌+◌, ◌≤◌, length};
-ghost use Rattle.runs.specs.Runs.{written};
 ghost use Rattle.cell_log.specs.Numbers.{groups_of};
 ghost use Rattle.cell_log.specs.Written.{
   Keeps,
@@ -10,12 +9,11 @@ ghost use Rattle.cell_log.specs.Written.{
   header_refused_of,
   header_octets,
   record_refusal,
-  octet_of,
   record_octets,
 };
 
 // What writing into a lent log answers: the refusal (0: none), and the place after what was written, zero where it is refused.
-#[derive(Clone, Copy)]
+#[derive(Clone, Copy, Debug, PartialEq, Eq, Hash)]
 pub struct Kept {
     pub refusal: u8,
     pub next: usize,
@@ -39,12 +37,12 @@ fn group_count(value: u32) -> usize
     ensures { (result ≡ length (groups_of 3 value)) × (result ≤ 3) }
 {
     if value < 128 {
-        return 1;
+        1
+    } else if value < 16384 {
+        2
+    } else {
+        3
     }
-    if value < 16384 {
-        return 2;
-    }
-    3
 }
 
 // Writes a number's shortest form at a place of a lent log: 11 where it has more than three groups, or the log's end would cut it.
@@ -52,14 +50,7 @@ pub fn write_number(log: &mut [u8], place: usize, value: u32) -> Kept
     ensures { Keeps (number_refusal log.old place value) place (groups_of 3 value) log.old result
         log.new }
 {
-    if 2097151 < value {
-        return not_kept(11);
-    }
-    if log.len() < place {
-        return not_kept(11);
-    }
-    let count = group_count(value);
-    if log.len() - place < count {
+    if value > 2097151 || log.len().saturating_sub(place) < group_count(value) {
         return not_kept(11);
     }
     if value < 128 {
@@ -93,23 +84,6 @@ pub fn write_header(log: &mut [u8], format: u32, channels: u32, order: u32) -> K
     kept_to(3)
 }
 
-fn put(log: &mut [u8], place: usize, octets: &[u8])
-    requires { place + length octets.now ≤ length log.old }
-    ensures { log.new ≡ written log.old place octets.now }
-{
-    let mut i = 0;
-    while i < octets.len() {
-        log[place + i] = octets[i];
-        i += 1;
-    }
-}
-
-fn octet_of(indication: bool) -> u8
-    ensures { result ≡ octet_of indication }
-{
-    if indication { 1 } else { 0 }
-}
-
 // Writes a record at a place of a lent log: 5 where the cell has not 48 octets, 12 where the log's end would cut it.
 pub fn write_record(log: &mut [u8], place: usize, indication: bool, cell: &[u8]) -> Kept
     ensures { Keeps (record_refusal log.old place cell.now) place
@@ -118,14 +92,11 @@ pub fn write_record(log: &mut [u8], place: usize, indication: bool, cell: &[u8])
     if cell.len() != 48 {
         return not_kept(5);
     }
-    if log.len() < place {
+    if log.len().saturating_sub(place) < 49 {
         return not_kept(12);
     }
-    if log.len() - place < 49 {
-        return not_kept(12);
-    }
-    let start = place + 1;
-    log[place] = octet_of(indication);
-    put(log, start, cell);
-    kept_to(place + 49)
+    let next = place + 49;
+    log[place] = u8::from(indication);
+    log[place + 1..next].copy_from_slice(cell);
+    kept_to(next)
 }

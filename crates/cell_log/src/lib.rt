@@ -10,7 +10,7 @@ pub mod keep; // keep.rt: writing a log
 pub mod reader; // reader.rt: the reader that holds a lent log and a place
 
 // A log number: the refusal (0: none), its value and the place after it, both zero where it is refused.
-#[derive(Clone, Copy)]
+#[derive(Clone, Copy, Debug, PartialEq, Eq, Hash)]
 pub struct Number {
     pub refusal: u8,
     pub value: u32,
@@ -18,7 +18,7 @@ pub struct Number {
 }
 
 // A log's header: the refusal (0: none), the place after it, and its three numbers, all zero where it is refused.
-#[derive(Clone, Copy)]
+#[derive(Clone, Copy, Debug, PartialEq, Eq, Hash)]
 pub struct Header {
     pub refusal: u8,
     pub place: usize,
@@ -29,19 +29,13 @@ pub struct Header {
 
 // What stands at a place: the refusal (0: none); what it is (1: a cell, 0: the end or a refusal); its indication; where its 48
 // octets start; the next place. At the end the next place is the place given; all else is zero there, and all where it is refused.
-#[derive(Clone, Copy)]
+#[derive(Clone, Copy, Debug, PartialEq, Eq, Hash)]
 pub struct Record {
     pub refusal: u8,
     pub what: u8,
     pub indication: bool,
     pub start: usize,
     pub next: usize,
-}
-
-fn wide(x: u8) -> u32
-    ensures { (result ≡ x) × (result < 256) }
-{
-    x as u32
 }
 
 fn no_number() -> Number
@@ -76,13 +70,10 @@ fn number_in(log: &[u8], place: usize, groups: u8) -> Number
     requires { groups ≤ 3 }
     ensures { result ≡ number_within groups log.now place }
 {
-    if groups == 0 {
+    if groups == 0 || log.len() <= place {
         return no_number();
     }
-    if log.len() <= place {
-        return no_number();
-    }
-    let group = wide(log[place]);
+    let group = u32::from(log[place]);
     let next = place + 1;
     if group < 128 {
         return Number {

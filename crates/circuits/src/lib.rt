@@ -15,7 +15,7 @@ ghost use Rattle.circuits.specs.Circuits.{
 };
 
 // What the checker says of a plan; a circuit is counted from 0.
-#[derive(Clone, Copy)]
+#[derive(Clone, Copy, Debug, PartialEq, Eq, Hash)]
 pub enum Verdict {
     // the numbers asked about were refused, by this number
     Refused(u8),
@@ -29,56 +29,47 @@ pub enum Verdict {
 }
 
 // Whether a share is 1 to S.
-fn fits_slots(slots: usize, share: usize) -> bool
+#[tactic(auto, unfolding(crate::specs::Circuits::fits_slots))]
+fn fits_slots(slots: u32, share: u32) -> bool
     ensures { result ≡ fits_slots slots share }
 {
-    if share < 1 {
-        return false;
-    }
-    share <= slots
+    1 <= share && share <= slots
 }
 
 // The frequency divided by T, rounded up.
-fn cells_per_second(slots: usize, share: usize, frequency: u32) -> usize
+#[tactic(auto, using(crate::proofs::Laws::cells_rounded_up))]
+fn cells_per_second(slots: u32, share: u32, frequency: u32) -> u32
     requires { (1 ≤ share) × (share ≤ slots) × (slots ≤ 48) }
     ensures { result ≡ cells_per_second slots share frequency }
 {
-    let times = slots / share;
-    (frequency as usize + (times - 1)) / times
+    frequency.div_ceil(slots / share)
 }
 
 // Circuit by circuit the share, then the allowance; the sum last.
-fn judge(slots: usize, channels: u32, frequency: u32, shares: &[u32], allowances: &[u32]) -> Verdict
+fn judge(slots: u32, channels: u32, frequency: u32, shares: &[u32], allowances: &[u32]) -> Verdict
     requires { (slots ≤ 48) × (length shares.now ≤ 64) × (length allowances.now ≡ length shares.now) }
     ensures { result ≡ judged_from slots channels frequency 0 0 shares.now allowances.now }
 {
-    let mut carried: usize = 0;
-    let mut i: usize = 0;
-    while i < shares.len() {
-        let share = wide(shares[i]);
+    let mut carried = 0;
+    for (i, (&share, &allowance)) in shares.iter().zip(allowances).enumerate() {
         if !fits_slots(slots, share) {
             return Verdict::Share(i as u32);
         }
-        if wide(allowances[i]) < cells_per_second(slots, share, frequency) {
+        if allowance < cells_per_second(slots, share, frequency) {
             return Verdict::Allowance(i as u32);
         }
         carried += share;
-        i += 1;
     }
-    if carried == channels as usize {
-        return Verdict::Yes;
+    if carried == channels {
+        Verdict::Yes
+    } else {
+        Verdict::Sum
     }
-    Verdict::Sum
-}
-
-fn wide(number: u32) -> usize
-    ensures { result ≡ number }
-{
-    number as usize
 }
 
 // 5 for unequal runs, 22 for more than 64 circuits or 1,024 channels, then 23 for frequency 0 or above 1,000,000; 0 where there is none.
 // The octet's own refusal comes first.
+#[tactic(auto, unfolding(crate::specs::Circuits::check_refusal, runs::specs::Refusals::or_else))]
 fn check_refusal(octet: u8, channels: u32, frequency: u32, circuits: usize, allowances: usize) -> u8
     ensures { result ≡ check_refusal octet channels frequency circuits allowances }
 {
@@ -88,16 +79,10 @@ fn check_refusal(octet: u8, channels: u32, frequency: u32, circuits: usize, allo
     if allowances != circuits {
         return 5;
     }
-    if 64 < circuits {
+    if 64 < circuits || 1024 < channels {
         return 22;
     }
-    if 1024 < channels {
-        return 22;
-    }
-    if frequency < 1 {
-        return 23;
-    }
-    if 1000000 < frequency {
+    if frequency < 1 || 1000000 < frequency {
         return 23;
     }
     0
@@ -117,7 +102,7 @@ pub fn check(
         Ok(set) => set,
         Err(refusal) => return Verdict::Refused(refusal.into()),
     };
-    let format = set.format;
+    let slots = set.format.slots as u32;
     let refusal = check_refusal(
         0,
         channels,
@@ -128,11 +113,12 @@ pub fn check(
     if refusal != 0 {
         return Verdict::Refused(refusal);
     }
-    judge(format.slots, channels, frequency, shares, allowances)
+    judge(slots, channels, frequency, shares, allowances)
 }
 
 // 22 for more than 64 circuits or 1,024 channels, then 30 where S times the circuits is below the channels; 0 where there is none. The
 // octet's own refusal comes first.
+#[tactic(auto, unfolding(crate::specs::Circuits::plan_refusal, runs::specs::Refusals::or_else))]
 fn plan_refusal(octet: u8, slots: usize, channels: u32, circuits: usize) -> u8
     requires { slots ≤ 48 }
     ensures { result ≡ plan_refusal octet slots channels circuits }
@@ -140,10 +126,7 @@ fn plan_refusal(octet: u8, slots: usize, channels: u32, circuits: usize) -> u8
     if octet != 0 {
         return octet;
     }
-    if 64 < circuits {
-        return 22;
-    }
-    if 1024 < channels {
+    if 64 < circuits || 1024 < channels {
         return 22;
     }
     if slots * circuits < channels as usize {
@@ -152,26 +135,13 @@ fn plan_refusal(octet: u8, slots: usize, channels: u32, circuits: usize) -> u8
     0
 }
 
-// The next circuit's share of the channels that are left: all of them, or S.
-fn share_of(left: u32, slots: u32) -> u32
-    ensures { (result ≤ left) × (result ≡ share_after slots left) }
-{
-    if left < slots {
-        return left;
-    }
-    slots
-}
-
 fn fill(slots: u32, channels: u32, shares: &mut [u32])
     ensures { shares.new ≡ planned_of slots channels (length shares.old) }
 {
     let mut left = channels;
-    let mut i: usize = 0;
-    while i < shares.len() {
-        let share = share_of(left, slots);
-        shares[i] = share;
-        left -= share;
-        i += 1;
+    for share in shares.iter_mut() {
+        *share = slots.min(left);
+        left -= *share;
     }
 }
 

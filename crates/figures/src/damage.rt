@@ -52,10 +52,8 @@ pub(crate) fn marked_1(format: Format, cell: &[u8], used: usize) -> u64
         return 0;
     }
     let mut count = 0;
-    let mut slot = 0;
-    while slot < used {
+    for slot in 0..used {
         count += mark_at(format, cell, slot);
-        slot += 1;
     }
     count
 }

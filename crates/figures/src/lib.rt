@@ -18,7 +18,7 @@ mod sums; // sums.rt: counts added up
 mod told; // told.rt: what the receiver makes of a cell
 
 // What is counted of records, each number no further than 4,294,967,296, which is too many.
-#[derive(Clone, Copy)]
+#[derive(Clone, Copy, Debug, Default, PartialEq, Eq, Hash)]
 pub struct Counts {
     pub sound: u64,
     pub missing: u64,
@@ -56,10 +56,10 @@ pub struct Answer {
 pub fn start() -> Tally
     ensures { result ≡ start_tally }
 {
-    let standing = pieces::start(18446744073709551615);
+    let standing = pieces::start(u64::MAX);
     let opened = receiver::opened(0, 0, 0);
     let state = opened.state;
-    let counts = sums::none();
+    let counts = Counts::default();
     let noted = Noted { state, counts };
     Tally { standing, noted }
 }
@@ -96,8 +96,7 @@ fn of_log(log: &[u8]) -> Counts
 {
     let mut held = [0u8; 49];
     let tally = take(start(), &mut held, log);
-    let noted = tally.noted;
-    noted.counts
+    tally.noted.counts
 }
 
 // Whether the lengths add up to so many octets. They are taken off what is left, so that no sum can wrap.
@@ -105,14 +104,11 @@ fn add_up(lengths: &[u64], octets: u64) -> bool
     ensures { result ≡ eqb (sum_of lengths.now) octets }
 {
     let mut left = octets;
-    let mut i = 0;
-    while i < lengths.len() {
-        let length = lengths[i];
-        if left < length {
+    for length in lengths {
+        if left < *length {
             return false;
         }
-        left -= length;
-        i += 1;
+        left -= *length;
     }
     left == 0
 }
@@ -122,10 +118,7 @@ fn differ(octets: usize, lengths: &[u64], numbers: usize) -> bool
     requires { length lengths.now ≤ 4096 }
     ensures { result ≡ unlike octets lengths.now numbers }
 {
-    if !add_up(lengths, octets as u64) {
-        return true;
-    }
-    numbers != 10 * lengths.len()
+    !add_up(lengths, octets as u64) || numbers != 10 * lengths.len()
 }
 
 // Counts log after log and writes each one's row.
@@ -133,16 +126,14 @@ fn fill(octets: &[u8], lengths: &[u64], rows: &mut [u32]) -> Counts
     requires { (sum_of lengths.now ≡ length octets.now) × (10 * length lengths.now ≤ length rows.old) }
     ensures { Fills octets.now lengths.now rows.old result rows.new }
 {
-    let mut totals = sums::none();
+    let mut totals = Counts::default();
     let mut at = 0;
-    let mut i = 0;
-    while i < lengths.len() {
-        let end = at + lengths[i] as usize;
+    for (i, length) in lengths.iter().enumerate() {
+        let end = at + *length as usize;
         let one = of_log(&octets[at..end]);
         totals = sums::plus(totals, one);
         rows::put(rows, 10 * i, rows::row_of(one));
         at = end;
-        i += 1;
     }
     totals
 }
@@ -152,7 +143,7 @@ fn refused(refusal: u8) -> Answer
 {
     Answer {
         refusal,
-        totals: [0u32; 10],
+        totals: [0; 10],
     }
 }
 
@@ -182,11 +173,10 @@ pub fn sheet(octets: &[u8], lengths: &[u64], rows: &mut [u32]) -> Answer
 pub fn add(rows: &mut [u32], index: usize, totals: Counts, one: Counts) -> Counts
     ensures { Adds rows.old index totals one result rows.new }
 {
-    let counted = sums::plus(sums::none(), one);
-    if rows.len() / 10 <= index {
-        return sums::plus(totals, one);
+    if index < rows.len() / 10 {
+        let counted = sums::plus(Counts::default(), one);
+        rows::put(rows, 10 * index, rows::row_of(counted));
     }
-    rows::put(rows, 10 * index, rows::row_of(counted));
     sums::plus(totals, one)
 }
 
@@ -197,9 +187,6 @@ pub fn closed(totals: Counts) -> Answer
     if sums::too_many(totals) {
         return refused(19);
     }
-    let row = rows::row_of(totals);
-    Answer {
-        refusal: 0,
-        totals: row,
-    }
+    let totals = rows::row_of(totals);
+    Answer { refusal: 0, totals }
 }

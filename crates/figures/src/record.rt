@@ -8,7 +8,7 @@ ghost use Rattle.figures.specs.Code.{no_counts, capped};
 ghost use Rattle.figures.specs.Figures.{plus_of};
 ghost use Rattle.figures.specs.Taking.{part_noted, noted_by};
 
-use crate::{Noted, stretch, sums};
+use crate::{Counts, Noted, stretch, sums};
 use cell_log::Header;
 use pieces::Found;
 
@@ -16,9 +16,8 @@ use pieces::Found;
 fn passed_over(noted: Noted) -> Noted
     ensures { result ≡ record { state = noted.state; counts = capped (plus_of noted.counts no_counts) } }
 {
-    let state = noted.state;
-    let counts = sums::plus(noted.counts, sums::none());
-    Noted { state, counts }
+    let counts = sums::plus(noted.counts, Counts::default());
+    Noted { counts, ..noted }
 }
 
 // Past the record that octets begin with. None begins with an octet above 1.
@@ -43,9 +42,10 @@ fn begun(noted: Noted, held: [u8; 49]) -> Noted
 {
     let header = header_of(held);
     let opened = receiver::opened(header.format, header.channels, header.order);
-    let state = opened.state;
-    let counts = noted.counts;
-    Noted { state, counts }
+    Noted {
+        state: opened.state,
+        ..noted
+    }
 }
 
 // Past what was found in a piece that begins with no stretch of records: a record is found then only in what is held.

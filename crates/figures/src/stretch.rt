@@ -18,10 +18,7 @@ use receiver::Receiver;
 fn one_if(number: u8, wanted: u8) -> u64
     ensures { (result ≡ cond (eqb number wanted) 1 0) × (result ≤ 1) }
 {
-    if number == wanted {
-        return 1;
-    }
-    0
+    u64::from(number == wanted)
 }
 
 // With a cell more that is refused.
@@ -29,20 +26,12 @@ fn with_refused(c: Counts, refusal: u8) -> Counts
     requires { Under 1000000 c }
     ensures { result ≡ plus_of c (refused_one refusal) }
 {
-    let refused_8 = c.refused_8 + one_if(refusal, 8);
-    let refused_9 = c.refused_9 + one_if(refusal, 9);
-    let refused_15 = c.refused_15 + one_if(refusal, 15);
-    let refused_20 = c.refused_20 + one_if(refusal, 20);
     Counts {
-        sound: c.sound,
-        missing: c.missing,
-        refused_8,
-        refused_9,
-        refused_15,
-        refused_20,
-        marked_0: c.marked_0,
-        marked_1: c.marked_1,
-        marked_2: c.marked_2,
+        refused_8: c.refused_8 + one_if(refusal, 8),
+        refused_9: c.refused_9 + one_if(refusal, 9),
+        refused_15: c.refused_15 + one_if(refusal, 15),
+        refused_20: c.refused_20 + one_if(refusal, 20),
+        ..c
     }
 }
 
@@ -51,21 +40,13 @@ fn with_taken(c: Counts, used: u64, missing: u64, ones: u64) -> Counts
     requires { Under 1000000 c × (used ≤ 48) × (missing ≤ 255) × (ones ≤ used) }
     ensures { result ≡ plus_of c (taken_one used missing ones) }
 {
-    let sound = c.sound + 1;
-    let gaps = c.missing + missing;
-    let marked_0 = c.marked_0 + (used - ones);
-    let marked_1 = c.marked_1 + ones;
-    let marked_2 = c.marked_2 + missing * used;
     Counts {
-        sound,
-        missing: gaps,
-        refused_8: c.refused_8,
-        refused_9: c.refused_9,
-        refused_15: c.refused_15,
-        refused_20: c.refused_20,
-        marked_0,
-        marked_1,
-        marked_2,
+        sound: c.sound + 1,
+        missing: c.missing + missing,
+        marked_0: c.marked_0 + (used - ones),
+        marked_1: c.marked_1 + ones,
+        marked_2: c.marked_2 + missing * used,
+        ..c
     }
 }
 
@@ -95,14 +76,10 @@ fn each(set: Layout, state: Receiver, octets: &[u8], place: usize, records: usiz
         × (length (records_at octets.now place records) ≡ records) × (records ≤ 512) }
     ensures { result ≡ noted_over state (records_at octets.now place records) }
 {
-    let counts = sums::none();
+    let counts = Counts::default();
     let mut noted = Noted { state, counts };
-    let mut at = place;
-    let mut left = records;
-    while left != 0 {
-        noted = past(set, noted, octets, at);
-        at += 49;
-        left -= 1;
+    for i in 0..records {
+        noted = past(set, noted, octets, place + 49 * i);
     }
     noted
 }
@@ -129,29 +106,18 @@ fn bare(set: Layout, state: Receiver, records: usize) -> Noted
     requires { Bare (settled_as set) state records × (used_in (settled_as set) ≤ 48) × (records ≤ 512) }
     ensures { result ≡ bare_noted state (used_in (settled_as set)) records }
 {
-    let count = state.count + records as u32;
     let used = set.channels * set.times;
-    let marked_0 = (records * used) as u64;
-    let sound = records as u64;
     Noted {
         state: Receiver {
-            format: state.format,
-            channels: state.channels,
-            order: state.order,
             started: true,
             last: 0,
-            count,
+            count: state.count + records as u32,
+            ..state
         },
         counts: Counts {
-            sound,
-            missing: 0,
-            refused_8: 0,
-            refused_9: 0,
-            refused_15: 0,
-            refused_20: 0,
-            marked_0,
-            marked_1: 0,
-            marked_2: 0,
+            sound: records as u64,
+            marked_0: (records * used) as u64,
+            ..Counts::default()
         },
     }
 }
@@ -168,7 +134,7 @@ fn over(state: Receiver, octets: &[u8], place: usize, records: usize) -> Noted
     ) else {
         return Noted {
             state,
-            counts: sums::none(),
+            counts: Counts::default(),
         };
     };
     if is_bare(set, state, records) {
@@ -182,10 +148,7 @@ fn over(state: Receiver, octets: &[u8], place: usize, records: usize) -> Noted
 pub(crate) fn at_once(state: Receiver) -> usize
     ensures { (1 ≤ result) × (result ≤ 512) }
 {
-    if state.started {
-        return 512;
-    }
-    1
+    if state.started { 512 } else { 1 }
 }
 
 // Counts the whole records that lie one behind the other from a place on.

@@ -22,13 +22,11 @@ fn begins_with(format: Format, cell: &[u8], sequence: u64) -> bool
     requires { Sound format × (length cell.now ≡ 48) }
     ensures { result ≡ true → (slot : ℕ) → slot < 8 → bit_in format cell.now slot ≡ sequence / 2 ^ slot % 2 }
 {
-    let mut slot = 0;
-    while slot < 8 {
+    for slot in 0..8 {
         let octet = cell[slot * format.width + (format.width - 1)];
         if octet as u64 / 8 % 2 != (sequence >> slot) % 2 {
             return false;
         }
-        slot += 1;
     }
     true
 }
@@ -52,13 +50,9 @@ fn in_turn(set: Layout, state: Receiver, cell: &[u8]) -> bool
     ensures { result ≡ true → (told_of (judged_of state cell.now false) ≡ next_told state)
         × (state.last < 16) × (state.count < 4294967295) }
 {
-    if !waits(set, state) {
-        return false;
-    }
-    if set.format.overhead_bits == 0 {
-        return false;
-    }
-    begins_with(set.format, cell, numbers::sequence_of(state.last + 1, 0))
+    waits(set, state)
+        && set.format.overhead_bits != 0
+        && begins_with(set.format, cell, numbers::sequence_of(state.last + 1, 0))
 }
 
 // The answer to a cell that comes next.
@@ -66,18 +60,14 @@ fn next(state: Receiver) -> Told
     requires { (state.last < 16) × (state.count < 4294967295) }
     ensures { result ≡ next_told state }
 {
-    let last = (state.last + 1) % 16;
-    let count = state.count + 1;
     Told {
         refusal: 0,
         missing: 0,
         state: Receiver {
-            format: state.format,
-            channels: state.channels,
-            order: state.order,
             started: true,
-            last,
-            count,
+            last: (state.last + 1) % 16,
+            count: state.count + 1,
+            ..state
         },
     }
 }
@@ -87,16 +77,13 @@ pub(crate) fn answer(set: Layout, state: Receiver, cell: &[u8], indication: bool
     requires { (settled_as set ≡ settings_of state.format state.channels state.order) × (length cell.now ≡ 48) }
     ensures { result ≡ told_of (judged_of state cell.now indication) }
 {
-    if !indication {
-        if in_turn(set, state, cell) {
-            return next(state);
-        }
+    if !indication && in_turn(set, state, cell) {
+        return next(state);
     }
     let got = receiver::judged(state, cell, indication);
-    let behind = got.state;
     Told {
         refusal: got.refusal,
         missing: got.missing,
-        state: behind,
+        state: got.state,
     }
 }

@@ -53,9 +53,9 @@ use Rattle.cell_log.proofs.keep.write_header.Kinds as write-header-kinds
 use Rattle.cell_log.proofs.keep.write_header.Reads as write-header-reads
 use Rattle.cell_log.proofs.keep.write_record.Kinds as write-record-kinds
 use Rattle.cell_log.proofs.keep.write_record.Reads as write-record-reads
-use Rattle.cell_log.specs.contracts.reader.record_here as record_here
-use Rattle.cell_log.specs.contracts.reader.cell as cell
-use Rattle.cell_log.specs.contracts.reader.past_record as past-record
+use Rattle.cell_log.specs.contracts.reader.Reader.record_here as record_here
+use Rattle.cell_log.specs.contracts.reader.Reader.cell as cell
+use Rattle.cell_log.specs.contracts.reader.Reader.past_record as past-record
 use Rattle.cell_log.specs.contracts.reader.read as read
 use Rattle.cell_log.proofs.One.{RecordEnsures, CellEnsures, PastEnsures, ReadEnsures}
 use Rattle.presence.proofs.anything.Kinds as anything-kinds

@@ -44,12 +44,12 @@ over_same few more v run =
 
 -- the octets of a record behind its first
 pub cell_part : (octets : List ℕ) (place k : ℕ)
-    → take (place + 49 * k + 49 - (place + 49 * k + 1)) (drop (place + 49 * k + 1) octets) ≡ cell_from octets place k
+    → take (place + 49 * k + 1 + 48 - (place + 49 * k + 1)) (drop (place + 49 * k + 1) octets) ≡ cell_from octets place k
 cell_part octets place k =
-    let long : place + 49 * k + 49 - (place + 49 * k + 1) ≡ 48 = omega arith in ap (λ (n : ℕ). take n (drop (place + 49 * k + 1) octets)) long
+    let long : place + 49 * k + 1 + 48 - (place + 49 * k + 1) ≡ 48 = omega arith in ap (λ (n : ℕ). take n (drop (place + 49 * k + 1) octets)) long
 
 pub cell_long : (octets : List ℕ) (place records : ℕ) {k : ℕ} → place + 49 * records ≤ length octets → k < records
-    → length (take (place + 49 * k + 49 - (place + 49 * k + 1)) (drop (place + 49 * k + 1) octets)) ≡ 48
+    → length (take (place + 49 * k + 1 + 48 - (place + 49 * k + 1)) (drop (place + 49 * k + 1) octets)) ≡ 48
 cell_long octets place records {k} there less =
     ap length (cell_part octets place k)
     ∙ length-take-le 48 (drop (place + 49 * k + 1) octets) (omega (arith, length-drop (place + 49 * k + 1) octets))

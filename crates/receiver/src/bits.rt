@@ -24,10 +24,8 @@ pub(crate) fn eight_in(format: Format, cell: &[u8]) -> u8
     ensures { result ≡ eight_in format cell.now }
 {
     let mut eight: u8 = 0;
-    let mut slot = 0;
-    while slot < 8 {
+    for slot in 0..8 {
         eight = eight % 128 * 2 + bit_in(format, cell, slot);
-        slot += 1;
     }
     eight
 }
@@ -56,14 +54,12 @@ pub(crate) fn found_alone(format: Format, cell: &[u8]) -> Found
 }
 
 // The cell's second number in a state of this format, 0 where there is none.
+#[tactic(auto, unfolding(crate::specs::Receiver::second_now, cells::specs::Cells::second_in))]
 pub(crate) fn second_now(format: Format, cell: &[u8]) -> u8
     requires { Sound format × (length cell.now ≡ 48) }
     ensures { (st : Receiver) → format ≡ format_of st.format → result ≡ second_now st cell.now }
 {
-    if format.overhead_bits == 0 {
-        return 0;
-    }
-    if format.slots < 12 {
+    if format.overhead_bits == 0 || format.slots < 12 {
         return 0;
     }
     bit_in(format, cell, 8)

@@ -10,30 +10,20 @@ use formats::{Format, Layout};
 use numbers::Found;
 
 // Check 4 of the last number.
+#[tactic(auto, unfolding(crate::specs::Receiver::last_refused))]
 fn last_refused(format: Format, state: Receiver) -> bool
     requires { format ≡ format_of state.format }
     ensures { result ≡ last_refused state }
 {
-    if 15 < state.last {
-        return true;
-    }
-    if state.last == 0 {
-        return false;
-    }
-    if !state.started {
-        return true;
-    }
-    format.overhead_bits == 0
+    15 < state.last || state.last != 0 && (!state.started || format.overhead_bits == 0)
 }
 
 // Check 4 of the count.
+#[tactic(auto, unfolding(crate::specs::Receiver::count_refused))]
 fn count_refused(state: Receiver) -> bool
     ensures { result ≡ count_refused state }
 {
-    if state.started {
-        return false;
-    }
-    state.count != 0
+    !state.started && state.count != 0
 }
 
 // Check 4.
@@ -41,24 +31,16 @@ fn numbers_refused(format: Format, state: Receiver) -> bool
     requires { format ≡ format_of state.format }
     ensures { result ≡ (last_refused state || count_refused state) }
 {
-    // this one first, which takes fewer instructions
-    if count_refused(state) {
-        return true;
-    }
-    last_refused(format, state)
+    // the count first, which takes fewer instructions
+    count_refused(state) || last_refused(format, state)
 }
 
 // Check 5.
+#[tactic(auto, unfolding(crate::specs::Receiver::lengths_refused))]
 fn lengths_refused(cell: usize, samples: usize, ancillary: usize, marks: usize) -> bool
     ensures { result ≡ lengths_refused cell samples ancillary marks }
 {
-    if cell != 48 {
-        return true;
-    }
-    if ancillary != samples {
-        return true;
-    }
-    marks != samples
+    cell != 48 || ancillary != samples || marks != samples
 }
 
 // Checks 1 to 5, by the settings of the state; the cell and the runs are told by their lengths. 0 where they refuse nothing.
@@ -83,14 +65,12 @@ pub(crate) fn early_refusal(
 }
 
 // d: how many cells on from the last one the cell with this number is.
+#[tactic(auto, unfolding(crate::specs::Receiver::gap_of))]
 fn gap_now(format: Format, state: Receiver, number: u8) -> u8
     requires { format ≡ format_of state.format }
     ensures { (cell : List ℕ) → number ≡ number_now state cell → result ≡ gap_of state cell }
 {
-    if !state.started {
-        return 1;
-    }
-    if format.overhead_bits == 0 {
+    if !state.started || format.overhead_bits == 0 {
         return 1;
     }
     numbers::difference(number, state.last)
@@ -98,6 +78,7 @@ fn gap_now(format: Format, state: Receiver, number: u8) -> u8
 
 // Checks 9, 20 and 10: d, the count so far, how long each run is, and how long it has to be. 0 where they refuse nothing. One answer
 // is made of all three in `judged`, which else is too long to be compiled into both ways.
+#[tactic(auto, unfolding(crate::specs::Unpacking::late_refusal))]
 fn late_refusal(gap: u8, count: u32, samples: usize, needed: usize) -> u8
     ensures { result ≡ late_refusal gap count samples needed }
 {

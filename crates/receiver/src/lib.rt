@@ -12,7 +12,7 @@ mod usual;
 
 // A receiver's state, in the paper's words: the subframe octet, C, the order, whether it is started, the last number, and how many
 // cells it has placed since it was opened, sound and missing together.
-#[derive(Clone, Copy)]
+#[derive(Clone, Copy, Debug, PartialEq, Eq, Hash)]
 pub struct Receiver {
     pub format: u8,
     pub channels: u8,
@@ -23,14 +23,14 @@ pub struct Receiver {
 }
 
 // The refusal (0: none) and the state to go on with.
-#[derive(Clone, Copy)]
+#[derive(Clone, Copy, Debug, PartialEq, Eq, Hash)]
 pub struct Ready {
     pub refusal: u8,
     pub state: Receiver,
 }
 
 // The refusal (0: none), the state to go on with, and the report; all of the report is zero where the cell is refused.
-#[derive(Clone, Copy)]
+#[derive(Clone, Copy, Debug, PartialEq, Eq, Hash)]
 pub struct Received {
     pub refusal: u8,
     pub state: Receiver,

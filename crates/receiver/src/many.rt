@@ -23,13 +23,10 @@ fn usual_cells(
     ensures { FillsMany straight octets.now place records missing samples.old ancillary.old marks.old samples.new ancillary.new marks.new }
 {
     entries::missing_entries(missing, samples, ancillary, marks);
-    let mut k = 0;
-    while k < records {
+    for k in 0..records {
         let start = place + 49 * k + 1;
-        let end = place + 49 * k + 49;
-        let at = missing + k * 12;
-        usual::own_entries(&octets[start..end], at, samples, ancillary, marks);
-        k += 1;
+        let cell = &octets[start..start + 48];
+        usual::own_entries(cell, missing + k * 12, samples, ancillary, marks);
     }
 }
 
@@ -50,18 +47,16 @@ fn any_cells(
     let used = set.channels * set.times;
     let format = set.format;
     entries::cleared(format, missing, records * used, samples, ancillary, marks);
-    let mut k = 0;
-    while k < records {
+    for k in 0..records {
         let start = place + 49 * k + 1;
-        let end = place + 49 * k + 49;
-        let at = missing + k * used;
-        entries::own_entries(set, &octets[start..end], at, samples, ancillary, marks);
-        k += 1;
+        let cell = &octets[start..start + 48];
+        entries::own_entries(set, cell, missing + k * used, samples, ancillary, marks);
     }
 }
 
 // Whether there are octets for so many records from a place on, and room for their entries and those of missing cells. The octets and
 // the runs are told by their lengths.
+#[tactic(auto, unfolding(crate::specs::Many::fits_in))]
 fn fits(
     used: usize,
     octets: usize,
@@ -75,19 +70,11 @@ fn fits(
     requires { 1 ≤ used }
     ensures { result ≡ fits_in used octets place records missing samples ancillary marks }
 {
-    if octets < place {
-        return false;
-    }
-    if (octets - place) / 49 < records {
-        return false;
-    }
-    if ancillary != samples {
-        return false;
-    }
-    if marks != samples {
-        return false;
-    }
-    records + missing as usize <= samples / used
+    place <= octets
+        && records <= (octets - place) / 49
+        && ancillary == samples
+        && marks == samples
+        && records + missing as usize <= samples / used
 }
 
 // Writes the entries of the cells of so many records from a place of the octets on to the three runs, from their start: before them

@@ -48,12 +48,10 @@ pub(crate) fn own_entries(
     requires { (length cell.now ≡ 48) × Room at 12 samples.old ancillary.old marks.old }
     ensures { Unpacks straight cell.now at samples.old ancillary.old marks.old samples.new ancillary.new marks.new }
 {
-    let mut i = 0;
-    while i < 12 {
+    for i in 0..12 {
         let subframe = octets::in4(cell, i * 4);
         let bits = tables::marks_for_usual(subframe / 8388608);
         enter(subframe, bits, at + i, samples, ancillary, marks);
-        i += 1;
     }
 }
 

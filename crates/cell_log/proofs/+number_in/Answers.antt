@@ -4,17 +4,20 @@ use Rattle.cell_log.specs.declared.Number.{Number}
 use Rattle.cell_log.specs.Code.{behind}
 use Rattle.cell_log.proofs.Laws.{number_none, number_some_groups, number_cut, number_whole, number_more, value_below}
 use Rattle.cell_log.proofs.+number_in.Goals as goal
+use Rattle.cell_log.proofs.+number_in.Goals.{then-groups-eq0-via-then-groups-eq0, then-groups-eq0-via-else-groups-eq0+then-log-place}
 
 pub returns-then-groups-eq0 : goal.returns-then-groups-eq0
-returns-then-groups-eq0 t c = c.no_number.ensures ∙ sym (number_none _ _ _ c.if-groups-eq0.true)
-
-pub returns-then-log-place : goal.returns-then-log-place
-returns-then-log-place t c = c.no_number-then-log-place.ensures ∙ sym (number_cut _ _ _ c.if-log-place.true)
+returns-then-groups-eq0 t c =
+    c.no_number.ensures
+    ∙ elim c.then-groups-eq0.branch [
+      | then-groups-eq0-via-then-groups-eq0 w ↦ sym (number_none _ _ _ w.if-groups-eq0.true)
+      | then-groups-eq0-via-else-groups-eq0+then-log-place w ↦ sym (number_cut _ _ _ w.if-log-place.true)
+    ]
 
 pub returns-then-group-lt128 : goal.returns-then-group-lt128
 returns-then-group-lt128 t c =
     sym (number_some_groups _ _ _ c.if-groups-eq0.false
-    ∙ number_whole _ _ _ c.wide-group.ensures.0 (omega arith) c.if-group-lt128.true)
+    ∙ number_whole _ _ _ c.from-group.ensures (omega arith) c.if-group-lt128.true)
 
 pub behind-requires : goal.behind-requires
 behind-requires t c =
@@ -27,6 +30,6 @@ behind-requires t c =
 pub returns : goal.returns
 returns t c =
     c.behind.ensures
-    ∙ ap (behind c.wide-group.result) c.number_in.ensures
+    ∙ ap (behind c.from-group.result) c.number_in.ensures
     ∙ sym (number_some_groups _ _ _ c.if-groups-eq0.false
-    ∙ number_more _ _ _ c.wide-group.ensures.0 (omega arith) c.if-group-lt128.false)
+    ∙ number_more _ _ _ c.from-group.ensures (omega arith) c.if-group-lt128.false)

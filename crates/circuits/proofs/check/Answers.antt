@@ -1,6 +1,7 @@
 -- `circuits::check` meets its contract.
 -- Assumes nothing.
 use mathlib.Core.Path.{sym, ◌∙◌}
+use native.Mathlib.Omega.{arith}
 use lib.ListN.{length}
 use Rattle.refusals.proofs.Laws.{number_not_0}
 use Rattle.circuits.proofs.Laws.{check_first, check_said, check_refused, check_taken, check_passed, slots_given}
@@ -36,3 +37,6 @@ returns c =
     let given = c.in-Ok.ensures in
     let said = check_said a.octet a.channels a.frequency a.shares.now a.allowances.now given c.check_refusal-refusal.ensures in
     check_taken a.octet a.channels a.frequency a.shares.now a.allowances.now given (sym said ∙ c.if-refusal-ne0.false) c.judge.ensures
+
+pub overflow_cast-slots : goal.overflow_cast-slots
+overflow_cast-slots c = omega (arith, slots_given _ c.in-Ok.ensures)

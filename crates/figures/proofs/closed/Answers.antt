@@ -7,8 +7,8 @@ use Rattle.figures.proofs.closed.Goals as goal
 pub returns-then-too_many : goal.returns-then-too_many
 returns-then-too_many c = closed_many _ (sym c.too_many.ensures ∙ c.if-too_many.true) c.refused.ensures
 
-pub row_of-row-requires : goal.row_of-row-requires
-row_of-row-requires c = few_row _ (sym c.too_many.ensures ∙ c.if-too_many.false)
+pub row_of-totals-requires : goal.row_of-totals-requires
+row_of-totals-requires c = few_row _ (sym c.too_many.ensures ∙ c.if-too_many.false)
 
 pub returns : goal.returns
-returns c = closed_few _ (sym c.too_many.ensures ∙ c.if-too_many.false) c.row_of-row.ensures
+returns c = closed_few _ (sym c.too_many.ensures ∙ c.if-too_many.false) c.row_of-totals.ensures

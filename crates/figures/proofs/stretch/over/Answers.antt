@@ -5,11 +5,12 @@ use mathlib.Core.Path.{◌∙◌}
 use Rattle.refusals.proofs.Laws.{number_not_0}
 use Rattle.formats.proofs.Laws.{limits_of}
 use Rattle.figures.proofs.Bare.{bare_over}
+use Rattle.figures.proofs.Laws.{counts_begun}
 use Rattle.figures.proofs.Unsettled.{none_over}
 use Rattle.figures.proofs.stretch.over.Goals as goal
 
 pub returns-in_default : goal.returns-in_default
-returns-in_default c = rw c.none.ensures (none_over c.args.state c.in_default.ensures (number_not_0 _) _)
+returns-in_default c = rw (counts_begun c.default.ensures) (none_over c.args.state c.in_default.ensures (number_not_0 _) _)
 
 pub bare-requires : goal.bare-requires
 bare-requires c = let is-bare = c.is_bare.ensures c.if-is_bare.true in
