@@ -1,3 +1,4 @@
+pub mod Answered
 pub mod Back
 pub mod Demand1
 pub mod Labels

@@ -38,7 +38,7 @@ fn mark_at(format: Format, cell: &[u8], slot: usize) -> u64
 {
     let at = slot * format.width;
     let second = cell[at + 1];
-    let bits = tables::marks_for_figures(key_of(format, cell[at], second));
+    let bits = tables::marks(key_of(format, cell[at], second));
     let low = low_of(format, second, cell[at + (format.width - 1)]);
     (bits >> low) % 2
 }

@@ -69,7 +69,6 @@ pub fn start() -> Tally
 pub fn take(tally: Tally, held: &mut [u8; 49], piece: &[u8]) -> Tally
     ensures { Takes tally held.old piece.now result held.new }
 {
-    pieces::sized(*held);
     let mut standing = tally.standing;
     let mut noted = tally.noted;
     let mut place = 0;

@@ -3,6 +3,7 @@ ghost use Rattle.std.specs.Prelude.{[], ◌≡◌, take};
 ghost use Rattle.cell_log.specs.Records.{header_of};
 ghost use Rattle.reading.specs.Records.{front_of};
 ghost use Rattle.pieces.specs.Limit.{head, whole};
+ghost use Rattle.pieces.specs.Found.{number_of, numbered};
 ghost use Rattle.pieces.specs.Steps.{found_parts};
 ghost use Rattle.figures.specs.Code.{no_counts, capped};
 ghost use Rattle.figures.specs.Figures.{plus_of};
@@ -10,7 +11,7 @@ ghost use Rattle.figures.specs.Taking.{part_noted, noted_by};
 
 use crate::{Counts, Noted, stretch, sums};
 use cell_log::Header;
-use pieces::Found;
+use pieces::{Found, What};
 
 // Past octets that begin with no record: nothing counts.
 fn passed_over(noted: Noted) -> Noted
@@ -50,14 +51,12 @@ fn begun(noted: Noted, held: [u8; 49]) -> Noted
 
 // Past what was found in a piece that begins with no stretch of records: a record is found then only in what is held.
 pub(crate) fn step(noted: Noted, found: Found, held: &[u8; 49]) -> Noted
-    requires { found.what ≡ 2 → ⊥ }
-    ensures { result ≡ noted_by noted (found_parts found held.now [] 0) }
+    requires { number_of found.what ≡ 2 → ⊥ }
+    ensures { result ≡ noted_by noted (found_parts (numbered found) held.now [] 0) }
 {
-    if found.what == 3 {
-        return counted(noted, *held);
+    match found.what {
+        What::Held => counted(noted, *held),
+        What::Header => begun(noted, *held),
+        _ => noted,
     }
-    if found.what == 1 {
-        return begun(noted, *held);
-    }
-    noted
 }

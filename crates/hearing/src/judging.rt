@@ -1,7 +1,7 @@
 // A log's records judged in a row, from a place on: what the receiver says to each, with nothing unpacked.
 ghost use Rattle.std.specs.Prelude.{◌≡◌, ◌+◌, ◌≤◌, length};
 ghost use Rattle.runs.specs.Runs.{written};
-ghost use Rattle.hearing.specs.Judging.{yes_no, report_of, stop_of, judged_not, Judges, JudgesOn};
+ghost use Rattle.hearing.specs.Judging.{report_of, stop_of, judged_not, Judges, JudgesOn};
 ghost use Rattle.hearing.specs.Code.{ended_as};
 
 use crate::states;
@@ -9,7 +9,7 @@ use cell_log::Record;
 use receiver::{Received, Receiver};
 
 // The refusal of the call (0: none); the state to go on with, the next place, the records judged, and why it stopped.
-#[derive(Clone, Copy)]
+#[derive(Clone, Copy, Debug, PartialEq, Eq, Hash)]
 pub struct Judged {
     pub refusal: u8,
     pub state: Receiver,
@@ -18,33 +18,26 @@ pub struct Judged {
     pub stop: u8,
 }
 
-fn yes_no(said: bool) -> u8
-    ensures { result ≡ yes_no said }
-{
-    if said { 1 } else { 0 }
-}
-
 // Puts the five octets of a record's answer at a place of the run.
 fn put(reports: &mut [u8], place: usize, got: Received)
     requires { place + 5 ≤ length reports.old }
     ensures { reports.new ≡ written reports.old place (report_of got) }
 {
-    let told = yes_no(got.indication);
-    reports[place] = got.refusal;
-    reports[place + 1] = got.missing;
-    reports[place + 2] = got.number;
-    reports[place + 3] = got.second;
-    reports[place + 4] = told;
+    let told = u8::from(got.indication);
+    reports[place..place + 5].copy_from_slice(&[
+        got.refusal,
+        got.missing,
+        got.number,
+        got.second,
+        told,
+    ]);
 }
 
 // Why a walk stops where this was found: no room for a record that is there, or what a single call would answer.
 pub(crate) fn stop_of(found: Record) -> u8
     ensures { result ≡ stop_of found }
 {
-    if found.what == 1 {
-        return 10;
-    }
-    found.refusal
+    if found.what == 1 { 10 } else { found.refusal }
 }
 
 fn refused(refusal: u8, state: Receiver) -> Judged
@@ -79,9 +72,8 @@ fn walk(state: Receiver, log: &[u8], place: usize, reports: &mut [u8]) -> Judged
     let most = reports.len() / 5;
     let mut now = state;
     let mut at = place;
-    let mut records = 0;
     let mut found = cell_log::read_record(log, at);
-    while records < most {
+    for records in 0..most {
         if found.what != 1 {
             return ended(now, at, records, found);
         }
@@ -89,10 +81,9 @@ fn walk(state: Receiver, log: &[u8], place: usize, reports: &mut [u8]) -> Judged
         put(reports, 5 * records, got);
         now = got.state;
         at = found.next;
-        records += 1;
         found = cell_log::read_record(log, at);
     }
-    ended(now, at, records, found)
+    ended(now, at, most, found)
 }
 
 // Judges a log's records from a place on, in the order in which they stand, and writes five octets a record into `reports`, as

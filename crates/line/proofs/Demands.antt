@@ -26,9 +26,7 @@ use Rattle.cell_log.specs.Written.{number_refusal, header_refused_of, record_ref
 use Rattle.presence.specs.declared.Presence.{Presence}
 use Rattle.saving.specs.declared.Salvaged.{Salvaged}
 use Rattle.saving.specs.Salvage.{salvage_refusal}
-use Rattle.cable.specs.declared.Imported.{Imported}
-use Rattle.cable.specs.declared.Exported.{Exported}
-use Rattle.cable.specs.Frames.{import_refusal, export_refusal}
+use Rattle.cable.specs.Frames.{Imported, Exported, import_refusal, export_refusal}
 use Rattle.units.specs.Back.{ExportCall, export_table, ExportedNothing, ReadCall, read_table, EnteredNothing}
 use Rattle.circuits.specs.declared.Verdict.{Verdict}
 use Rattle.circuits.specs.Circuits.{refusal_of, answer_of, circuit_of, octet_refusal, check_refusal, plan_refusal_of}

@@ -62,6 +62,7 @@ use Rattle.presence.proofs.anything.Kinds as anything-kinds
 use Rattle.presence.proofs.anything.Reads as anything-reads
 use Rattle.saving.proofs.salvage.Kinds as salvage-kinds
 use Rattle.saving.proofs.salvage.Reads as salvage-reads
+use Rattle.cable.specs.Frames.{import_answered, export_answered}
 use Rattle.cable.proofs.import_frame.Kinds as import-kinds
 use Rattle.cable.proofs.import_frame.Reads as import-reads
 use Rattle.cable.proofs.export_frame.Kinds as export-kinds
@@ -201,10 +202,10 @@ pub salvage_ensures : Ensured salvage-kinds.ps salvage-kinds.r salvage-reads.Pos
     (λ κs a x v. MeetsSalvage a.0.now a.1.0.now a.1.1.0.now x v.1.0 v.1.1.0)
 salvage_ensures κs a x v p = p
 
-pub import_ensures : Ensured import-kinds.ps import-kinds.r import-reads.Post (λ κs a x v. MeetsImport a.0 a.1.0 x)
+pub import_ensures : Ensured import-kinds.ps import-kinds.r import-reads.Post (λ κs a x v. MeetsImport a.0.preambles a.0.subframes (import_answered x))
 import_ensures κs a x v p = p
 
-pub export_ensures : Ensured export-kinds.ps export-kinds.r export-reads.Post (λ κs a x v. MeetsExport a.0 a.1.0 x)
+pub export_ensures : Ensured export-kinds.ps export-kinds.r export-reads.Post (λ κs a x v. MeetsExport a.0.samples a.0.ancillary (export_answered x))
 export_ensures κs a x v p = p
 
 -- The `ensures` of five functions are stated over their clauses, and not by Kinds and Reads.

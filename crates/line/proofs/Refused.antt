@@ -32,9 +32,7 @@ use Rattle.presence.proofs.Theorems.{presence_refusal, presence_nothing}
 use Rattle.saving.specs.declared.Salvaged.{Salvaged}
 use Rattle.saving.specs.Salvage.{salvage_refusal}
 use Rattle.saving.proofs.Refusals as saving
-use Rattle.cable.specs.declared.Imported.{Imported}
-use Rattle.cable.specs.declared.Exported.{Exported}
-use Rattle.cable.specs.Frames.{import_refusal, export_refusal}
+use Rattle.cable.specs.Frames.{Imported, Exported, import_refusal, export_refusal}
 use Rattle.cable.proofs.Demand1 as cable
 use Rattle.units.specs.Back.{ExportCall, export_table, ExportedNothing, ReadCall, read_table, EnteredNothing}
 use Rattle.units.proofs.Demand1 as units

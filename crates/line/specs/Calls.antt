@@ -27,9 +27,7 @@ use Rattle.presence.specs.declared.Presence.{Presence}
 use Rattle.presence.specs.Presence.{presence_of}
 use Rattle.saving.specs.declared.Salvaged.{Salvaged}
 use Rattle.saving.specs.Salvage.{Salvages}
-use Rattle.cable.specs.declared.Imported.{Imported}
-use Rattle.cable.specs.declared.Exported.{Exported}
-use Rattle.cable.specs.Frames.{import_of, export_of}
+use Rattle.cable.specs.Frames.{Imported, Exported, import_of, export_of}
 use Rattle.units.specs.Back as U
 use Rattle.units.specs.Back.{ExportCall, ReadCall}
 use Rattle.circuits.specs.declared.Verdict.{Verdict}

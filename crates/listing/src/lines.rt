@@ -86,7 +86,7 @@ pub(crate) fn end_line(run: &mut [u8], at: Put, sound: usize, missing: usize, re
     )
 }
 
-pub(crate) fn refused_line(run: &mut [u8], at: Put, index: usize, refusal: usize) -> Put
+pub fn refused_line(run: &mut [u8], at: Put, index: usize, refusal: usize) -> Put
     ensures { Puts run.old at run.new result (refused_line index refusal) }
 {
     fault(run, at, index, b" refused ", refusal)
@@ -98,7 +98,7 @@ pub(crate) fn broken_line(run: &mut [u8], at: Put, index: usize, refusal: usize)
     fault(run, at, index, b" broken ", refusal)
 }
 
-pub(crate) fn log_refused_line(run: &mut [u8], at: Put, refusal: usize) -> Put
+pub fn log_refused_line(run: &mut [u8], at: Put, refusal: usize) -> Put
     ensures { Puts run.old at run.new result (log_refused_line refusal) }
 {
     let past = put_item(run, at, b"log refused ", refusal);

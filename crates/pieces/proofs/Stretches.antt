@@ -6,7 +6,7 @@ use Rattle.std.proofs.Math.Nat.{min-eq_left, min-eq_right}
 use Rattle.runs.proofs.Laws.{split, both_true}
 use Rattle.reading.specs.Records.{Whole, is_whole, front_of, walk_within}
 use Rattle.reading.proofs.Records.{whole_facts, not_whole, whole_here, front_is}
-use Rattle.pieces.specs.declared.Found.{Found}
+use Rattle.pieces.specs.Found.{Found}
 use Rattle.pieces.specs.declared.Standing.{Standing}
 use Rattle.pieces.specs.declared.Stretch.{Stretch}
 use Rattle.pieces.specs.Limit.{Part, whole}

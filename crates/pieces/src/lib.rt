@@ -2,6 +2,7 @@
 // A log taken in pieces, request 14: what turns pieces of any length into the header and the records of the log. The octets of a
 // part that isn't whole yet are held in an array that the caller lends.
 ghost use Rattle.std.specs.Prelude.{◌≡◌, ◌+◌, ◌-◌, ◌<◌, ◌≤◌, length, take, drop};
+ghost use Rattle.pieces.specs.Found.{number_of, numbered};
 ghost use Rattle.pieces.specs.Steps.{
   start_of,
   taking_of,
@@ -14,7 +15,7 @@ ghost use Rattle.pieces.specs.Steps.{
   Steps,
   is_record,
   in_piece,
-  found_octets,
+  octets_found,
 };
 ghost use Rattle.pieces.specs.Stretch.{stretch_of, past_stretch};
 ghost use Rattle.pieces.specs.Taken.{end_fault};
@@ -33,11 +34,24 @@ pub struct Standing {
     pub records: u64,
 }
 
-// What was found at a place of a piece: 0 nothing that is whole; 1 the header, which is the first three octets held; 2 a record in
-// the piece, at this place; 3 a record, which is the octets held; 4 a fault. Then the place to go on at, and the standing.
+// What was found at a place of a piece.
+#[derive(Clone, Copy, Debug, PartialEq, Eq, Hash)]
+pub enum What {
+    // nothing that is whole
+    Nothing,
+    // the header, which is the first three octets held
+    Header,
+    // a record in the piece, at this place
+    InPiece,
+    // a record, which is the octets held
+    Held,
+    Fault,
+}
+
+// What was found, the place to go on at, and the standing there.
 #[derive(Clone, Copy, Debug, PartialEq, Eq, Hash)]
 pub struct Found {
-    pub what: u8,
+    pub what: What,
     pub next: usize,
     pub standing: Standing,
 }
@@ -56,10 +70,10 @@ pub fn start(limit: u64) -> Standing
 }
 
 fn fault_found(standing: Standing, stage: u8, fault: u8, end: usize) -> Found
-    ensures { result ≡ fault_found standing stage fault end }
+    ensures { numbered result ≡ fault_found standing stage fault end }
 {
     Found {
-        what: 4,
+        what: What::Fault,
         next: end,
         standing: Standing {
             stage,
@@ -73,14 +87,14 @@ fn fault_found(standing: Standing, stage: u8, fault: u8, end: usize) -> Found
 // What the header's newest octet makes of it. It is held already.
 #[tactic(auto, unfolding(crate::specs::Steps::header_found))]
 fn header_found(standing: Standing, held: [u8; 49], next: usize, end: usize) -> Found
-    ensures { result ≡ header_found standing held next end }
+    ensures { numbered result ≡ header_found standing held next end }
 {
     let count = standing.count % 9;
     if count == 2 {
         let header = cell_log::read_header(&held[..3]);
         if header.refusal == 0 {
             return Found {
-                what: 1,
+                what: What::Header,
                 next,
                 standing: Standing {
                     stage: 1,
@@ -96,7 +110,7 @@ fn header_found(standing: Standing, held: [u8; 49], next: usize, end: usize) -> 
         return fault_found(standing, 2, header.refusal, end);
     }
     Found {
-        what: 0,
+        what: What::Nothing,
         next,
         standing: Standing {
             stage: 0,
@@ -110,13 +124,13 @@ fn header_found(standing: Standing, held: [u8; 49], next: usize, end: usize) -> 
 #[tactic(auto, unfolding(crate::specs::Steps::record_found))]
 fn record_found(standing: Standing, next: usize) -> Found
     requires { 0 < standing.left }
-    ensures { result ≡ record_found standing next }
+    ensures { numbered result ≡ record_found standing next }
 {
     let count = standing.count % 49;
     let left = standing.left - 1;
     if count == 48 {
         return Found {
-            what: 3,
+            what: What::Held,
             next,
             standing: Standing {
                 stage: 1,
@@ -128,7 +142,7 @@ fn record_found(standing: Standing, next: usize) -> Found
         };
     }
     Found {
-        what: 0,
+        what: What::Nothing,
         next,
         standing: Standing {
             stage: 1,
@@ -142,10 +156,10 @@ fn record_found(standing: Standing, next: usize) -> Found
 // A record that lies whole in the piece.
 fn whole_found(standing: Standing, next: usize) -> Found
     requires { 49 ≤ standing.left }
-    ensures { result ≡ whole_found standing next }
+    ensures { numbered result ≡ whole_found standing next }
 {
     Found {
-        what: 2,
+        what: What::InPiece,
         next,
         standing: Standing {
             stage: 1,
@@ -178,12 +192,12 @@ fn lies_whole(count: usize, ahead: usize, left: u64) -> bool
 // fault nothing is read: the place to go on at is then the piece's end. A place at the piece's end or past it finds nothing.
 #[tactic(auto, using(crate::proofs::Laws::lies_facts), unfolding(crate::specs::Steps::next_of, crate::specs::Steps::held_now))]
 pub fn next(standing: Standing, held: &mut [u8; 49], piece: &[u8], place: usize) -> Found
-    ensures { Steps standing held.old piece.now place result held.new }
+    ensures { Steps standing held.old piece.now place (numbered result) held.new }
 {
     let end = piece.len();
     if end <= place {
         return Found {
-            what: 0,
+            what: What::Nothing,
             next: place,
             standing,
         };
@@ -198,7 +212,7 @@ pub fn next(standing: Standing, held: &mut [u8; 49], piece: &[u8], place: usize)
     }
     if standing.stage != 1 {
         return Found {
-            what: 0,
+            what: What::Nothing,
             next: end,
             standing,
         };
@@ -234,27 +248,20 @@ pub fn end(standing: Standing, held: [u8; 49]) -> u8
     12
 }
 
-// The array that holds octets, as it is: it tells a caller that lends it on how long it is.
-pub fn sized(held: [u8; 49]) -> [u8; 49]
-    ensures { (result ≡ held) × (length result ≡ 49) }
-{
-    held
-}
-
 // Whether what was found is a record.
 #[tactic(auto, unfolding(crate::specs::Steps::is_record))]
-pub fn is_record(what: u8) -> bool
-    ensures { result ≡ is_record what }
+pub fn is_record(what: What) -> bool
+    ensures { result ≡ is_record (number_of what) }
 {
-    what == 2 || what == 3
+    matches!(what, What::InPiece | What::Held)
 }
 
 // Whether it lies in a piece of this size, at this place.
 #[tactic(auto, unfolding(crate::specs::Steps::in_piece))]
-fn in_piece(what: u8, size: usize, place: usize) -> bool
-    ensures { result ≡ in_piece what size place }
+fn in_piece(what: What, size: usize, place: usize) -> bool
+    ensures { result ≡ in_piece (number_of what) size place }
 {
-    what == 2 && 49 <= size && place <= size - 49
+    matches!(what, What::InPiece) && 49 <= size && place <= size - 49
 }
 
 // A record that lies in a piece, as an array.
@@ -267,16 +274,19 @@ fn copied(piece: &[u8], place: usize) -> [u8; 49]
     octets
 }
 
-// The octets of a record that was found: those in the piece, or else those held. With them in one array a caller handles a record
-// in one place of the program: what is called in two isn't compiled into its loop.
+// The octets of a record, where one was found: those in the piece, or else those held. With them in one array a caller handles a
+// record in one place of the program: what is called in two isn't compiled into its loop.
 #[tactic(auto, using(crate::proofs::Laws::in_room), unfolding(crate::specs::Steps::found_octets))]
-pub fn record_octets(what: u8, held: &[u8; 49], piece: &[u8], place: usize) -> [u8; 49]
-    ensures { result ≡ found_octets what held.now piece.now place }
+pub fn record_octets(what: What, held: &[u8; 49], piece: &[u8], place: usize) -> Option<[u8; 49]>
+    ensures { result ≡ octets_found (number_of what) held.now piece.now place }
 {
-    if in_piece(what, piece.len(), place) {
-        return copied(piece, place);
+    if !is_record(what) {
+        return None;
     }
-    *held
+    if in_piece(what, piece.len(), place) {
+        return Some(copied(piece, place));
+    }
+    Some(*held)
 }
 
 // Whole records that lie one behind the other in a piece: how many, the place behind them, and the standing there.

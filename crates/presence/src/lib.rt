@@ -18,7 +18,7 @@ mod sounds; // sounds.rt: what one record says
 
 // The refusal of the header (0: none); whether there is a sample marked 0 that isn't zero; for a yes the first record with one,
 // counted from 0, for a no how many whole records were read. All else is zero where the header is refused.
-#[derive(Clone, Copy)]
+#[derive(Clone, Copy, Debug, PartialEq, Eq, Hash)]
 pub struct Presence {
     pub refusal: u8,
     pub found: bool,
@@ -93,10 +93,8 @@ pub fn start() -> Search
     ensures { result ≡ search_start }
 {
     let standing = pieces::start(18446744073709551615);
-    let opened = receiver::opened(0, 0, 0);
-    let state = opened.state;
     let sought = Sought {
-        state,
+        state: receiver::opened(0, 0, 0).state,
         refusal: 0,
         found: false,
         number: 0,
@@ -105,15 +103,11 @@ pub fn start() -> Search
 }
 
 // "It should stop at the first one": whether more octets of the log could change the answer. Not behind a yes, nor behind a fault.
+#[tactic(auto, unfolding(crate::specs::Taking::reads_on))]
 pub fn reads_on(search: Search) -> bool
     ensures { result ≡ reads_on search }
 {
-    let sought = search.sought;
-    if sought.found {
-        return false;
-    }
-    let standing = search.standing;
-    standing.stage < 2
+    !search.sought.found && search.standing.stage < 2
 }
 
 // Takes a piece of the log. The octets of a record that isn't whole yet are held in `held`. Behind a yes no record is judged, and
@@ -121,9 +115,10 @@ pub fn reads_on(search: Search) -> bool
 pub fn take(search: Search, held: &mut [u8; 49], piece: &[u8]) -> Search
     ensures { Takes search held.old piece.now result held.new }
 {
-    pieces::sized(*held);
-    let mut standing = search.standing;
-    let mut sought = search.sought;
+    let Search {
+        mut standing,
+        mut sought,
+    } = search;
     let mut place = 0;
     while place < piece.len() {
         let found = pieces::next(standing, held, piece, place);
@@ -138,18 +133,14 @@ pub fn take(search: Search, held: &mut [u8; 49], piece: &[u8]) -> Search
 pub fn end(search: Search, held: [u8; 49]) -> Presence
     ensures { result ≡ answer_at_end search held }
 {
-    let standing = search.standing;
-    let sought = search.sought;
-    let refusal = pieces::end(standing, held);
-    if standing.stage == 0 {
-        return Presence {
-            refusal,
-            found: sought.found,
-            number: sought.number,
-        };
-    }
+    let Search { standing, sought } = search;
+    let refusal = if standing.stage == 0 {
+        pieces::end(standing, held)
+    } else {
+        sought.refusal
+    };
     Presence {
-        refusal: sought.refusal,
+        refusal,
         found: sought.found,
         number: sought.number,
     }

@@ -17,16 +17,8 @@ pub(crate) fn heard(state: Receiver, cell: &[u8], indication: bool) -> Said
     ensures { result ≡ said_of state cell.now indication }
 {
     let answer = receiver::judged(state, cell, indication);
-    let next = answer.state;
-    if answer.refusal != 0 {
-        return Said {
-            state: next,
-            sounds: false,
-        };
-    }
-    let sounds = glance::sounds(state, cell);
     Said {
-        state: next,
-        sounds,
+        state: answer.state,
+        sounds: answer.refusal == 0 && glance::sounds(state, cell),
     }
 }

@@ -9,6 +9,7 @@ use native.Mathlib.Omega.{arith}
 use borrow.Author.Tests.{ne_eqb, ltb-false, eqb-true, eqb-false, not-false}
 use lib.Dec.{eqb, ltb}
 use lib.ListN.{length, replicate}
+use Rattle.std.specs.Prelude.{Option, Some, None}
 use Rattle.runs.specs.Refusals.{or_else}
 use Rattle.runs.specs.Runs.{over}
 use Rattle.runs.proofs.Laws.{first_refuses, then_later, past, past_both, neither, split}
@@ -18,8 +19,6 @@ use Rattle.formats.specs.Formats.{format_of, settings_refusal}
 use Rattle.formats.specs.Settings.{settings_of, settled}
 use Rattle.formats.specs.Sound.{Limits}
 use Rattle.formats.proofs.Laws.{settled_of_lem, settled_limits, given_refusal, given_refuses, given_none, given_settled, given_later}
-use Rattle.numbers.specs.declared.Found.{Found}
-use Rattle.numbers.specs.declared.Found.TheVariants.{Number, Nothing}
 use Rattle.numbers.specs.Numbers.{found_of, refusal_of, value_of, difference_of, indication_refused}
 use Rattle.cells.specs.Cells.{sample_in, ancillary_in, mark_in, eight_in}
 use Rattle.receiver.specs.declared.Receiver.{Receiver}
@@ -230,33 +229,33 @@ module _ {set : Settled} (st : Receiver) (cell : List ℕ) (indication : Bool) (
     judged_whole_lem = whole_call.whole
 
     -- what the later checks say of a cell found so, with these settings
-    abbrev later_of : Found → Settled → ℕ
+    abbrev later_of : Option ℕ → Settled → ℕ
     later_of found s =
         or_else (refusal_of found)
         (cond (indication_refused (value_of found) indication) 15
         (cond (eqb (gap_of st cell) 0) 9
         (cond (ltb 4294967295 (st.count + gap_of st cell)) 20 (cond (ltb samples (gap_of st cell * used_in s)) 10 0))))
 
-    later : (found : Found) → found ≡ found_now st cell → receive_refusal st cell indication samples samples samples ≡ later_of found set
+    later : (found : Option ℕ) → found ≡ found_now st cell → receive_refusal st cell indication samples samples samples ≡ later_of found set
     unfolding receive_refusal count_after
     later found e =
         then_later _ whole_call.state_none
-        ∙ rw whole_call.lengths_none (ap₂ (λ (x : Found) (s : Settled). later_of x s) (sym e) (sym is))
+        ∙ rw whole_call.lengths_none (ap₂ (λ (x : Option ℕ) (s : Settled). later_of x s) (sym e) (sym is))
 
-    pub judged_8 : Nothing ≡ found_now st cell → refused_by 8 st ≡ wanted
+    pub judged_8 : None ≡ found_now st cell → refused_by 8 st ≡ wanted
     unfolding or_else refusal_of
-    judged_8 e = answer_refused st cell indication samples samples samples (suc-ne-zero 7) (sym (later Nothing e))
+    judged_8 e = answer_refused st cell indication samples samples samples (suc-ne-zero 7) (sym (later None e))
 
-    module _ {number : ℕ} (found : Number number ≡ found_now st cell) where
+    module _ {number : ℕ} (found : Some number ≡ found_now st cell) where
       pub judged_15 : true ≡ indication_refused number indication → refused_by 15 st ≡ wanted
       unfolding or_else refusal_of value_of
       judged_15 e =
-          answer_refused st cell indication samples samples samples (suc-ne-zero 14) (sym (later (Number number) found ∙ rw (← e)))
+          answer_refused st cell indication samples samples samples (suc-ne-zero 14) (sym (later (Some number) found ∙ rw (← e)))
 
       module _ (rightly : false ≡ indication_refused number indication) {gap : ℕ} (gap_is : gap ≡ gap_of st cell) where
         from_9 : receive_refusal st cell indication samples samples samples ≡ late_refusal gap st.count samples (gap * used_in set)
         unfolding or_else refusal_of value_of late_refusal
-        from_9 = later (Number number) found ∙ rw (← rightly, ← gap_is)
+        from_9 = later (Some number) found ∙ rw (← rightly, ← gap_is)
 
         -- refused by 9, 20 or 10
         pub judged_late : {n : ℕ} → (n ≡ 0 → ⊥) → n ≡ late_refusal gap st.count samples (gap * used_in set) → refused_by n st ≡ wanted
@@ -281,7 +280,7 @@ pub gap_by : (st : Receiver) (cell : List ℕ) {started none : Bool} {number : �
 unfolding gap_of
 gap_by st cell a b e = λ i. cond (not (a i) || b i) 1 (difference_of (e i) st.last)
 
-pub number_found : (st : Receiver) (cell : List ℕ) {number : ℕ} → Number number ≡ found_now st cell → number ≡ number_now st cell
+pub number_found : (st : Receiver) (cell : List ℕ) {number : ℕ} → Some number ≡ found_now st cell → number ≡ number_now st cell
 unfolding value_of
 number_found st cell found = ap value_of found
 

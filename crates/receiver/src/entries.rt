@@ -151,7 +151,7 @@ fn split(
         samples[at + i] = sample;
         ancillary[at + i] = (subframe / 16 % 16) as u8;
         let nine = (sample * 2) >> (format.sample_bits - 8);
-        marks[at + i] = ((tables::marks_for_others(nine) >> (subframe % 32)) % 2) as u8;
+        marks[at + i] = ((tables::marks(nine) >> (subframe % 32)) % 2) as u8;
     }
 }
 

@@ -7,7 +7,6 @@ ghost use Rattle.receiver.specs.Unpacking.{early_refusal, late_refusal, refused_
 
 use crate::{Received, Receiver, bits};
 use formats::{Format, Layout};
-use numbers::Found;
 
 // Check 4 of the last number.
 #[tactic(auto, unfolding(crate::specs::Receiver::last_refused))]
@@ -141,7 +140,7 @@ fn taken(
 pub(crate) fn judged(
     set: Layout,
     state: Receiver,
-    found: Found,
+    found: Option<u8>,
     cell: &[u8],
     indication: bool,
     samples: usize,
@@ -149,7 +148,7 @@ pub(crate) fn judged(
     requires { (settled_as set ≡ settings_of state.format state.channels state.order) × (early_refusal state (length cell.now) samples samples samples ≡ 0) × (found ≡ found_now state cell.now) }
     ensures { result ≡ received_of state cell.now indication samples samples samples }
 {
-    let Found::Number(number) = found else {
+    let Some(number) = found else {
         return refused(8, state);
     };
     if numbers::indication_refused(number, indication) {

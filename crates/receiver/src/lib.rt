@@ -152,7 +152,7 @@ fn judged_any(state: Receiver, cell: &[u8], indication: bool) -> Received
     if early != 0 {
         return judge::refused(early, state);
     }
-    let found = bits::found_alone(set.format, cell);
+    let found = bits::found_now(set.format, cell);
     judge::judged(set, state, found, cell, indication, 720)
 }
 

@@ -25,8 +25,8 @@ unfolding judged_of
 returns-then-early-ne0 c = c.refused-then-early-ne0.ensures
     ∙ answer_early c.args.state c.args.cell.now c.args.indication 720 720 720 c.if-early-ne0.true c.early_refusal-early.ensures
 
-pub found_alone-found-requires : goal.found_alone-found-requires
-found_alone-found-requires c = let early = none (goal.at.found_alone-found-requires c).Else-early-ne0 in (
+pub found_now-found-requires : goal.found_now-found-requires
+found_now-found-requires c = let early = none (goal.at.found_now-found-requires c).Else-early-ne0 in (
   (judged_limits c.args.state c.args.cell.now c.args.indication 720 c.in-Ok.ensures early).sound,
   judged_whole_lem c.args.state c.args.cell.now c.args.indication 720 c.in-Ok.ensures early,
 )
@@ -35,7 +35,7 @@ pub judged-requires : goal.judged-requires
 judged-requires c = let early = none (goal.at.judged-requires c).Else-early-ne0 in (
   c.in-Ok.ensures,
   early,
-  c.found_alone-found.ensures c.args.state
+  c.found_now-found.ensures c.args.state
       (judged_format c.args.state c.args.cell.now c.args.indication 720 c.in-Ok.ensures early),
 )
 

@@ -8,7 +8,7 @@ use Rattle.receiver.specs.Receiver.{state_refusal}
 use Rattle.receiver.proofs.Onward.{used_between}
 use Rattle.hearing.proofs.Called.{settings_none, settings_used, answers_state, answers_ancillary, answers_marks, answers_on}
 use Rattle.hearing.proofs.receiving.receive.Goals as goal
-use Rattle.hearing.proofs.receiving.receive.Goals.{After-unwrap-set, Else-refusal-ne0}
+use Rattle.hearing.proofs.receiving.receive.Goals.{After-unwrap-set, Else-refusal-ne0, then-ancillary-samples-via-then-ancillary-samples, then-ancillary-samples-via-else-ancillary-samples+then-marks-samples}
 
 -- where the state isn't refused
 none : (e : Else-refusal-ne0) → state_refusal e.args.state ≡ 0
@@ -25,10 +25,16 @@ pub returns-then-refusal-ne0 : goal.returns-then-refusal-ne0
 returns-then-refusal-ne0 c = answers_state c.args.state c.args.log.now c.args.place c.args.samples.now c.args.ancillary.now c.args.marks.now c.refusal_of-refusal.ensures c.if-refusal-ne0.true c.begun.ensures
 
 pub returns-then-ancillary-samples : goal.returns-then-ancillary-samples
-returns-then-ancillary-samples c = answers_ancillary c.args.state c.args.log.now c.args.place c.args.samples.now c.args.ancillary.now c.args.marks.now (none (goal.at.returns-then-ancillary-samples c).Else-refusal-ne0) c.if-ancillary-samples.true c.begun-then-ancillary-samples.ensures
-
-pub returns-then-marks-samples : goal.returns-then-marks-samples
-returns-then-marks-samples c = answers_marks c.args.state c.args.log.now c.args.place c.args.samples.now c.args.ancillary.now c.args.marks.now (none (goal.at.returns-then-marks-samples c).Else-refusal-ne0) c.if-ancillary-samples.false c.if-marks-samples.true c.begun-then-marks-samples.ensures
+returns-then-ancillary-samples c = let a = c.args in
+    let sound = none (goal.at.returns-then-ancillary-samples c).Else-refusal-ne0 in
+    let said = c.begun-then-ancillary-samples.ensures in
+    elim c.then-ancillary-samples.branch [
+      | then-ancillary-samples-via-then-ancillary-samples w ↦
+          answers_ancillary a.state a.log.now a.place a.samples.now a.ancillary.now a.marks.now sound w.if-ancillary-samples.true said
+      | then-ancillary-samples-via-else-ancillary-samples+then-marks-samples w ↦
+          answers_marks a.state a.log.now a.place a.samples.now a.ancillary.now a.marks.now sound w.if-ancillary-samples.false
+          w.if-marks-samples.true said
+    ]
 
 pub overflow_mul-used : goal.overflow_mul-used
 overflow_mul-used c = omega (arith, settings_used c.args.state (none (goal.at.overflow_mul-used c).Else-refusal-ne0) (settled (goal.at.overflow_mul-used c).After-unwrap-set), (used_between c.args.state (none (goal.at.overflow_mul-used c).Else-refusal-ne0)).1)

@@ -1,6 +1,6 @@
 -- `presence::parts::past_front` meets its contract.
 -- Assumes nothing.
-use Rattle.std.proofs.Common.{◌∙◌}
+use Rattle.std.proofs.Common.{refl, ◌∙◌}
 use Rattle.reading.specs.Records.{front_of}
 use Rattle.presence.specs.Presence.{said_of}
 use Rattle.presence.proofs.Going.{past_found, past_yes, past_no}
@@ -28,4 +28,4 @@ returns c =
     ∙ (λ i.
     said_of c.args.sought.state (c.read_cell.ensures.0 i)
     (c.read_record-record.ensures i).indication))
-    c.if-said.false c.wrapping_add_usize-number.ensures.value
+    c.if-said.false refl

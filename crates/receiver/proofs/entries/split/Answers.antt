@@ -22,7 +22,7 @@ loop-i-preserved c = let a = c.args in
           (ancillary_over f c.requires.2 subframe c.requires.1 ∙ ap (ancillary_in f) was),
       held_on (mark_in f) a.samples.now a.marks.now a.at a.used room.marks_room inv.2 less
           (mark_on_top f c.requires.2 subframe c.requires.1 f.sample_bits _ refl c.requires.0.sample_from refl
-          c.marks_for_others.result c.marks_for_others.ensures.0
+          c.marks.result c.marks.ensures.0
           ∙ ap (mark_in f) was),
     )
 

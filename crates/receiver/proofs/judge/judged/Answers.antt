@@ -23,7 +23,7 @@ format_is s = judged_format s.args.state s.args.cell.now s.args.indication s.arg
 gap_is : (g : After-gap_now-gap) → g.gap_now-gap.result ≡ gap_of g.args.state g.args.cell.now
 gap_is g =
     g.gap_now-gap.ensures g.args.cell.now
-    (number_found g.args.state g.args.cell.now (sym g.in-Number.is ∙ g.requires.2))
+    (number_found g.args.state g.args.cell.now (sym g.in-Some.is ∙ g.requires.2))
 
 gap_room : (g : After-gap_now-gap) → Limits (settled_as g.args.set) → g.gap_now-gap.result * (g.args.set.channels * g.args.set.times) < 2 ^ 64
 gap_room g within =
@@ -49,7 +49,7 @@ returns-in_default c = c.refused.ensures
 pub returns-then-indication_refused : goal.returns-then-indication_refused
 returns-then-indication_refused c = c.refused-then-indication_refused.ensures
     ∙ judged_15 c.args.state c.args.cell.now c.args.indication c.args.samples c.requires.0 c.requires.1
-    (sym c.in-Number.is ∙ c.requires.2) (sym c.if-indication_refused.true ∙ c.indication_refused.ensures)
+    (sym c.in-Some.is ∙ c.requires.2) (sym c.if-indication_refused.true ∙ c.indication_refused.ensures)
 
 pub gap_now-gap-requires : goal.gap_now-gap-requires
 gap_now-gap-requires c = format_is (goal.at.gap_now-gap-requires c).Start
@@ -70,7 +70,7 @@ overflow_mul-needed-2 c = let at = goal.at.overflow_mul-needed-2 c in
 pub returns-then-refusal-ne0 : goal.returns-then-refusal-ne0
 returns-then-refusal-ne0 c = c.refused-then-refusal-ne0.ensures
     ∙ judged_late c.args.state c.args.cell.now c.args.indication c.args.samples c.requires.0 c.requires.1
-    (sym c.in-Number.is ∙ c.requires.2) (sym c.if-indication_refused.false ∙ c.indication_refused.ensures)
+    (sym c.in-Some.is ∙ c.requires.2) (sym c.if-indication_refused.false ∙ c.indication_refused.ensures)
     (gap_is (goal.at.returns-then-refusal-ne0 c).After-gap_now-gap) c.if-refusal-ne0.true c.late_refusal-refusal.ensures
 
 pub overflow_add-count : goal.overflow_add-count
@@ -83,5 +83,5 @@ pub returns : goal.returns
 returns c = let at = goal.at.returns c in
     c.taken.ensures
     ∙ judged_0 c.args.state c.args.cell.now c.args.indication c.args.samples c.requires.0 c.requires.1
-    (sym c.in-Number.is ∙ c.requires.2) (sym c.if-indication_refused.false ∙ c.indication_refused.ensures)
+    (sym c.in-Some.is ∙ c.requires.2) (sym c.if-indication_refused.false ∙ c.indication_refused.ensures)
     (gap_is at.After-gap_now-gap) (late_is_none at.Else-refusal-ne0) (c.second_now-second.ensures c.args.state (format_is at.Start))

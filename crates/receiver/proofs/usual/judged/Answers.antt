@@ -5,7 +5,7 @@ use lib.ListN.{length}
 use Rattle.formats.specs.Settings.{settled_as, settings_of}
 use Rattle.receiver.specs.Receiver.{judged_of}
 use Rattle.receiver.specs.Unpacking.{early_refusal}
-use Rattle.receiver.proofs.AllSlots.{usual_settles, usual_sound, usual_found}
+use Rattle.receiver.proofs.AllSlots.{usual_settles, usual_sound}
 use Rattle.receiver.proofs.Laws.{answer_early, judged_format, judged_whole_lem}
 use Rattle.receiver.proofs.usual.judged.Goals as goal
 use Rattle.receiver.proofs.usual.judged.Goals.{After-usual-set, Else-early-ne0}
@@ -24,8 +24,8 @@ unfolding judged_of
 returns-then-early-ne0 c = c.refused.ensures
     ∙ answer_early c.args.state c.args.cell.now c.args.indication 720 720 720 c.if-early-ne0.true c.early_refusal-early.ensures
 
-pub found_in-found-requires : goal.found_in-found-requires
-found_in-found-requires c = let at = goal.at.found_in-found-requires c in (
+pub found_now-found-requires : goal.found_now-found-requires
+found_now-found-requires c = let at = goal.at.found_now-found-requires c in (
   usual_sound c.args.state c.usual-set.ensures,
   judged_whole_lem c.args.state c.args.cell.now c.args.indication 720 (settles at.After-usual-set) (none at.Else-early-ne0),
 )
@@ -34,9 +34,8 @@ pub judged-requires : goal.judged-requires
 judged-requires c = let at = goal.at.judged-requires c in (
   settles at.After-usual-set,
   none at.Else-early-ne0,
-  usual_found c.args.state c.usual-set.ensures c.args.cell.now
-      (judged_format c.args.state c.args.cell.now c.args.indication 720 (settles at.After-usual-set) (none at.Else-early-ne0))
-      c.found_in-found.ensures,
+  c.found_now-found.ensures c.args.state
+      (judged_format c.args.state c.args.cell.now c.args.indication 720 (settles at.After-usual-set) (none at.Else-early-ne0)),
 )
 
 pub returns : goal.returns

@@ -2,7 +2,7 @@
 -- Assumes nothing.
 use mathlib.Core.Path.{◌≡◌, ◌∙◌, sym}
 use Rattle.formats.specs.Settings.{settled_as, settings_of}
-use Rattle.receiver.proofs.AllSlots.{usual_settles, usual_sound, usual_found, usual_room, usual_fills}
+use Rattle.receiver.proofs.AllSlots.{usual_settles, usual_sound, usual_room, usual_fills}
 use Rattle.receiver.proofs.Laws.{Call, judged_format, judged_whole_lem, early_refused, equal_early, judged_refused, cell_whole, roomy, judged_taken}
 use Rattle.receiver.proofs.usual.receive.Goals as goal
 use Rattle.receiver.proofs.usual.receive.Goals.{After-usual-set, Start}
@@ -29,8 +29,8 @@ pub returns-then-early-ne0 : goal.returns-then-early-ne0
 returns-then-early-ne0 c =
     rw c.refused.ensures (early_refused (call (goal.at.returns-then-early-ne0 c).Start) c.if-early-ne0.true c.early_refusal-early.ensures)
 
-pub found_in-found-requires : goal.found_in-found-requires
-found_in-found-requires c = let at = goal.at.found_in-found-requires c in (
+pub found_now-found-requires : goal.found_now-found-requires
+found_now-found-requires c = let at = goal.at.found_now-found-requires c in (
   usual_sound c.args.state c.usual-set.ensures,
   judged_whole_lem c.args.state c.args.cell.now c.args.indication _ (settles at.After-usual-set)
       (equal_early (call at.Start) (sym c.early_refusal-early.ensures ∙ c.if-early-ne0.false)),
@@ -41,8 +41,8 @@ judged-answer-requires c = let at = goal.at.judged-answer-requires c in
     let early = equal_early (call at.Start) (sym c.early_refusal-early.ensures ∙ c.if-early-ne0.false) in (
       settles at.After-usual-set,
       early,
-      usual_found c.args.state c.usual-set.ensures c.args.cell.now
-          (judged_format c.args.state c.args.cell.now c.args.indication _ (settles at.After-usual-set) early) c.found_in-found.ensures,
+      c.found_now-found.ensures c.args.state
+          (judged_format c.args.state c.args.cell.now c.args.indication _ (settles at.After-usual-set) early),
     )
 
 pub returns-then-answer-ne0 : goal.returns-then-answer-ne0
