@@ -13,7 +13,7 @@ from c = (goal.at.In-loop-slot c).Start
 -- the entry is one of the run's
 inside : (c : In-loop-slot) → c.loop-slot.entry < length (from c).args.samples.now
 inside c = let p = (from c).requires.0 in
-    entry_in (from c).args.set p.limits p.samples_length c.loop-slot-test.true c.loop-slot.invariant.entry_is
+    entry_in (settled_as (from c).args.set) p.limits p.samples_length c.loop-slot-test.true c.loop-slot.invariant.entry_is
 
 pub loop-slot-init : goal.loop-slot-init
 loop-slot-init c = let a = c.args in record {
