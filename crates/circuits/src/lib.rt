@@ -103,13 +103,7 @@ pub fn check(
         Err(refusal) => return Verdict::Refused(refusal.into()),
     };
     let slots = set.format.slots as u32;
-    let refusal = check_refusal(
-        0,
-        channels,
-        frequency,
-        shares.len(),
-        allowances.len(),
-    );
+    let refusal = check_refusal(0, channels, frequency, shares.len(), allowances.len());
     if refusal != 0 {
         return Verdict::Refused(refusal);
     }
