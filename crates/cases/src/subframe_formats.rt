@@ -2,7 +2,11 @@
 use super::say;
 
 fn settled(rt: &impl Print, what: &str, octet: u32, channels: u32) {
-    say(rt, what, formats::settings(octet, channels, 0).refusal);
+    let refusal = match formats::settings(octet, channels, 0) {
+        Ok(_) => 0,
+        Err(refusal) => refusal.into(),
+    };
+    say(rt, what, refusal);
 }
 
 pub(crate) fn cases(rt: &impl Print) {

@@ -14,7 +14,7 @@ use Rattle.runs.proofs.Laws.{every_at, split, past, past_both}
 use Rattle.formats.specs.Formats.{listed_octets, is_among, is_listed, settings_refusal}
 use Rattle.formats.specs.Settings.{settings_of}
 use Rattle.formats.proofs.Laws.{beyond, Settles, settles_all, sound_fields, refusal_of_lem, given_refusal}
-use Rattle.formats.specs.declared.Settled.{Settled}
+use Rattle.formats.specs.Settled.{Settled}
 use Rattle.cell_log.specs.declared.Header.{Header}
 use Rattle.cell_log.specs.declared.Number.{Number}
 use Rattle.cell_log.specs.declared.keep.Kept.{Kept}

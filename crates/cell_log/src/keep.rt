@@ -72,9 +72,8 @@ pub fn write_header(log: &mut [u8], format: u32, channels: u32, order: u32) -> K
     ensures { Keeps (header_refused_of log.old format channels order) 0 (header_octets format channels order)
         log.old result log.new }
 {
-    let settled = formats::settings(format, channels, order);
-    if settled.refusal != 0 {
-        return not_kept(settled.refusal);
+    if let Err(refusal) = formats::settings(format, channels, order) {
+        return not_kept(refusal.into());
     }
     if log.len() < 3 {
         return not_kept(11);

@@ -120,9 +120,8 @@ pub fn read_header(log: &[u8]) -> Header
     if order.refusal != 0 {
         return no_header(order.refusal);
     }
-    let settled = formats::settings(format.value, channels.value, order.value);
-    if settled.refusal != 0 {
-        return no_header(settled.refusal);
+    if let Err(refusal) = formats::settings(format.value, channels.value, order.value) {
+        return no_header(refusal.into());
     }
     Header {
         refusal: 0,

@@ -16,9 +16,9 @@ use lib.ListN.{length, get_or, set}
 use Rattle.std.proofs.lemmas.Bool.Decides.{nat_tests}
 use Rattle.std.proofs.lemmas.List.{nil_from_length}
 use Rattle.runs.specs.Refusals.{or_else}
-use Rattle.runs.proofs.Laws.{split, past, past_both, neither, both_true, get_or_tab, length_tab}
+use Rattle.runs.proofs.Laws.{first_refuses, split, past, past_both, neither, both_true, get_or_tab, length_tab}
 use Rattle.runs.proofs.Filling.{Filled, begun, turned_front, done_to_end}
-use Rattle.formats.specs.declared.Settled.{Settled}
+use Rattle.formats.specs.Settled.{Settled}
 use Rattle.formats.specs.Formats as F
 use Rattle.formats.specs.Formats.{is_listed, settings_refusal}
 use Rattle.formats.specs.Settings.{settings_of}
@@ -270,6 +270,16 @@ plan_passed octet slots channels circuits none =
     }
 
 -- ---- the answers
+
+-- the octet's own refusal comes first
+pub check_first : {octet : ℕ} (channels frequency circuits allowances : ℕ) → (octet ≡ 0 → ⊥)
+    → octet ≡ check_refusal octet channels frequency circuits allowances
+unfolding check_refusal
+check_first channels frequency circuits allowances some = sym (first_refuses _ some)
+
+pub plan_first : {octet : ℕ} (slots channels circuits : ℕ) → (octet ≡ 0 → ⊥) → octet ≡ plan_refusal octet slots channels circuits
+unfolding plan_refusal
+plan_first slots channels circuits some = sym (first_refuses _ some)
 
 pub judged_where_taken : (octet channels frequency : ℕ) (shares allowances : List ℕ)
     → check_refusal (octet_refusal octet) channels frequency (length shares) (length allowances) ≡ 0

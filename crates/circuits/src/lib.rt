@@ -98,15 +98,12 @@ pub fn check(
 ) -> Verdict
     ensures { result ≡ checked_of octet channels frequency shares.now allowances.now }
 {
-    let settled = formats::settings(octet, 1, 0);
-    let slots = settled.format.slots as u32;
-    let refusal = check_refusal(
-        settled.refusal,
-        channels,
-        frequency,
-        shares.len(),
-        allowances.len(),
-    );
+    let set = match formats::settings(octet, 1, 0) {
+        Ok(set) => set,
+        Err(refusal) => return Verdict::Refused(refusal.into()),
+    };
+    let slots = set.format.slots as u32;
+    let refusal = check_refusal(0, channels, frequency, shares.len(), allowances.len());
     if refusal != 0 {
         return Verdict::Refused(refusal);
     }
@@ -147,10 +144,12 @@ fn fill(slots: u32, channels: u32, shares: &mut [u32])
 pub fn plan(octet: u32, channels: u32, shares: &mut [u32]) -> u8
     ensures { Plans octet channels shares.old result shares.new }
 {
-    let settled = formats::settings(octet, 1, 0);
-    let format = settled.format;
-    let slots = format.slots;
-    let refusal = plan_refusal(settled.refusal, slots, channels, shares.len());
+    let set = match formats::settings(octet, 1, 0) {
+        Ok(set) => set,
+        Err(refusal) => return refusal.into(),
+    };
+    let slots = set.format.slots;
+    let refusal = plan_refusal(0, slots, channels, shares.len());
     if refusal != 0 {
         return refusal;
     }

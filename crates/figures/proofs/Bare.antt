@@ -13,7 +13,7 @@ use lib.Seq.{length-take-le}
 use Rattle.std.specs.Prelude.{Some}
 use Rattle.runs.proofs.Laws.{split}
 use Rattle.formats.specs.declared.Format.{Format}
-use Rattle.formats.specs.declared.Settled.{Settled}
+use Rattle.formats.specs.Settled.{Settled}
 use Rattle.formats.specs.Formats.{format_of}
 use Rattle.formats.specs.Settings.{settings_of}
 use Rattle.numbers.specs.Numbers.{indication_refused}
@@ -118,7 +118,7 @@ bare_more st used n =
     }
 
 -- what is heard behind a cell that is heard so
-over_front : (st st₁ : Receiver) (w : Whole) (ws : List Whole) (one : Counts) → onward (hear st w) ≡ st₁ → one_of (hear st w) ≡ one
+pub over_front : (st st₁ : Receiver) (w : Whole) (ws : List Whole) (one : Counts) → onward (hear st w) ≡ st₁ → one_of (hear st w) ≡ one
     → record { state = (noted_over st₁ ws).state; counts = plus_of one (noted_over st₁ ws).counts } ≡ noted_over st (w ∷ ws)
 unfolding heard_by end_by
 over_front st st₁ w ws one on-is one-is =

@@ -1,7 +1,7 @@
 // Whole records that lie one behind the other, counted. What a gap holds isn't written out: of a cell that is taken only its own
 // marks are looked at.
 ghost use Rattle.std.specs.Prelude.{true, cond, map, ◌≡◌, ◌≤◌, eqb, length, drop};
-ghost use Rattle.formats.specs.Settings.{settings_of};
+ghost use Rattle.formats.specs.Settings.{settled_as, settings_of};
 ghost use Rattle.reading.specs.Records.{is_whole, front_of};
 ghost use Rattle.receiver.specs.Unpacking.{used_in};
 ghost use Rattle.pieces.specs.Limit.{whole};
@@ -11,7 +11,7 @@ ghost use Rattle.figures.specs.Stretch.{taken_one, refused_one, noted_past, reco
 ghost use Rattle.figures.specs.Taking.{noted_by};
 
 use crate::{Counts, Noted, damage, sums, told};
-use formats::Settled;
+use formats::Layout;
 use receiver::Receiver;
 
 // 1 where the two are the same.
@@ -51,8 +51,8 @@ fn with_taken(c: Counts, used: u64, missing: u64, ones: u64) -> Counts
 }
 
 // Past the record at a place.
-fn past(set: Settled, noted: Noted, octets: &[u8], at: usize) -> Noted
-    requires { (set ≡ settings_of noted.state.format noted.state.channels noted.state.order)
+fn past(set: Layout, noted: Noted, octets: &[u8], at: usize) -> Noted
+    requires { (settled_as set ≡ settings_of noted.state.format noted.state.channels noted.state.order)
         × Under 1000000 noted.counts × (is_whole (drop at octets.now) ≡ true) }
     ensures { result ≡ noted_past noted (front_of (drop at octets.now)) }
 {
@@ -71,8 +71,8 @@ fn past(set: Settled, noted: Noted, octets: &[u8], at: usize) -> Noted
 }
 
 // Counts the records one by one.
-fn each(set: Settled, state: Receiver, octets: &[u8], place: usize, records: usize) -> Noted
-    requires { (set ≡ settings_of state.format state.channels state.order)
+fn each(set: Layout, state: Receiver, octets: &[u8], place: usize, records: usize) -> Noted
+    requires { (settled_as set ≡ settings_of state.format state.channels state.order)
         × (length (records_at octets.now place records) ≡ records) × (records ≤ 512) }
     ensures { result ≡ noted_over state (records_at octets.now place records) }
 {
@@ -86,12 +86,9 @@ fn each(set: Settled, state: Receiver, octets: &[u8], place: usize, records: usi
 
 // Whether all of so many cells are taken, whatever they hold, with no gap before them and no sample marked 1: the format has no
 // overhead, the state waits for the next cell, and the count goes so far.
-fn is_bare(set: Settled, state: Receiver, records: usize) -> bool
-    ensures { result ≡ true → Bare set state records }
+fn is_bare(set: Layout, state: Receiver, records: usize) -> bool
+    ensures { result ≡ true → Bare (settled_as set) state records }
 {
-    if set.refusal != 0 {
-        return false;
-    }
     if set.format.overhead_bits != 0 {
         return false;
     }
@@ -105,9 +102,9 @@ fn is_bare(set: Settled, state: Receiver, records: usize) -> bool
 }
 
 // What such cells count.
-fn bare(set: Settled, state: Receiver, records: usize) -> Noted
-    requires { Bare set state records × (used_in set ≤ 48) × (records ≤ 512) }
-    ensures { result ≡ bare_noted state (used_in set) records }
+fn bare(set: Layout, state: Receiver, records: usize) -> Noted
+    requires { Bare (settled_as set) state records × (used_in (settled_as set) ≤ 48) × (records ≤ 512) }
+    ensures { result ≡ bare_noted state (used_in (settled_as set)) records }
 {
     let used = set.channels * set.times;
     Noted {
@@ -125,12 +122,21 @@ fn bare(set: Settled, state: Receiver, records: usize) -> Noted
     }
 }
 
-// Counts the records from a state on.
-fn over(set: Settled, state: Receiver, octets: &[u8], place: usize, records: usize) -> Noted
-    requires { (set ≡ settings_of state.format state.channels state.order)
-        × (length (records_at octets.now place records) ≡ records) × (records ≤ 512) }
+// Counts the records from a state on. Where its settings are refused, all records are, by numbers that aren't counted.
+fn over(state: Receiver, octets: &[u8], place: usize, records: usize) -> Noted
+    requires { (length (records_at octets.now place records) ≡ records) × (records ≤ 512) }
     ensures { result ≡ noted_over state (records_at octets.now place records) }
 {
+    let Ok(set) = formats::settings(
+        state.format as u32,
+        state.channels as u32,
+        state.order as u32,
+    ) else {
+        return Noted {
+            state,
+            counts: Counts::default(),
+        };
+    };
     if is_bare(set, state, records) {
         return bare(set, state, records);
     }
@@ -150,9 +156,7 @@ pub(crate) fn counted(noted: Noted, octets: &[u8], place: usize, records: usize)
     requires { (length (records_at octets.now place records) ≡ records) × (1 ≤ records) × (records ≤ 512) }
     ensures { result ≡ noted_by noted (map whole (records_at octets.now place records)) }
 {
-    let from = noted.state;
-    let set = formats::settings(from.format as u32, from.channels as u32, from.order as u32);
-    let found = over(set, from, octets, place, records);
+    let found = over(noted.state, octets, place, records);
     let state = found.state;
     let counts = sums::plus(noted.counts, found.counts);
     Noted { state, counts }

@@ -1,12 +1,12 @@
 // What the receiver makes of a cell. Most cells come next in turn: that is seen at once, and the receiver judges the others.
 ghost use Rattle.std.specs.Prelude.{true, false, ◌≡◌, ℕ, ◌/◌, ◌%◌, ◌^◌, ◌<◌, length};
-ghost use Rattle.formats.specs.Settings.{settings_of};
+ghost use Rattle.formats.specs.Settings.{settled_as, settings_of};
 ghost use Rattle.formats.specs.Sound.{Sound};
 ghost use Rattle.cells.specs.Cells.{bit_in};
 ghost use Rattle.receiver.specs.Receiver.{judged_of};
 ghost use Rattle.figures.specs.Stretch.{told_of, next_told, Waits};
 
-use formats::{Format, Settled};
+use formats::{Format, Layout};
 use receiver::Receiver;
 
 // The refusal (0: none), how many cells are missing before this one, and the state to go on with.
@@ -32,12 +32,9 @@ fn begins_with(format: Format, cell: &[u8], sequence: u64) -> bool
 }
 
 // Whether a state waits for the next cell in turn: it is started, and no check of it refuses.
-fn waits(set: Settled, state: Receiver) -> bool
-    ensures { result ≡ true → Waits set state }
+fn waits(set: Layout, state: Receiver) -> bool
+    ensures { result ≡ true → Waits (settled_as set) state }
 {
-    if set.refusal != 0 {
-        return false;
-    }
     if !state.started {
         return false;
     }
@@ -48,8 +45,8 @@ fn waits(set: Settled, state: Receiver) -> bool
 }
 
 // Whether a cell without the indication is the one that comes next.
-fn in_turn(set: Settled, state: Receiver, cell: &[u8]) -> bool
-    requires { (set ≡ settings_of state.format state.channels state.order) × (length cell.now ≡ 48) }
+fn in_turn(set: Layout, state: Receiver, cell: &[u8]) -> bool
+    requires { (settled_as set ≡ settings_of state.format state.channels state.order) × (length cell.now ≡ 48) }
     ensures { result ≡ true → (told_of (judged_of state cell.now false) ≡ next_told state)
         × (state.last < 16) × (state.count < 4294967295) }
 {
@@ -76,8 +73,8 @@ fn next(state: Receiver) -> Told
 }
 
 // What the receiver answers to a cell with room for all that one call can write. `set` is what the state settles.
-pub(crate) fn answer(set: Settled, state: Receiver, cell: &[u8], indication: bool) -> Told
-    requires { (set ≡ settings_of state.format state.channels state.order) × (length cell.now ≡ 48) }
+pub(crate) fn answer(set: Layout, state: Receiver, cell: &[u8], indication: bool) -> Told
+    requires { (settled_as set ≡ settings_of state.format state.channels state.order) × (length cell.now ≡ 48) }
     ensures { result ≡ told_of (judged_of state cell.now indication) }
 {
     if !indication && in_turn(set, state, cell) {

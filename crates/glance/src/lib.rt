@@ -166,14 +166,13 @@ pub fn sounds(state: Receiver, cell: &[u8]) -> bool
     if cell.len() != 48 || hushed(state.format, cell) {
         return false;
     }
-    let set = formats::settings(
+    let Ok(set) = formats::settings(
         state.format as u32,
         state.channels as u32,
         state.order as u32,
-    );
-    if set.refusal != 0 {
+    ) else {
         return false;
-    }
+    };
     let used = set.channels * set.times;
     among(set.format, cell, used)
 }

@@ -197,7 +197,8 @@ pub fn receive(
         state.format as u32,
         state.channels as u32,
         state.order as u32,
-    );
+    )
+    .unwrap();
     let used = set.channels * set.times;
     walk(state, used, log, place, samples, ancillary, marks)
 }

@@ -16,10 +16,9 @@ pub fn rime_port_settings(port: &[u8; 28], settings: &mut [u32; 3]) -> u8
     let packing = wide(port[4]);
     let channels = packing % 64;
     let order = packing / 64;
-    let settled = formats::settings(format, channels, order);
-    if settled.refusal != 0 {
+    if let Err(refusal) = formats::settings(format, channels, order) {
         *settings = [0, 0, 0];
-        return settled.refusal;
+        return refusal.into();
     }
     *settings = [format, channels, order];
     0
@@ -43,12 +42,14 @@ fn order_coded(slots: usize, channels: u32, order: u32) -> u32
 pub fn rime_port_packing(format: u32, channels: u32, order: u32, packing: &mut u8) -> u8
     ensures { Packs format channels order result packing.new }
 {
-    let settled = formats::settings(format, channels, order);
-    if settled.refusal != 0 {
-        *packing = 0;
-        return settled.refusal;
-    }
-    let coded = order_coded(settled.format.slots, channels, order);
+    let set = match formats::settings(format, channels, order) {
+        Ok(set) => set,
+        Err(refusal) => {
+            *packing = 0;
+            return refusal.into();
+        }
+    };
+    let coded = order_coded(set.format.slots, channels, order);
     *packing = (coded * 64 + channels) as u8;
     0
 }

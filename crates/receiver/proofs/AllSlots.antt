@@ -10,7 +10,7 @@ use lib.ListN.{length, get_or, replicate}
 use Rattle.runs.specs.Runs.{tab, over}
 use Rattle.runs.proofs.Filling.{Filled, begun}
 use Rattle.formats.specs.declared.Format.{Format}
-use Rattle.formats.specs.declared.Settled.{Settled}
+use Rattle.formats.specs.Settled.{Settled}
 use Rattle.formats.specs.Settings.{settings_of}
 use Rattle.formats.specs.Code.{is_usual, usual_with}
 use Rattle.formats.specs.Sound.{Sound}

@@ -14,7 +14,7 @@ use Rattle.runs.specs.Refusals.{or_else}
 use Rattle.runs.specs.Runs.{over}
 use Rattle.runs.proofs.Laws.{first_refuses, then_later, past, past_both, neither, split}
 use Rattle.formats.specs.declared.Format.{Format}
-use Rattle.formats.specs.declared.Settled.{Settled}
+use Rattle.formats.specs.Settled.{Settled}
 use Rattle.formats.specs.Formats.{format_of, settings_refusal}
 use Rattle.formats.specs.Settings.{settings_of, settled}
 use Rattle.formats.specs.Sound.{Limits}

@@ -11,7 +11,7 @@ use lib.ListN.{length, get_or, take, drop, replicate, length-append, length-drop
 use lib.Seq.{drop_at, drop-append-add, drop-drop, length-take-le, get_or-drop, get_or-append-add}
 use Rattle.runs.specs.Runs.{joined, over, written}
 use Rattle.runs.proofs.Laws.{length_joined}
-use Rattle.formats.specs.declared.Settled.{Settled}
+use Rattle.formats.specs.Settled.{Settled}
 use Rattle.cells.specs.Cells.{sample_in, ancillary_in, mark_in}
 use Rattle.receiver.specs.Unpacking.{used_in, own_entries, Unpacks, Room, Misses, Blank}
 use Rattle.receiver.specs.Many.{cell_from, many_own, FillsMany}

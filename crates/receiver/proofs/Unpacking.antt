@@ -29,7 +29,7 @@ use Rattle.runs.specs.Runs.{over, written}
 use Rattle.runs.proofs.Filling.{Filled, turned, done}
 use Rattle.runs.proofs.Laws.{length_tab, get_or_tab, tab_is, split}
 use Rattle.formats.specs.declared.Format.{Format}
-use Rattle.formats.specs.declared.Settled.{Settled}
+use Rattle.formats.specs.Settled.{Settled}
 use Rattle.formats.specs.Sound.{Limits}
 use Rattle.cells.specs.Cells.{subframe_at, sample_in, ancillary_in, mark_in, entries_of}
 use Rattle.cells.specs.Code.{step_on}

@@ -1,6 +1,7 @@
 // Entries: those of missing cells, and a cell's own. A cell's subframes are put into the samples run first and taken apart there.
 ghost use Rattle.std.specs.Prelude.{true, false, ◌≡◌, ◌+◌, ◌/◌, ◌%◌, ◌^◌, ◌≤◌, ◌<◌, length, replicate};
 ghost use Rattle.runs.specs.Runs.{over, written};
+ghost use Rattle.formats.specs.Settings.{settled_as};
 ghost use Rattle.formats.specs.Sound.{Sound, Limits};
 ghost use Rattle.cells.specs.Code.{step_on};
 ghost use Rattle.cells.specs.Cells.{sample_in, mark_in};
@@ -18,7 +19,7 @@ ghost use Rattle.receiver.specs.Unpacking.{
 };
 
 use crate::octets;
-use formats::{Format, Settled};
+use formats::{Format, Layout};
 
 // The slot of the next entry in order 1.
 #[tactic(auto, unfolding(cells::specs::Code::step_on))]
@@ -90,14 +91,14 @@ pub(crate) fn cleared(
 // steps from slot to slot: a division by C would cost as much as the rest of the loop. Three octets are read with the octet behind
 // them, by one load; those of the last used slot alone, since they may have none behind them.
 fn subframes_in<const BY_CHANNEL: bool, const THREE: bool>(
-    set: Settled,
+    set: Layout,
     cell: &[u8],
     at: usize,
     run: &mut [u64],
 )
-    requires { Limits set × (length cell.now ≡ 48) × (at + used_in set ≤ length run.old) × (set.by_channel ≡ BY_CHANNEL)
+    requires { Limits (settled_as set) × (length cell.now ≡ 48) × (at + used_in (settled_as set) ≤ length run.old) × (set.by_channel ≡ BY_CHANNEL)
         × (THREE ≡ true → set.format.width ≡ 3) }
-    ensures { run.new ≡ written run.old at (own_entries (λ x. x) set cell.now) }
+    ensures { run.new ≡ written run.old at (own_entries (λ x. x) (settled_as set) cell.now) }
 {
     let used = set.channels * set.times;
     let count = if THREE { used - 1 } else { used };
@@ -120,9 +121,9 @@ fn subframes_in<const BY_CHANNEL: bool, const THREE: bool>(
 }
 
 // The same in the order of the settings.
-fn subframes(set: Settled, cell: &[u8], at: usize, run: &mut [u64])
-    requires { Limits set × (length cell.now ≡ 48) × (at + used_in set ≤ length run.old) }
-    ensures { run.new ≡ written run.old at (own_entries (λ x. x) set cell.now) }
+fn subframes(set: Layout, cell: &[u8], at: usize, run: &mut [u64])
+    requires { Limits (settled_as set) × (length cell.now ≡ 48) × (at + used_in (settled_as set) ≤ length run.old) }
+    ensures { run.new ≡ written run.old at (own_entries (λ x. x) (settled_as set) cell.now) }
 {
     match (set.by_channel, set.format.width == 3) {
         (true, true) => subframes_in::<true, true>(set, cell, at, run),
@@ -211,15 +212,15 @@ fn parts(
 // Writes the cell's own entries to the three runs from `at` on. Where the format has no ancillary bits, the ancillary run is zero
 // there already.
 pub(crate) fn own_entries(
-    set: Settled,
+    set: Layout,
     cell: &[u8],
     at: usize,
     samples: &mut [u64],
     ancillary: &mut [u8],
     marks: &mut [u8],
 )
-    requires { Limits set × (length cell.now ≡ 48) × Room at (used_in set) samples.old ancillary.old marks.old × Blank set.format at (used_in set) ancillary.old }
-    ensures { Unpacks set cell.now at samples.old ancillary.old marks.old samples.new ancillary.new marks.new }
+    requires { Limits (settled_as set) × (length cell.now ≡ 48) × Room at (used_in (settled_as set)) samples.old ancillary.old marks.old × Blank set.format at (used_in (settled_as set)) ancillary.old }
+    ensures { Unpacks (settled_as set) cell.now at samples.old ancillary.old marks.old samples.new ancillary.new marks.new }
 {
     let used = set.channels * set.times;
     let format = set.format;
@@ -229,15 +230,15 @@ pub(crate) fn own_entries(
 
 // Writes `missing` entries of zero with mark 2 to the three runs, and the cell's own entries after them.
 pub(crate) fn write(
-    set: Settled,
+    set: Layout,
     cell: &[u8],
     missing: usize,
     samples: &mut [u64],
     ancillary: &mut [u8],
     marks: &mut [u8],
 )
-    requires { Limits set × (length cell.now ≡ 48) × Room missing (used_in set) samples.old ancillary.old marks.old }
-    ensures { Fills set cell.now missing samples.old ancillary.old marks.old samples.new ancillary.new marks.new }
+    requires { Limits (settled_as set) × (length cell.now ≡ 48) × Room missing (used_in (settled_as set)) samples.old ancillary.old marks.old }
+    ensures { Fills (settled_as set) cell.now missing samples.old ancillary.old marks.old samples.new ancillary.new marks.new }
 {
     let used = set.channels * set.times;
     let format = set.format;

@@ -1,12 +1,12 @@
 // What a call is answered: the checks in the table's order, and the report. Both ways of receiving take it from here.
 ghost use Rattle.std.specs.Prelude.{true, false, ◌||◌, List, ◌≡◌, ℕ, length};
 ghost use Rattle.formats.specs.Formats.{format_of};
-ghost use Rattle.formats.specs.Settings.{settings_of};
+ghost use Rattle.formats.specs.Settings.{settled_as, settings_of};
 ghost use Rattle.receiver.specs.Receiver.{last_refused, count_refused, lengths_refused, found_now, number_now, gap_of, received_of};
 ghost use Rattle.receiver.specs.Unpacking.{early_refusal, late_refusal, refused_by, taken_as};
 
 use crate::{Received, Receiver, bits};
-use formats::{Format, Settled};
+use formats::{Format, Layout};
 
 // Check 4 of the last number.
 #[tactic(auto, unfolding(crate::specs::Receiver::last_refused))]
@@ -44,20 +44,16 @@ fn lengths_refused(cell: usize, samples: usize, ancillary: usize, marks: usize) 
 
 // Checks 1 to 5, by the settings of the state; the cell and the runs are told by their lengths. 0 where they refuse nothing.
 pub(crate) fn early_refusal(
-    set: Settled,
+    set: Layout,
     state: Receiver,
     cell: usize,
     samples: usize,
     ancillary: usize,
     marks: usize,
 ) -> u8
-    requires { set ≡ settings_of state.format state.channels state.order }
+    requires { settled_as set ≡ settings_of state.format state.channels state.order }
     ensures { result ≡ early_refusal state cell samples ancillary marks }
 {
-    let refusal = set.refusal;
-    if refusal != 0 {
-        return refusal;
-    }
     if numbers_refused(set.format, state) {
         return 4;
     }
@@ -142,14 +138,14 @@ fn taken(
 // Checks 8, 15, 9, 20 and 10 where the earlier ones refuse nothing, and the answer. `found` is the cell's number, which is 0 where the
 // format has no overhead, so that 15 is never given there. `samples` is how long each run is.
 pub(crate) fn judged(
-    set: Settled,
+    set: Layout,
     state: Receiver,
     found: Option<u8>,
     cell: &[u8],
     indication: bool,
     samples: usize,
 ) -> Received
-    requires { (set ≡ settings_of state.format state.channels state.order) × (early_refusal state (length cell.now) samples samples samples ≡ 0) × (found ≡ found_now state cell.now) }
+    requires { (settled_as set ≡ settings_of state.format state.channels state.order) × (early_refusal state (length cell.now) samples samples samples ≡ 0) × (found ≡ found_now state cell.now) }
     ensures { result ≡ received_of state cell.now indication samples samples samples }
 {
     let Some(number) = found else {

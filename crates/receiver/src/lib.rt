@@ -44,11 +44,9 @@ pub struct Received {
 pub fn opened(format: u32, channels: u32, order: u32) -> Ready
     ensures { result ≡ opened_of format channels order }
 {
-    let set = formats::settings(format, channels, order);
-    let refusal = set.refusal;
-    if refusal != 0 {
+    if let Err(refusal) = formats::settings(format, channels, order) {
         return Ready {
-            refusal,
+            refusal: refusal.into(),
             state: Receiver {
                 format: 0,
                 channels: 0,
@@ -90,11 +88,14 @@ fn receive_any(
 ) -> Received
     ensures { Receives state cell.now indication samples.old ancillary.old marks.old result samples.new ancillary.new marks.new }
 {
-    let set = formats::settings(
+    let set = match formats::settings(
         state.format as u32,
         state.channels as u32,
         state.order as u32,
-    );
+    ) {
+        Ok(set) => set,
+        Err(refusal) => return judge::refused(refusal.into(), state),
+    };
     let early = judge::early_refusal(
         set,
         state,
@@ -139,11 +140,14 @@ pub fn receive(
 fn judged_any(state: Receiver, cell: &[u8], indication: bool) -> Received
     ensures { result ≡ judged_of state cell.now indication }
 {
-    let set = formats::settings(
+    let set = match formats::settings(
         state.format as u32,
         state.channels as u32,
         state.order as u32,
-    );
+    ) {
+        Ok(set) => set,
+        Err(refusal) => return judge::refused(refusal.into(), state),
+    };
     let early = judge::early_refusal(set, state, cell.len(), 720, 720, 720);
     if early != 0 {
         return judge::refused(early, state);

@@ -1,11 +1,12 @@
 // The cells of records that lie one behind the other in a log, 49 octets each, unpacked one behind the other. Nothing is judged here.
 ghost use Rattle.std.specs.Prelude.{true, false, ◌≡◌, ◌+◌, ◌*◌, ◌≤◌, length};
+ghost use Rattle.formats.specs.Settings.{settled_as};
 ghost use Rattle.formats.specs.Sound.{Limits};
 ghost use Rattle.receiver.specs.Unpacking.{used_in, Room, straight};
 ghost use Rattle.receiver.specs.Many.{FillsMany, fits_in, UnpacksMany};
 
 use crate::{Receiver, entries, usual};
-use formats::Settled;
+use formats::Layout;
 
 // Writes `missing` entries of zero with mark 2 to the three runs, and the cells' own entries after them: 56 hex in order 0 with one
 // channel or two.
@@ -31,7 +32,7 @@ fn usual_cells(
 
 // The same whatever the settings.
 fn any_cells(
-    set: Settled,
+    set: Layout,
     octets: &[u8],
     place: usize,
     records: usize,
@@ -40,8 +41,8 @@ fn any_cells(
     ancillary: &mut [u8],
     marks: &mut [u8],
 )
-    requires { Limits set × (place + 49 * records ≤ length octets.now) × Room missing (records * used_in set) samples.old ancillary.old marks.old }
-    ensures { FillsMany set octets.now place records missing samples.old ancillary.old marks.old samples.new ancillary.new marks.new }
+    requires { Limits (settled_as set) × (place + 49 * records ≤ length octets.now) × Room missing (records * used_in (settled_as set)) samples.old ancillary.old marks.old }
+    ensures { FillsMany (settled_as set) octets.now place records missing samples.old ancillary.old marks.old samples.new ancillary.new marks.new }
 {
     let used = set.channels * set.times;
     let format = set.format;
@@ -91,14 +92,13 @@ pub fn unpack(
 ) -> bool
     ensures { UnpacksMany state octets.now place records missing samples.old ancillary.old marks.old result samples.new ancillary.new marks.new }
 {
-    let set = formats::settings(
+    let Ok(set) = formats::settings(
         state.format as u32,
         state.channels as u32,
         state.order as u32,
-    );
-    if set.refusal != 0 {
+    ) else {
         return false;
-    }
+    };
     let used = set.channels * set.times;
     if !fits(
         used,

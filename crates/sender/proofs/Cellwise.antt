@@ -8,7 +8,7 @@ use lib.ListN as L
 use Rattle.runs.specs.Runs.{written}
 use Rattle.runs.proofs.Laws.{split, then_later, past, past_both, neither}
 use Rattle.formats.specs.declared.Format.{Format}
-use Rattle.formats.specs.declared.Settled.{Settled}
+use Rattle.formats.specs.Settled.{Settled}
 use Rattle.formats.specs.Formats.{settings_refusal}
 use Rattle.formats.specs.Settings.{settings_of, settled}
 use Rattle.formats.specs.Sound.{Limits}

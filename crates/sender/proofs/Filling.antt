@@ -6,7 +6,7 @@ use Rattle.runs.specs.Runs.{joined, octets_of}
 use Rattle.runs.proofs.Filling.{filled_on}
 use Rattle.runs.proofs.Laws.{length_octets}
 use Rattle.formats.specs.declared.Format.{Format}
-use Rattle.formats.specs.declared.Settled.{Settled}
+use Rattle.formats.specs.Settled.{Settled}
 use Rattle.formats.specs.Sound.{Sound, Limits}
 use Rattle.guards.specs.Guards.{v_of, guard_of}
 use Rattle.cells.specs.Cells.{overhead_of, subframe_of}

@@ -6,7 +6,7 @@ use lib.Bits.{bit_or, or_lt, or_add_and, and_le_l, and_le_r}
 use Rattle.runs.specs.Refusals.{or_else}
 use Rattle.runs.proofs.Laws.{split, first_refuses, then_later, past, past_both, neither, both_true, one_shifted}
 use Rattle.formats.specs.declared.Format.{Format}
-use Rattle.formats.specs.declared.Settled.{Settled}
+use Rattle.formats.specs.Settled.{Settled}
 use Rattle.formats.specs.Formats.{settings_refusal}
 use Rattle.formats.specs.Settings.{settings_of, settled}
 use Rattle.formats.specs.Sound.{Limits}

@@ -5,7 +5,7 @@ use native.Mathlib.Nat.{le_step}
 use Rattle.runs.specs.Runs.{joined, octets_of}
 use Rattle.runs.proofs.Filling.{filled}
 use Rattle.runs.proofs.Laws.{split, length_joined, length_octets}
-use Rattle.formats.specs.declared.Settled.{Settled}
+use Rattle.formats.specs.Settled.{Settled}
 use Rattle.formats.specs.Code.{is_usual}
 use Rattle.formats.specs.Settings.{settings_of}
 use Rattle.formats.proofs.Laws.{usual_is, usual_set}

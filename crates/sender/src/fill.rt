@@ -1,6 +1,7 @@
 // Filling a cell's used slots: one loop for every format and both orders. Where it is called with a format's numbers as constants,
 // the compiler makes a loop for that format alone.
 ghost use Rattle.std.specs.Prelude.{◌≡◌, ◌+◌, ◌*◌, ◌%◌, ◌^◌, ◌<◌, ◌≤◌, length};
+ghost use Rattle.formats.specs.Settings.{settled_as};
 ghost use Rattle.formats.specs.Sound.{Sound, Limits};
 ghost use Rattle.guards.specs.Guards.{v_of, protected_bits, guard_of};
 ghost use Rattle.cells.specs.Cells.{subframe_of};
@@ -8,7 +9,7 @@ ghost use Rattle.sender.specs.Packing.{Packable, entry_at, filled_to, low_part};
 
 use crate::octets::put;
 use cells::next_place;
-use formats::{Format, Settled};
+use formats::{Format, Layout};
 
 // The ancillary bits in their place in a subframe's last octet, and what V adds to the protection bits.
 fn low_of(ancillary: u64) -> u64
@@ -98,9 +99,9 @@ fn subframe(format: Format, sample: u64, ancillary: u64, bit: u64) -> u64
 }
 
 // The next slot's entry: in order 1 it goes on by C.
-fn next_entry(set: Settled, used: usize, slot: usize, entry: usize) -> usize
-    requires { Limits set × (used ≡ set.channels * set.times) × (slot < used) × (entry ≡ entry_at set slot) }
-    ensures { result ≡ entry_at set (slot + 1) }
+fn next_entry(set: Layout, used: usize, slot: usize, entry: usize) -> usize
+    requires { Limits (settled_as set) × (used ≡ set.channels * set.times) × (slot < used) × (entry ≡ entry_at (settled_as set) slot) }
+    ensures { result ≡ entry_at (settled_as set) (slot + 1) }
 {
     if set.by_channel {
         return next_place(set.channels, used, entry);
@@ -110,9 +111,9 @@ fn next_entry(set: Settled, used: usize, slot: usize, entry: usize) -> usize
 
 // The used slots.
 #[inline(always)]
-pub(crate) fn fill(set: Settled, sequence: u64, samples: &[u64], ancillary: &[u8], cell: &mut [u8])
-    requires { Packable set samples.now ancillary.now × (length cell.old ≡ 48) }
-    ensures { cell.new ≡ filled_to set sequence samples.now ancillary.now cell.old (length samples.now) }
+pub(crate) fn fill(set: Layout, sequence: u64, samples: &[u64], ancillary: &[u8], cell: &mut [u8])
+    requires { Packable (settled_as set) samples.now ancillary.now × (length cell.old ≡ 48) }
+    ensures { cell.new ≡ filled_to (settled_as set) sequence samples.now ancillary.now cell.old (length samples.now) }
 {
     let format = set.format;
     let mut entry = 0;

@@ -1,6 +1,6 @@
 // What the sender refuses, in the table's order, and which second number it writes.
 ghost use Rattle.std.specs.Prelude.{◌≡◌, ◌≤◌, length};
-ghost use Rattle.formats.specs.Settings.{settings_of};
+ghost use Rattle.formats.specs.Settings.{settled_as, settings_of};
 ghost use Rattle.sender.specs.Sender.{
   open_state,
   state_refusal,
@@ -15,7 +15,7 @@ ghost use Rattle.sender.specs.Packing.{
 };
 
 use crate::Sender;
-use formats::{Format, Settled};
+use formats::{Format, Layout};
 
 // Check 4, of numbers as they stand.
 #[tactic(auto, unfolding(crate::specs::Packing::numbers_refused_by))]
@@ -41,11 +41,10 @@ pub(crate) fn state_refusal(
 ) -> u8
     ensures { result ≡ state_refusal (open_state octet channels order number wanted second) }
 {
-    let set = formats::settings(octet, channels, order);
-    let refusal = set.refusal;
-    if refusal != 0 {
-        return refusal;
-    }
+    let set = match formats::settings(octet, channels, order) {
+        Ok(set) => set,
+        Err(refusal) => return refusal.into(),
+    };
     let format = set.format;
     if numbers(format, number, wanted, second) {
         return 4;
@@ -97,20 +96,16 @@ pub(crate) fn values_refused(format: Format, samples: &[u64], ancillary: &[u8]) 
 
 // Checks 1 to 7 of a call of `send`, by the settings of its state.
 pub(crate) fn send_refusal(
-    set: Settled,
+    set: Layout,
     state: Sender,
     indication: bool,
     samples: &[u64],
     ancillary: &[u8],
     room: usize,
 ) -> u8
-    requires { set ≡ settings_of state.format state.channels state.order }
+    requires { settled_as set ≡ settings_of state.format state.channels state.order }
     ensures { result ≡ send_refusal state indication samples.now ancillary.now room }
 {
-    let refusal = set.refusal;
-    if refusal != 0 {
-        return refusal;
-    }
     let format = set.format;
     if numbers(
         format,

@@ -105,11 +105,14 @@ fn write_any(
     requires { second ≡ second_now state indication }
     ensures { Writes state indication samples.now ancillary.now cell.old result cell.new }
 {
-    let set = formats::settings(
+    let set = match formats::settings(
         state.format as u32,
         state.channels as u32,
         state.order as u32,
-    );
+    ) {
+        Ok(set) => set,
+        Err(refusal) => return refusal.into(),
+    };
     let refusal = judge::send_refusal(set, state, indication, samples, ancillary, cell.len());
     if refusal != 0 {
         return refusal;

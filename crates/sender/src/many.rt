@@ -3,7 +3,7 @@
 // Whether a number is too large is asked of all entries at once; only where one is, of each cell.
 ghost use Rattle.std.specs.Prelude.{◌≡◌, ◌-◌, ◌/◌, ◌%◌, ◌<◌, ◌≤◌, true, false, ◌&&◌, length, ◌==◌};
 ghost use Rattle.formats.specs.Code.{is_usual};
-ghost use Rattle.formats.specs.Settings.{settings_of};
+ghost use Rattle.formats.specs.Settings.{settled_as, settings_of};
 ghost use Rattle.cell_log.specs.Written.{octet_of};
 ghost use Rattle.sender.specs.Many.{batch_not, SendsMany};
 ghost use Rattle.sender.specs.ManyCode.{Bounds, WritesMany, stop_by};
@@ -11,7 +11,7 @@ ghost use Rattle.sender.specs.Packing.{values_refused_by};
 ghost use Rattle.sender.specs.Sender.{state_refusal, second_now, after};
 
 use crate::{Sender, after, judge, pack, usual};
-use formats::{Format, Settled};
+use formats::{Format, Layout};
 
 // The refusal of the call (0: none); the state to go on with, the next place, the entries taken, why it stopped, and the cells.
 #[derive(Clone, Copy, Debug, PartialEq, Eq, Hash)]
@@ -80,7 +80,7 @@ fn too_large(sound: bool, format: Format, samples: &[u64], ancillary: &[u8]) -> 
 
 // At most so many cells, written one after the other. The compiler makes a loop of its own for the usual settings.
 fn row_of<const USUAL: bool>(
-    set: Settled,
+    set: Layout,
     state: Sender,
     indications: bool,
     samples: &[u64],
@@ -90,7 +90,7 @@ fn row_of<const USUAL: bool>(
     most: usize,
     sound: bool,
 ) -> Reached
-    requires { Bounds set state samples.now ancillary.now log.old place most sound × (USUAL ≡ true → is_usual state.format state.channels state.order ≡ true) }
+    requires { Bounds (settled_as set) state samples.now ancillary.now log.old place most sound × (USUAL ≡ true → is_usual state.format state.channels state.order ≡ true) }
     ensures { WritesMany indications state samples.now ancillary.now log.old place most result log.new }
 {
     let used = set.channels * set.times;
@@ -137,7 +137,7 @@ fn row_of<const USUAL: bool>(
 }
 
 fn row(
-    set: Settled,
+    set: Layout,
     state: Sender,
     indications: bool,
     samples: &[u64],
@@ -147,7 +147,7 @@ fn row(
     most: usize,
     sound: bool,
 ) -> Reached
-    requires { Bounds set state samples.now ancillary.now log.old place most sound }
+    requires { Bounds (settled_as set) state samples.now ancillary.now log.old place most sound }
     ensures { WritesMany indications state samples.now ancillary.now log.old place most result log.new }
 {
     if formats::is_usual(state.format, state.channels, state.order) {
@@ -178,7 +178,7 @@ fn row(
 
 // The cells of a state and runs that nothing is wrong with.
 fn walk(
-    set: Settled,
+    set: Layout,
     state: Sender,
     indications: bool,
     samples: &[u64],
@@ -186,7 +186,7 @@ fn walk(
     log: &mut [u8],
     place: usize,
 ) -> Batch
-    requires { (set ≡ settings_of state.format state.channels state.order) × (state_refusal state ≡ 0) × (length ancillary.now ≡ length samples.now) }
+    requires { (settled_as set ≡ settings_of state.format state.channels state.order) × (state_refusal state ≡ 0) × (length ancillary.now ≡ length samples.now) }
     ensures { SendsMany indications state samples.now ancillary.now log.old place result log.new }
 {
     let used = set.channels * set.times;
@@ -235,15 +235,14 @@ pub fn send(
 ) -> Batch
     ensures { SendsMany indications state samples.now ancillary.now log.old place result log.new }
 {
-    let set = formats::settings(
+    let set = match formats::settings(
         state.format as u32,
         state.channels as u32,
         state.order as u32,
-    );
-    let refusal = set.refusal;
-    if refusal != 0 {
-        return refused(refusal, state);
-    }
+    ) {
+        Ok(set) => set,
+        Err(refusal) => return refused(refusal.into(), state),
+    };
     let format = set.format;
     if judge::numbers(
         format,

@@ -1,5 +1,6 @@
 // Packing a cell: the used slots, by a loop for each format and order, then the unused ones.
 ghost use Rattle.std.specs.Prelude.{◌≡◌, ◌<◌, length, ◌≢◌};
+ghost use Rattle.formats.specs.Settings.{settled_as};
 ghost use Rattle.sender.specs.ManyCode.{sequence_in};
 ghost use Rattle.sender.specs.Packing.{
   Packable,
@@ -11,13 +12,13 @@ ghost use Rattle.sender.specs.Packing.{
 
 use crate::fill::fill;
 use crate::octets::put;
-use formats::{Format, Settled};
+use formats::{Format, Layout};
 
 // The used slots of settings whose format has these numbers. It is called with constants: the compiler then makes a loop for that
 // format in each order.
 #[inline(always)]
 fn fill_named(
-    set: Settled,
+    set: Layout,
     sample_bits: u64,
     ancillary_bits: u64,
     overhead_bits: u64,
@@ -27,8 +28,8 @@ fn fill_named(
     ancillary: &[u8],
     cell: &mut [u8],
 )
-    requires { Packable set samples.now ancillary.now × Named set.format sample_bits ancillary_bits overhead_bits width × (length cell.old ≡ 48) }
-    ensures { cell.new ≡ filled_to set sequence samples.now ancillary.now cell.old (length samples.now) }
+    requires { Packable (settled_as set) samples.now ancillary.now × Named set.format sample_bits ancillary_bits overhead_bits width × (length cell.old ≡ 48) }
+    ensures { cell.new ≡ filled_to (settled_as set) sequence samples.now ancillary.now cell.old (length samples.now) }
 {
     let format = Format {
         sample_bits,
@@ -38,14 +39,14 @@ fn fill_named(
         slots: set.format.slots,
     };
     if set.by_channel {
-        let known = Settled {
+        let known = Layout {
             format,
             by_channel: true,
             ..set
         };
         return fill(known, sequence, samples, ancillary, cell);
     }
-    let known = Settled {
+    let known = Layout {
         format,
         by_channel: false,
         ..set
@@ -54,9 +55,9 @@ fn fill_named(
 }
 
 // The used slots with overhead. The last arm would serve any other format too, at more cost.
-fn pack_guarded(set: Settled, sequence: u64, samples: &[u64], ancillary: &[u8], cell: &mut [u8])
-    requires { Packable set samples.now ancillary.now × (set.format.overhead_bits ≢ 0) × (length cell.old ≡ 48) }
-    ensures { cell.new ≡ filled_to set sequence samples.now ancillary.now cell.old (length samples.now) }
+fn pack_guarded(set: Layout, sequence: u64, samples: &[u64], ancillary: &[u8], cell: &mut [u8])
+    requires { Packable (settled_as set) samples.now ancillary.now × (set.format.overhead_bits ≢ 0) × (length cell.old ≡ 48) }
+    ensures { cell.new ≡ filled_to (settled_as set) sequence samples.now ancillary.now cell.old (length samples.now) }
 {
     match set.format.sample_bits {
         8 => fill_named(set, 8, 4, 4, 2, sequence, samples, ancillary, cell),
@@ -71,9 +72,9 @@ fn pack_guarded(set: Settled, sequence: u64, samples: &[u64], ancillary: &[u8], 
 }
 
 // The same without overhead.
-fn pack_plain(set: Settled, sequence: u64, samples: &[u64], ancillary: &[u8], cell: &mut [u8])
-    requires { Packable set samples.now ancillary.now × (set.format.overhead_bits ≡ 0) × (length cell.old ≡ 48) }
-    ensures { cell.new ≡ filled_to set sequence samples.now ancillary.now cell.old (length samples.now) }
+fn pack_plain(set: Layout, sequence: u64, samples: &[u64], ancillary: &[u8], cell: &mut [u8])
+    requires { Packable (settled_as set) samples.now ancillary.now × (set.format.overhead_bits ≡ 0) × (length cell.old ≡ 48) }
+    ensures { cell.new ≡ filled_to (settled_as set) sequence samples.now ancillary.now cell.old (length samples.now) }
 {
     match set.format.sample_bits {
         8 => fill_named(set, 8, 0, 0, 1, sequence, samples, ancillary, cell),
@@ -88,9 +89,9 @@ fn pack_plain(set: Settled, sequence: u64, samples: &[u64], ancillary: &[u8], ce
 }
 
 // The used slots.
-fn pack_used(set: Settled, sequence: u64, samples: &[u64], ancillary: &[u8], cell: &mut [u8])
-    requires { Packable set samples.now ancillary.now × (length cell.old ≡ 48) }
-    ensures { cell.new ≡ filled_to set sequence samples.now ancillary.now cell.old (length samples.now) }
+fn pack_used(set: Layout, sequence: u64, samples: &[u64], ancillary: &[u8], cell: &mut [u8])
+    requires { Packable (settled_as set) samples.now ancillary.now × (length cell.old ≡ 48) }
+    ensures { cell.new ≡ filled_to (settled_as set) sequence samples.now ancillary.now cell.old (length samples.now) }
 {
     if set.format.overhead_bits == 0 {
         pack_plain(set, sequence, samples, ancillary, cell);
@@ -112,9 +113,9 @@ fn idle_subframe(overhead_bits: u64, bit: u64) -> u64
 }
 
 // The unused slots of a cell whose used slots are filled. The ancillary numbers are for the promise alone.
-fn fill_idle(set: Settled, sequence: u64, samples: &[u64], ancillary: &[u8], cell: &mut [u8])
-    requires { Packable set samples.now ancillary.now × (length cell.old ≡ 48) × (cell.old ≡ filled_to set sequence samples.now ancillary.now cell.old (length samples.now)) }
-    ensures { cell.new ≡ filled_to set sequence samples.now ancillary.now cell.old set.format.slots }
+fn fill_idle(set: Layout, sequence: u64, samples: &[u64], ancillary: &[u8], cell: &mut [u8])
+    requires { Packable (settled_as set) samples.now ancillary.now × (length cell.old ≡ 48) × (cell.old ≡ filled_to (settled_as set) sequence samples.now ancillary.now cell.old (length samples.now)) }
+    ensures { cell.new ≡ filled_to (settled_as set) sequence samples.now ancillary.now cell.old set.format.slots }
 {
     for slot in samples.len()..set.format.slots {
         let bit = (sequence >> slot) % 2;
@@ -124,9 +125,9 @@ fn fill_idle(set: Settled, sequence: u64, samples: &[u64], ancillary: &[u8], cel
 }
 
 // All slots of a cell with these sequencing bits.
-pub(crate) fn pack(set: Settled, sequence: u64, samples: &[u64], ancillary: &[u8], cell: &mut [u8])
-    requires { Packable set samples.now ancillary.now × (length cell.old ≡ 48) }
-    ensures { cell.new ≡ filled_cell set sequence samples.now ancillary.now }
+pub(crate) fn pack(set: Layout, sequence: u64, samples: &[u64], ancillary: &[u8], cell: &mut [u8])
+    requires { Packable (settled_as set) samples.now ancillary.now × (length cell.old ≡ 48) }
+    ensures { cell.new ≡ filled_cell (settled_as set) sequence samples.now ancillary.now }
 {
     pack_used(set, sequence, samples, ancillary, cell);
     fill_idle(set, sequence, samples, ancillary, cell);

@@ -12,7 +12,7 @@ use lib.ListN.{length, get_or}
 use lib.Pow.{pow_pos}
 use Rattle.runs.proofs.Laws.{then_later, past, past_both, neither}
 use Rattle.formats.specs.declared.Format.{Format}
-use Rattle.formats.specs.declared.Settled.{Settled}
+use Rattle.formats.specs.Settled.{Settled}
 use Rattle.formats.specs.Formats.{format_of, settings_refusal}
 use Rattle.formats.specs.Settings.{settled, settings_of}
 use Rattle.formats.specs.Sound.{Limits}

@@ -1,10 +1,10 @@
 // What an export and a reading refuse, in the request's order.
 ghost use Rattle.std.specs.Prelude.{◌≡◌, ◌≤◌, length};
-ghost use Rattle.formats.specs.Settings.{settings_of};
+ghost use Rattle.formats.specs.Settings.{settled_as, settings_of};
 ghost use Rattle.sender.specs.Packing.{Unites};
 ghost use Rattle.units.specs.Units.{runs_refused, values_refused, export_refusal, unit_refused, read_refusal};
 
-use formats::{Format, Settled};
+use formats::{Format, Layout};
 
 // The bits that any sample has, and those that any ancillary number has: they are below a power of two just where all the numbers
 // are.
@@ -54,19 +54,15 @@ fn runs_refused(channels: usize, samples: usize, ancillary: usize) -> bool
 pub(crate) fn export_refusal(
     octet: u32,
     channels: u32,
-    set: Settled,
+    set: Layout,
     size: usize,
     samples: &[u64],
     ancillary: &[u8],
     room: usize,
 ) -> u8
-    requires { set ≡ settings_of octet channels 0 }
+    requires { settled_as set ≡ settings_of octet channels 0 }
     ensures { result ≡ export_refusal octet channels size samples.now ancillary.now room }
 {
-    let refusal = set.refusal;
-    if refusal != 0 {
-        return refusal;
-    }
     if runs_refused(set.channels, samples.len(), ancillary.len()) {
         return 5;
     }
@@ -99,18 +95,14 @@ fn unit_refused(frame: usize, unit: usize, samples: usize, ancillary: usize) -> 
 pub(crate) fn read_refusal(
     octet: u32,
     channels: u32,
-    set: Settled,
+    set: Layout,
     unit: usize,
     samples: usize,
     ancillary: usize,
 ) -> u8
-    requires { set ≡ settings_of octet channels 0 }
+    requires { settled_as set ≡ settings_of octet channels 0 }
     ensures { result ≡ read_refusal octet channels unit samples ancillary }
 {
-    let refusal = set.refusal;
-    if refusal != 0 {
-        return refusal;
-    }
     let format = set.format;
     if unit_refused(set.channels * format.width, unit, samples, ancillary) {
         return 5;

@@ -58,7 +58,10 @@ pub fn export_units(
 ) -> Exported
     ensures { Exports octet channels size samples.now ancillary.now out.old result out.new }
 {
-    let set = formats::settings(octet, channels, 0);
+    let set = match formats::settings(octet, channels, 0) {
+        Ok(set) => set,
+        Err(refusal) => return not_exported(refusal.into()),
+    };
     let refusal = judge::export_refusal(octet, channels, set, size, samples, ancillary, out.len());
     if refusal != 0 {
         return not_exported(refusal);
@@ -87,7 +90,15 @@ pub fn read_unit(
 ) -> Entered
     ensures { Reads octet channels unit.now samples.old ancillary.old result samples.new ancillary.new }
 {
-    let set = formats::settings(octet, channels, 0);
+    let set = match formats::settings(octet, channels, 0) {
+        Ok(set) => set,
+        Err(refusal) => {
+            return Entered {
+                refusal: refusal.into(),
+                entries: 0,
+            };
+        }
+    };
     let refusal = judge::read_refusal(
         octet,
         channels,

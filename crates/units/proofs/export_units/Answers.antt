@@ -1,13 +1,15 @@
 -- `units::export_units` meets its contract.
 -- Assumes nothing.
-use mathlib.Core.Path.{◌≡◌, sym, ◌∙◌}
+use mathlib.Core.Path.{◌≡◌, sym, ◌∙◌, ap}
 use Prim.Native.Nat.{◌*◌}
 use native.Mathlib.Nat.{div-mul-le_self}
 use native.Mathlib.Omega.{arith}
 use lib.ListN.{length}
+use Rattle.refusals.proofs.Laws.{number_not_0}
+use Rattle.formats.specs.Settings.{settled_as}
 use Rattle.formats.specs.Sound.{Limits}
-use Rattle.units.specs.Units.{export_refusal}
-use Rattle.units.proofs.Laws.{frame_some, frame_small, subframes_fit}
+use Rattle.units.specs.Units.{export_refusal, not_exported}
+use Rattle.units.proofs.Laws.{frame_some, frame_small, subframes_fit, exports_settings}
 use Rattle.units.proofs.Answers.{exports_refused, export_bounds, fit_some, can_pack, exports_taken}
 use Rattle.units.proofs.export_units.Goals as goal
 use Rattle.units.proofs.export_units.Goals.{Else-refusal-ne0, Start}
@@ -22,19 +24,26 @@ none : (c : Else-refusal-ne0)
     (start c).args.ancillary.now (length (start c).args.out.now)
 none c = sym c.if-refusal-ne0.false ∙ c.export_refusal-refusal.ensures
 
-bounds : (c : Else-refusal-ne0) → Limits c.settings-set.result
+bounds : (c : Else-refusal-ne0) → Limits (settled_as c.in-Ok.set)
 bounds c =
     let a = (start c).args in
-    export_bounds a.octet a.channels a.size a.samples.now a.ancillary.now a.out.now c.settings-set.ensures (none c)
+    export_bounds a.octet a.channels a.size a.samples.now a.ancillary.now a.out.now c.in-Ok.ensures (none c)
 
 pub export_refusal-refusal-requires : goal.export_refusal-refusal-requires
-export_refusal-refusal-requires c = c.settings-set.ensures
+export_refusal-refusal-requires c = c.in-Ok.ensures
+
+pub returns-in-Err : goal.returns-in-Err
+returns-in-Err c = let a = c.args in
+    let some = number_not_0 c.in-Err.refusal in
+    exports_refused a.octet a.channels a.size a.samples.now a.ancillary.now a.out.now some
+    (exports_settings a.octet a.channels a.size a.samples.now a.ancillary.now (length a.out.now) c.in-Err.ensures some)
+    (c.not_exported.ensures ∙ ap not_exported c.into.ensures)
 
 pub returns-then-refusal-ne0 : goal.returns-then-refusal-ne0
 returns-then-refusal-ne0 c = let a = c.args in
     exports_refused a.octet a.channels a.size a.samples.now a.ancillary.now a.out.now
     c.if-refusal-ne0.true c.export_refusal-refusal.ensures
-    c.not_exported.ensures
+    c.not_exported-then-refusal-ne0.ensures
 
 pub overflow_mul-frame : goal.overflow_mul-frame
 overflow_mul-frame c = omega (arith, frame_small (bounds (goal.at.overflow_mul-frame c).Else-refusal-ne0))
@@ -47,27 +56,27 @@ nonzero_div-samples c = (bounds (goal.at.nonzero_div-samples c).Else-refusal-ne0
 
 pub units_of-units-requires : goal.units_of-units-requires
 units_of-units-requires c = let a = (start (goal.at.units_of-units-requires c).Else-refusal-ne0).args in
-    fit_some a.octet a.channels a.size a.samples.now a.ancillary.now a.out.now c.settings-set.ensures (none (goal.at.units_of-units-requires c).Else-refusal-ne0)
+    fit_some a.octet a.channels a.size a.samples.now a.ancillary.now a.out.now c.in-Ok.ensures (none (goal.at.units_of-units-requires c).Else-refusal-ne0)
 
 pub pack-requires : goal.pack-requires
 pack-requires c = let a = (start (goal.at.pack-requires c).Else-refusal-ne0).args in
-    can_pack a.octet a.channels a.size a.samples.now a.ancillary.now a.out.now c.settings-set.ensures (none (goal.at.pack-requires c).Else-refusal-ne0)
+    can_pack a.octet a.channels a.size a.samples.now a.ancillary.now a.out.now c.in-Ok.ensures (none (goal.at.pack-requires c).Else-refusal-ne0)
 
 pub overflow_mul-result : goal.overflow_mul-result
 overflow_mul-result c = let s = start (goal.at.overflow_mul-result c).Else-refusal-ne0 in
     record {
       fits =
-          subframes_fit (length s.args.samples.now) c.settings-set.result.format.width
+          subframes_fit (length s.args.samples.now) c.in-Ok.set.format.width
           (bounds (goal.at.overflow_mul-result c).Else-refusal-ne0).sound.width_to (omega (arith, c.well_formed));
     }
 
 pub overflow_mul-result-2 : goal.overflow_mul-result-2
 overflow_mul-result-2 c = let a = (start (goal.at.overflow_mul-result-2 c).Else-refusal-ne0).args in
-    let set = c.settings-set.result in
+    let set = c.in-Ok.set in
     omega (arith, div-mul-le_self a.size (set.channels * set.format.width), (start (goal.at.overflow_mul-result-2 c).Else-refusal-ne0).ranges)
 
 pub returns : goal.returns
 returns c = let a = (start (goal.at.returns c).Else-refusal-ne0).args in
     exports_taken a.octet a.channels a.size a.samples.now a.ancillary.now a.out.now
-    c.settings-set.ensures (none (goal.at.returns c).Else-refusal-ne0)
+    c.in-Ok.ensures (none (goal.at.returns c).Else-refusal-ne0)
     c.units_of-units.ensures c.pack.ensures

@@ -1,7 +1,7 @@
 -- `figures::stretch::is_bare` meets its contract.
 -- Assumes nothing.
 use mathlib.Core.Bool.{true≢false}
-use mathlib.Core.Path.{sym}
+use mathlib.Core.Path.{refl, sym}
 use Prim.Native.Nat.{◌-◌, ◌≤◌}
 use native.Mathlib.Omega.{arith}
 use borrow.Author.Tests.{not-false, leb-true}
@@ -9,9 +9,6 @@ use Rattle.figures.proofs.stretch.is_bare.Goals as goal
 
 pub returns-then-set-ne0 : goal.returns-then-set-ne0
 returns-then-set-ne0 c e = absurd (true≢false (sym e))
-
-pub returns-then-set-ne0-2 : goal.returns-then-set-ne0-2
-returns-then-set-ne0-2 c e = absurd (true≢false (sym e))
 
 pub returns-then-not-state : goal.returns-then-not-state
 returns-then-not-state c e = absurd (true≢false (sym e))
@@ -22,9 +19,9 @@ returns-then-state-ne0 c e = absurd (true≢false (sym e))
 pub returns : goal.returns
 returns c e = let few : c.args.records ≤ 4294967295 - c.args.state.count = leb-true _ _ e in
     record {
-      taken = c.if-set-ne0.false;
-      no_overhead = c.if-set-ne0-2.false;
+      taken = refl;
+      no_overhead = c.if-set-ne0.false;
       started = not-false _ c.if-not-state.false;
       last_none = c.if-state-ne0.false;
-      goes_on = omega (arith, few, c.struct_known-5-1.given);
+      goes_on = omega (arith, few, c.struct_known-4-1.given);
     }

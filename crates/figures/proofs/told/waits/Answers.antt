@@ -1,12 +1,9 @@
 -- `figures::told::waits` meets its contract.
 -- Assumes nothing.
 use mathlib.Core.Bool.{true≢false}
-use mathlib.Core.Path.{sym}
+use mathlib.Core.Path.{refl, sym}
 use borrow.Author.Tests.{not-false, ltb-true}
 use Rattle.figures.proofs.told.waits.Goals as goal
-
-pub returns-then-set-ne0 : goal.returns-then-set-ne0
-returns-then-set-ne0 c e = absurd (true≢false (sym e))
 
 pub returns-then-not-state : goal.returns-then-not-state
 returns-then-not-state c e = absurd (true≢false (sym e))
@@ -16,7 +13,7 @@ returns-then-state-gt15 c e = absurd (true≢false (sym e))
 
 pub returns : goal.returns
 returns c less = record {
-  taken = c.if-set-ne0.false;
+  taken = refl;
   started = not-false _ c.if-not-state.false;
   last_to = c.if-state-gt15.false;
   goes_on = ltb-true _ _ less;

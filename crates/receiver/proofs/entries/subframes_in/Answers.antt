@@ -6,7 +6,8 @@ use Prim.Native.Nat.{ℕ, ◌-◌, ◌≤◌, ◌<◌}
 use native.Mathlib.Omega.{arith}
 use borrow.Author.Tests.{eq-eqb, ne_eqb}
 use Rattle.runs.proofs.Filling.{Filled, begun}
-use Rattle.formats.specs.declared.Settled.{Settled}
+use Rattle.formats.specs.Settings.{settled_as}
+use Rattle.formats.specs.Settled.{Settled}
 use Rattle.cells.specs.Cells.{subframe_at}
 use Rattle.cells.specs.Placement.{slot_of_entry}
 use Rattle.cells.proofs.Placement.{slot_lt}
@@ -18,13 +19,13 @@ use Rattle.receiver.proofs.entries.subframes_in.Goals.{then-this-ne0, else-this-
 
 pub loop-i-init : goal.loop-i-init
 loop-i-init g c = (
-  begun c.args.run.now c.args.at (own_entries (λ x. x) c.args.set c.args.cell.now),
+  begun c.args.run.now c.args.at (own_entries (λ x. x) (settled_as c.args.set) c.args.cell.now),
   walk_begun c.args.set.by_channel c.args.set.channels c.args.set.times c.requires.0.channels_from,
   elim c.if-this-ne0.branch [ then-this-ne0 w ↦ omega (arith, w.count-is) | else-this-ne0 w ↦ omega (arith, w.count-is) ],
 )
 
 pub three_in-requires : goal.three_in-requires
-three_in-requires g c = let set : Settled = c.args.set in
+three_in-requires g c = let set : Settled = settled_as c.args.set in
     let less : c.loop-i.i < used_in set - 1
     = elim c.if-this-ne0.branch [
       | then-this-ne0 w ↦ omega (arith, w.count-is, c.loop-i-test.true)
@@ -38,11 +39,11 @@ three_in-requires g c = let set : Settled = c.args.set in
     )
 
 pub subframe_in-requires : goal.subframe_in-requires
-subframe_in-requires g c = let less : c.loop-i.i < used_in c.args.set = omega (arith, c.loop-i.invariant.2, c.loop-i-test.true) in
-    (c.requires.0.sound, c.requires.1, slot_in c.args.set c.args.cell.now c.requires.0 less c.loop-i.invariant.1)
+subframe_in-requires g c = let less : c.loop-i.i < used_in (settled_as c.args.set) = omega (arith, c.loop-i.invariant.2, c.loop-i-test.true) in
+    (c.requires.0.sound, c.requires.1, slot_in (settled_as c.args.set) c.args.cell.now c.requires.0 less c.loop-i.invariant.1)
 
 pub next_slot-slot-requires : goal.next_slot-slot-requires
-next_slot-slot-requires g c = let set : Settled = c.args.set in
+next_slot-slot-requires g c = let set : Settled = settled_as c.args.set in
     let less : c.loop-i.i < used_in set = omega (arith, c.loop-i.invariant.2, c.loop-i-test.true) in (
       rw c.loop-i.invariant.1 (slot_lt set.channels set.times c.requires.0.channels_from set.by_channel less),
       c.requires.0.used_to,
@@ -50,12 +51,12 @@ next_slot-slot-requires g c = let set : Settled = c.args.set in
     )
 
 pub overflow_add-slot : goal.overflow_add-slot
-overflow_add-slot g c = let set : Settled = c.args.set in
+overflow_add-slot g c = let set : Settled = settled_as c.args.set in
     let less : c.loop-i.i < used_in set = omega (arith, c.loop-i.invariant.2, c.loop-i-test.true) in
     omega (arith, c.loop-i.invariant.1, slot_lt set.channels set.times c.requires.0.channels_from set.by_channel less, c.requires.0.used_to)
 
 pub loop-i-preserved : goal.loop-i-preserved
-loop-i-preserved g c = let set : Settled = c.args.set in
+loop-i-preserved g c = let set : Settled = settled_as c.args.set in
     let less : c.loop-i.i < used_in set = omega (arith, c.loop-i.invariant.2, c.loop-i-test.true) in
     let read : c.if-this-ne0-2.run ≡ subframe_at set.format c.args.cell.now c.loop-i.slot
     = elim c.if-this-ne0-2.branch [
@@ -76,7 +77,7 @@ loop-i-preserved g c = let set : Settled = c.args.set in
     )
 
 pub returns-then-this-ne0-4 : goal.returns-then-this-ne0-4
-returns-then-this-ne0-4 g c = let set : Settled = c.args.set in
+returns-then-this-ne0-4 g c = let set : Settled = settled_as c.args.set in
     let some : 1 ≤ used_in set = used_from set c.args.cell.now c.requires.0 in
     let last : c.if-this-ne0.count ≡ used_in set - 1
     = elim c.if-this-ne0.branch [
@@ -95,9 +96,9 @@ returns-then-this-ne0-4 g c = let set : Settled = c.args.set in
     (omega (arith, some, last))
 
 pub returns-else-this-ne0-4 : goal.returns-else-this-ne0-4
-returns-else-this-ne0-4 g c = let all : used_in c.args.set ≤ c.loop-i.i
+returns-else-this-ne0-4 g c = let all : used_in (settled_as c.args.set) ≤ c.loop-i.i
     = elim c.if-this-ne0.branch [
       | then-this-ne0 w ↦ absurd (w.if-this-ne0.true c.if-this-ne0-4.false)
       | else-this-ne0 w ↦ omega (arith, w.count-is, c.loop-i-test.false)
     ] in
-    own_done c.args.set c.args.cell.now c.args.run.now c.args.at c.requires.2 c.loop-i.invariant.0 all
+    own_done (settled_as c.args.set) c.args.cell.now c.args.run.now c.args.at c.requires.2 c.loop-i.invariant.0 all

@@ -1,9 +1,9 @@
 -- `receiver::judge::early_refusal` meets its contract: each way out by the check that it goes by.
 -- Assumes nothing.
 use mathlib.Core.Bool.{false, ◌||◌}
-use mathlib.Core.Path.{◌≡◌, sym, ◌∙◌}
+use mathlib.Core.Path.{◌≡◌, refl, sym, ◌∙◌}
 use Rattle.receiver.specs.Receiver.{last_refused, count_refused}
-use Rattle.receiver.proofs.Laws.{settled_format, early_settings, early_4, early_5}
+use Rattle.receiver.proofs.Laws.{settled_format, early_4, early_5}
 use Rattle.receiver.proofs.judge.early_refusal.Goals as goal
 use Rattle.receiver.proofs.judge.early_refusal.Goals.{Else-numbers_refused}
 
@@ -11,20 +11,17 @@ fourth : (c : Else-numbers_refused)
     → false ≡ (last_refused c.args.state || count_refused c.args.state)
 fourth c = sym c.if-numbers_refused.false ∙ c.numbers_refused.ensures
 
-pub returns-then-refusal-ne0 : goal.returns-then-refusal-ne0
-returns-then-refusal-ne0 c = early_settings c.args.state c.requires c.args.cell c.args.samples c.args.ancillary c.args.marks c.if-refusal-ne0.true
-
 pub numbers_refused-requires : goal.numbers_refused-requires
-numbers_refused-requires c = settled_format c.args.state c.requires c.if-refusal-ne0.false
+numbers_refused-requires c = settled_format c.args.state c.requires refl
 
 pub returns-then-numbers_refused : goal.returns-then-numbers_refused
-returns-then-numbers_refused c = early_4 c.args.state c.requires c.args.cell c.args.samples c.args.ancillary c.args.marks c.if-refusal-ne0.false
+returns-then-numbers_refused c = early_4 c.args.state c.requires c.args.cell c.args.samples c.args.ancillary c.args.marks refl
     (sym c.if-numbers_refused.true ∙ c.numbers_refused.ensures)
 
 pub returns-then-lengths_refused : goal.returns-then-lengths_refused
 returns-then-lengths_refused c = early_5 c.args.state c.requires c.args.cell c.args.samples c.args.ancillary c.args.marks
-    c.if-refusal-ne0.false (fourth (goal.at.returns-then-lengths_refused c).Else-numbers_refused) (sym c.if-lengths_refused.true ∙ c.lengths_refused.ensures)
+    refl (fourth (goal.at.returns-then-lengths_refused c).Else-numbers_refused) (sym c.if-lengths_refused.true ∙ c.lengths_refused.ensures)
 
 pub returns : goal.returns
 returns c = early_5 c.args.state c.requires c.args.cell c.args.samples c.args.ancillary c.args.marks
-    c.if-refusal-ne0.false (fourth (goal.at.returns c).Else-numbers_refused) (sym c.if-lengths_refused.false ∙ c.lengths_refused.ensures)
+    refl (fourth (goal.at.returns c).Else-numbers_refused) (sym c.if-lengths_refused.false ∙ c.lengths_refused.ensures)

@@ -4,6 +4,7 @@ use mathlib.Core.Path.{◌≡◌, sym, ◌∙◌}
 use Prim.Native.Nat.{◌+◌, ◌*◌, ◌^◌, ◌≤◌, ◌<◌}
 use native.Mathlib.Nat.{mul-le-mul}
 use native.Mathlib.Omega.{arith}
+use Rattle.formats.specs.Settings.{settled_as}
 use Rattle.formats.specs.Formats.{format_of}
 use Rattle.formats.specs.Sound.{Limits}
 use Rattle.receiver.specs.Receiver.{gap_of}
@@ -13,7 +14,7 @@ use Rattle.receiver.proofs.judge.judged.Goals as goal
 use Rattle.receiver.proofs.judge.judged.Goals.{After-gap_now-gap, Else-refusal-ne0, Start}
 
 -- what the call's settings give
-limits : (s : Start) → Limits s.args.set
+limits : (s : Start) → Limits (settled_as s.args.set)
 limits s = judged_limits s.args.state s.args.cell.now s.args.indication s.args.samples s.requires.0 s.requires.1
 
 format_is : (s : Start) → s.args.set.format ≡ format_of s.args.state.format
@@ -24,7 +25,7 @@ gap_is g =
     g.gap_now-gap.ensures g.args.cell.now
     (number_found g.args.state g.args.cell.now (sym g.in-Some.is ∙ g.requires.2))
 
-gap_room : (g : After-gap_now-gap) → Limits g.args.set → g.gap_now-gap.result * (g.args.set.channels * g.args.set.times) < 2 ^ 64
+gap_room : (g : After-gap_now-gap) → Limits (settled_as g.args.set) → g.gap_now-gap.result * (g.args.set.channels * g.args.set.times) < 2 ^ 64
 gap_room g within =
     let few : g.gap_now-gap.result ≤ 15 = rw (gap_is g) (gap_to g.args.state g.args.cell.now) in
     let product = mul-le-mul few within.used_to in
@@ -32,12 +33,12 @@ gap_room g within =
 
 -- where checks 9, 20 and 10 refuse nothing
 late_is_none : (e : Else-refusal-ne0) →
-    0 ≡ late_refusal e.gap_now-gap.result e.args.state.count e.args.samples (e.gap_now-gap.result * used_in e.args.set)
+    0 ≡ late_refusal e.gap_now-gap.result e.args.state.count e.args.samples (e.gap_now-gap.result * used_in (settled_as e.args.set))
 late_is_none e = sym e.if-refusal-ne0.false ∙ e.late_refusal-refusal.ensures
 
 few : (e : Else-refusal-ne0) → (1 ≤ e.gap_now-gap.result) × (e.args.state.count + e.gap_now-gap.result ≤ 4294967295)
 few e =
-    late_none e.gap_now-gap.result e.args.state.count e.args.samples (e.gap_now-gap.result * used_in e.args.set)
+    late_none e.gap_now-gap.result e.args.state.count e.args.samples (e.gap_now-gap.result * used_in (settled_as e.args.set))
     (sym (late_is_none e))
 
 pub returns-in_default : goal.returns-in_default

@@ -2,7 +2,7 @@
 -- Assumes nothing.
 use mathlib.Core.Path.{◌≡◌, ◌∙◌, sym}
 use lib.ListN.{length}
-use Rattle.formats.specs.Settings.{settings_of}
+use Rattle.formats.specs.Settings.{settled_as, settings_of}
 use Rattle.receiver.specs.Receiver.{judged_of}
 use Rattle.receiver.specs.Unpacking.{early_refusal}
 use Rattle.receiver.proofs.AllSlots.{usual_settles, usual_sound}
@@ -10,7 +10,7 @@ use Rattle.receiver.proofs.Laws.{answer_early, judged_format, judged_whole_lem}
 use Rattle.receiver.proofs.usual.judged.Goals as goal
 use Rattle.receiver.proofs.usual.judged.Goals.{After-usual-set, Else-early-ne0}
 
-settles : (u : After-usual-set) → u.usual-set.result ≡ settings_of u.args.state.format u.args.state.channels u.args.state.order
+settles : (u : After-usual-set) → settled_as u.usual-set.result ≡ settings_of u.args.state.format u.args.state.channels u.args.state.order
 settles u = usual_settles u.args.state u.usual-set.ensures u.requires
 
 none : (c : Else-early-ne0) → early_refusal c.args.state (length c.args.cell.now) 720 720 720 ≡ 0

@@ -1,7 +1,7 @@
 -- `receiver::usual::receive` meets its contract.
 -- Assumes nothing.
 use mathlib.Core.Path.{◌≡◌, ◌∙◌, sym}
-use Rattle.formats.specs.Settings.{settings_of}
+use Rattle.formats.specs.Settings.{settled_as, settings_of}
 use Rattle.receiver.proofs.AllSlots.{usual_settles, usual_sound, usual_room, usual_fills}
 use Rattle.receiver.proofs.Laws.{Call, judged_format, judged_whole_lem, early_refused, equal_early, judged_refused, cell_whole, roomy, judged_taken}
 use Rattle.receiver.proofs.usual.receive.Goals as goal
@@ -19,7 +19,7 @@ call s =
       marks = s.args.marks.now;
     }
 
-settles : (u : After-usual-set) → u.usual-set.result ≡ settings_of u.args.state.format u.args.state.channels u.args.state.order
+settles : (u : After-usual-set) → settled_as u.usual-set.result ≡ settings_of u.args.state.format u.args.state.channels u.args.state.order
 settles u = usual_settles u.args.state u.usual-set.ensures u.requires
 
 pub early_refusal-early-requires : goal.early_refusal-early-requires

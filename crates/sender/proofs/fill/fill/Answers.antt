@@ -1,6 +1,7 @@
 -- `sender::fill::fill` meets its contract.
 -- Assumes nothing.
 use Rattle.std.proofs.Common.{ℕ, ◌%◌, ◌<◌, length, refl, ap, arith}
+use Rattle.formats.specs.Settings.{settled_as}
 use Rattle.sender.proofs.Filling.{filling_begun, filling_on, filling_done, bits_begun, bits_on, entry_first, entry_in}
 use Rattle.sender.proofs.Filling.{used_few, as_many, slot_ready, slot_put, used_number}
 use Rattle.sender.proofs.fill.fill.Goals as goal
@@ -12,12 +13,12 @@ from c = (goal.at.In-loop-slot c).Start
 -- the entry is one of the run's
 inside : (c : In-loop-slot) → c.loop-slot.entry < length (from c).args.samples.now
 inside c = let p = (from c).requires.0 in
-    entry_in (from c).args.set p.limits p.samples_length c.loop-slot-test.true c.loop-slot.invariant.entry_is
+    entry_in (settled_as (from c).args.set) p.limits p.samples_length c.loop-slot-test.true c.loop-slot.invariant.entry_is
 
 pub loop-slot-init : goal.loop-slot-init
 loop-slot-init c = let a = c.args in record {
-  filling = filling_begun a.set a.sequence a.samples.now a.ancillary.now a.cell.now (length a.samples.now);
-  entry_is = entry_first a.set;
+  filling = filling_begun (settled_as a.set) a.sequence a.samples.now a.ancillary.now a.cell.now (length a.samples.now);
+  entry_is = entry_first (settled_as a.set);
   rest_is = bits_begun a.sequence;
 }
 
@@ -47,7 +48,7 @@ loop-slot-preserved c = let s = from (goal.at.loop-slot-preserved c).In-loop-slo
     let a = s.args in
     let here = c.loop-slot.invariant in record {
       filling =
-          filling_on a.set a.sequence a.samples.now a.ancillary.now a.cell.now here.filling c.loop-slot-test.true refl
+          filling_on (settled_as a.set) a.sequence a.samples.now a.ancillary.now a.cell.now here.filling c.loop-slot-test.true refl
           (used_number s.requires.0 here.entry_is c.loop-slot-test.true c.from.ensures (ap (λ (n : ℕ). n % 2) here.rest_is)
           c.subframe-number.ensures)
           c.put.ensures c.put.auto.cell;
@@ -57,4 +58,4 @@ loop-slot-preserved c = let s = from (goal.at.loop-slot-preserved c).In-loop-slo
 
 pub returns : goal.returns
 returns c = let a = c.args in
-    filling_done a.set a.sequence a.samples.now a.ancillary.now a.cell.now c.loop-slot.invariant.filling c.loop-slot-test.false
+    filling_done (settled_as a.set) a.sequence a.samples.now a.ancillary.now a.cell.now c.loop-slot.invariant.filling c.loop-slot-test.false

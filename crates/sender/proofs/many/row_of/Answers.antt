@@ -2,6 +2,7 @@
 -- Assumes nothing.
 use Rattle.std.proofs.Common.{◌≡◌, ℕ, ◌+◌, ◌-◌, ◌*◌, ◌≤◌, true, not, eqb, List, length, take, drop, set, sym, refl, ap, ◌∙◌, subst, ne_eqb, arith}
 use borrow.Rule.Slice.PartMut.{mid_of}
+use Rattle.formats.specs.Settings.{settled_as}
 use Rattle.cell_log.proofs.Keeping.{octet_as_converted}
 use Rattle.sender.specs.Many.{next_of}
 use Rattle.sender.specs.ManyCode.{WritesMany}
@@ -138,14 +139,14 @@ loop-cells-preserved g c = let l = (goal.at.loop-cells-preserved g c).In-loop-ce
           c.second_now-second.ensures octet-is
           (set_filled c.args.state is c.requires.0.given p w.sequence_of-sequence.result
           (mid_of (to l + 1) (to l + 49 - (to l + 1)) (set (log l) (to l) octet)) whole filled.ensures
-          ∙ ap (λ (n : ℕ). filled_cell c.args.set n (part l c.args.samples.now) (part l c.args.ancillary.now)) w.sequence_of-sequence.ensures)
+          ∙ ap (λ (n : ℕ). filled_cell (settled_as c.args.set) n (part l c.args.samples.now) (part l c.args.ancillary.now)) w.sequence_of-sequence.ensures)
           size (filled.auto.cell ∙ whole) w.log-is
           (ap length w.log-is ∙ log_kept (log l) (to l) octet (in_log l) filled.new.cell filled.auto.cell) refl refl c.after-now.ensures
       | else-this-ne0 w ↦
           let filled = w.pack in
           goes_on _ _ _ _ _ _ _ _ c.requires.0 c.loop-cells.invariant c.loop-cells-test.true (first l) (second l) small indicated-is
           c.second_now-second.ensures octet-is
-          (bits_in c.args.set (part l c.args.samples.now) (part l c.args.ancillary.now) c.loop-cells.now.number
+          (bits_in (settled_as c.args.set) (part l c.args.samples.now) (part l c.args.ancillary.now) c.loop-cells.now.number
           c.second_now-second.result w.sequence_in-sequence.ensures filled.ensures)
           size (filled.auto.cell ∙ whole) w.log-is
           (ap length w.log-is ∙ log_kept (log l) (to l) octet (in_log l) filled.new.cell filled.auto.cell) refl refl c.after-now.ensures

@@ -1,6 +1,7 @@
 -- `sender::usual::fill_usual` meets its contract.
 -- Assumes nothing.
 use Rattle.std.proofs.Common.{◌<◌, length, refl, arith}
+use Rattle.formats.specs.Settings.{settled_as}
 use Rattle.sender.proofs.Filling.{filling_begun, filling_on, filling_done}
 use Rattle.sender.proofs.Filling.{small_at, put_ready, subframe_ready, in_order, guarded_number}
 use Rattle.sender.proofs.Subframes.{guard_of_24}
@@ -19,7 +20,7 @@ bounds-samples-slot c = less (goal.at.bounds-samples-slot c).In-loop-slot
 
 pub loop-slot-init : goal.loop-slot-init
 loop-slot-init c = let a = c.args in
-    filling_begun a.set a.sequence a.samples.now a.ancillary.now a.cell.now (length a.samples.now)
+    filling_begun (settled_as a.set) a.sequence a.samples.now a.ancillary.now a.cell.now (length a.samples.now)
 
 pub guarded-number-requires : goal.guarded-number-requires
 guarded-number-requires c = let given = (from (goal.at.guarded-number-requires c).In-loop-slot).requires in
@@ -36,11 +37,11 @@ loop-slot-preserved c = let s = from (goal.at.loop-slot-preserved c).In-loop-slo
     let given = s.requires in
     let a = s.args in
     let inside = less (goal.at.loop-slot-preserved c).In-loop-slot in
-    filling_on a.set a.sequence a.samples.now a.ancillary.now a.cell.now c.loop-slot.invariant inside given.2.width_is
-    (guarded_number given.0 given.2 (in_order a.set given.1) inside c.from.ensures refl c.guarded-number.ensures)
+    filling_on (settled_as a.set) a.sequence a.samples.now a.ancillary.now a.cell.now c.loop-slot.invariant inside given.2.width_is
+    (guarded_number given.0 given.2 (in_order (settled_as a.set) given.1) inside c.from.ensures refl c.guarded-number.ensures)
     c.put_four.ensures c.put_four.auto.cell
 
 pub returns : goal.returns
 returns c = let a = c.args in
-    filling_done a.set a.sequence a.samples.now a.ancillary.now a.cell.now c.loop-slot.invariant
+    filling_done (settled_as a.set) a.sequence a.samples.now a.ancillary.now a.cell.now c.loop-slot.invariant
     (omega (arith, c.requires.4, c.loop-slot-test.false))
