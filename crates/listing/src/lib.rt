@@ -12,7 +12,7 @@ pub mod lines; // lines.rt: the lines of a list
 mod parts; // parts.rt: the lines of a log's parts, and the counts
 
 // The receiver's state and the counts so far: whole records, and the three of the end line.
-#[derive(Clone, Copy)]
+#[derive(Clone, Copy, Debug, PartialEq, Eq, Hash)]
 pub struct Tally {
     pub state: Receiver,
     pub records: usize,
@@ -22,14 +22,14 @@ pub struct Tally {
 }
 
 // A list under way: where its log stands, and the counts.
-#[derive(Clone, Copy)]
+#[derive(Clone, Copy, Debug, PartialEq, Eq, Hash)]
 pub struct Listing {
     pub standing: Standing,
     pub tally: Tally,
 }
 
 // What was written for a piece, and the list to go on with.
-#[derive(Clone, Copy)]
+#[derive(Clone, Copy, Debug, PartialEq, Eq, Hash)]
 pub struct Printed {
     pub listed: Put,
     pub listing: Listing,

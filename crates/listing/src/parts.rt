@@ -15,7 +15,7 @@ use receiver::{Received, Receiver};
 use text::Put;
 
 // What was written, and the counts to go on with.
-#[derive(Clone, Copy)]
+#[derive(Clone, Copy, Debug, PartialEq, Eq, Hash)]
 pub(crate) struct Stepped {
     pub past: Put,
     pub tally: Tally,

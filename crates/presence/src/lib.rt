@@ -73,7 +73,7 @@ pub fn anything(log: &[u8]) -> Presence
 
 // What is known behind a part of a log: the receiver's state, and the answer so far. Until a record says yes its number is how
 // many whole records were read.
-#[derive(Clone, Copy)]
+#[derive(Clone, Copy, Debug, PartialEq, Eq, Hash)]
 pub struct Sought {
     pub state: Receiver,
     pub refusal: u8,
@@ -82,7 +82,7 @@ pub struct Sought {
 }
 
 // A search under way: where its log stands, and what is known.
-#[derive(Clone, Copy)]
+#[derive(Clone, Copy, Debug, PartialEq, Eq, Hash)]
 pub struct Search {
     pub standing: Standing,
     pub sought: Sought,

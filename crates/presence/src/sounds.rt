@@ -5,7 +5,7 @@ ghost use Rattle.presence.specs.Presence.{said_of};
 use receiver::Receiver;
 
 // The state to go on with, and whether there was something.
-#[derive(Clone, Copy)]
+#[derive(Clone, Copy, Debug, PartialEq, Eq, Hash)]
 pub(crate) struct Said {
     pub state: Receiver,
     pub sounds: bool,

@@ -12,7 +12,7 @@ mod parts; // parts.rt: what is written of a log's parts, and the counts
 
 // The receiver's state and what is known so far: the header's refusal (0: none), the octets of the header and of the whole records,
 // the records kept, and those left out.
-#[derive(Clone, Copy)]
+#[derive(Clone, Copy, Debug, PartialEq, Eq, Hash)]
 pub struct Tally {
     pub state: Receiver,
     pub refusal: u8,
@@ -22,7 +22,7 @@ pub struct Tally {
 }
 
 // A salvage under way: where its log stands, the octets of the log so far, and the counts.
-#[derive(Clone, Copy)]
+#[derive(Clone, Copy, Debug, PartialEq, Eq, Hash)]
 pub struct Salvaging {
     pub standing: Standing,
     pub octets: usize,
@@ -30,7 +30,7 @@ pub struct Salvaging {
 }
 
 // What was written for a piece, of the new log and of the notes, and the salvage to go on with.
-#[derive(Clone, Copy)]
+#[derive(Clone, Copy, Debug, PartialEq, Eq, Hash)]
 pub struct Wrote {
     pub saved: Put,
     pub noted: Put,

@@ -18,7 +18,7 @@ use receiver::Received;
 use text::{Put, put_all};
 
 // What was written so far, and the counts to go on with.
-#[derive(Clone, Copy)]
+#[derive(Clone, Copy, Debug, PartialEq, Eq, Hash)]
 pub(crate) struct Stepped {
     pub saved: Put,
     pub noted: Put,
