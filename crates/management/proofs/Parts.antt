@@ -1,6 +1,6 @@
 -- Laws of parts of runs, of a message brought to its length, and of octets written behind others.
 -- Assumes nothing.
-use mathlib.Core.List.{List, ◌++◌, append_assoc, append-nil}
+use mathlib.Core.List.{List, [], ◌∷◌, ◌++◌, append_assoc, append-nil}
 use mathlib.Core.Path.{◌≡◌, sym, ◌∙◌, ap}
 use Prim.Native.Nat.{ℕ, min, ◌+◌, ◌*◌, ◌-◌, ◌≤◌, ◌<◌}
 use native.Mathlib.Nat.{zero-add, add_assoc}
@@ -21,10 +21,11 @@ use lib.ListN.{
   get_or-append,
   get_or-eq_default,
 }
+use Rattle.std.specs.Int.{w16, from_be_bytes}
 use Rattle.std.proofs.lemmas.List.{take-append-le, drop-replicate, take-replicate}
 use lib.Seq.{take-length, take-append-add, ext_get_or, take_at, drop_at, take-append_seam, take-add, drop-drop, drop-append-add, get_or-append-add, get_or-take, get_or-drop, length-take-le}
 use Rattle.runs.proofs.Laws.{split, tab_is}
-use Rattle.runs.specs.Runs.{tab, over, written}
+use Rattle.runs.specs.Runs.{tab, over, written, read_on, number_of}
 use Rattle.management.specs.Ports.{octet_of, octets_from}
 use Rattle.management.specs.Tables.{brought_to}
 
@@ -93,6 +94,14 @@ brought_is n message =
     let none : n - n ≡ 0 = omega arith in
     rw (least, drop-replicate {X = ℕ} n n 0, none)
     (append-nil (take n message) ∙ sym (take-append-le n message zeros more)))
+
+-- the number that two octets make
+pub pair_number : (octets : List ℕ) → length octets ≡ 2 → from_be_bytes w16 octets ≡ number_of octets
+unfolding read_on
+pair_number [] long = absurd (omega (arith, long))
+pair_number (x ∷ []) long = absurd (omega (arith, long))
+pair_number (x ∷ (y ∷ [])) long = omega arith
+pair_number (x ∷ (y ∷ (z ∷ rest))) long = absurd (omega (arith, long))
 
 -- a part of a message brought to its length, octet by octet
 pub part_brought : (n : ℕ) (message : List ℕ) (k c : ℕ) → k + c ≤ n

@@ -4,6 +4,7 @@ ghost use Rattle.management.specs.Ports.{port_count};
 ghost use Rattle.management.specs.Controller.{configuration, status_taken, Takes};
 ghost use Rattle.management.specs.Code.{told_by, taken_to};
 
+use crate::equipment::Refused;
 use crate::octets::{brought, put_both};
 use crate::ports::{Enquiry, best_fit};
 use crate::status::{configured, recognised};
@@ -76,7 +77,7 @@ pub fn rime_controller(ports: &mut [u8], message: &[u8]) -> u8
     ensures { Takes ports.old message.now result ports.new }
 {
     if message.is_empty() {
-        return 24;
+        return Refused::Empty.into();
     }
     let octets = brought(message);
     if octets[0] == 129 && octets[1] <= 1 {

@@ -22,10 +22,10 @@ pub(crate) fn brought(message: &[u8]) -> [u8; 29]
 
 // The number that two octets make, the highest first.
 #[tactic(auto, unfolding(runs::specs::Runs::read_on))]
-pub(crate) fn number(high: u8, low: u8) -> u64
-    ensures { result ≡ number_of (high ∷ low ∷ []) }
+pub(crate) fn number(octets: [u8; 2]) -> u64
+    ensures { result ≡ number_of octets }
 {
-    u64::from(high) * 256 + u64::from(low)
+    u64::from(u16::from_be_bytes(octets))
 }
 
 // Writes octets into a lent run from a place on.

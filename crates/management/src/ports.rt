@@ -102,7 +102,7 @@ pub(crate) fn first_reference(ports: &[u8], port: usize) -> u64
     ensures { result ≡ first_reference ports.now port }
 {
     let at = port * 28;
-    number(ports[at + 6], ports[at + 7])
+    number([ports[at + 6], ports[at + 7]])
 }
 
 // A port in the format asked for that is the source of a call or, where `can_be` says so, can be.

@@ -1,5 +1,5 @@
 // The codes of a port's status, and the status message for what is asked.
-ghost use Rattle.std.specs.Prelude.{◌≡◌, ◌≤◌, length, IfSome};
+ghost use Rattle.std.specs.Prelude.{◌≡◌, ◌≤◌, ◌≢◌, length, IfSome, unwrap_or};
 ghost use Rattle.runs.specs.Runs.{over};
 ghost use Rattle.management.specs.Status.{
   configured,
@@ -92,7 +92,7 @@ fn write_output_status(ports: &[u8], asked: Enquiry, answer: &mut [u8])
 
 #[tactic(auto, unfolding(crate::specs::Code::status_length))]
 fn status_length(subsystem_code: u8) -> usize
-    ensures { result ≡ status_length subsystem_code }
+    ensures { (result ≡ status_length subsystem_code) × (2 ≤ result) }
 {
     match subsystem_code {
         0 => 9,
@@ -101,14 +101,15 @@ fn status_length(subsystem_code: u8) -> usize
     }
 }
 
-// Writes the status message for what is asked, and gives its length; 0 where the answer has no room for it, and then nothing is
+// Writes the status message for what is asked, and gives its length; none where the answer has no room for it, and then nothing is
 // written.
-pub(crate) fn write_status(ports: &[u8], asked: Enquiry, answer: &mut [u8]) -> u64
-    ensures { Replies (status_message ports.now asked) answer.old result answer.new }
+pub(crate) fn write_status(ports: &[u8], asked: Enquiry, answer: &mut [u8]) -> Option<u64>
+    ensures replies { Replies (status_message ports.now asked) answer.old (unwrap_or result 0) answer.new }
+    ensures some { IfSome result (λ octets. octets ≢ 0) }
 {
     let length = status_length(asked.subsystem_code);
     if answer.len() < length {
-        return 0;
+        return None;
     }
     if asked.subsystem_code == 0 {
         write_input_status(ports, asked, answer);
@@ -117,5 +118,5 @@ pub(crate) fn write_status(ports: &[u8], asked: Enquiry, answer: &mut [u8]) -> u
     } else {
         put(answer, 0, &[129, asked.subsystem_code]);
     }
-    length as u64
+    Some(length as u64)
 }

@@ -7,7 +7,7 @@ use Rattle.management.proofs.controller.rime_controller.Goals as goal
 use Rattle.management.proofs.controller.rime_controller.Goals.{else-octets-via-then-octets+else-octets-le1, else-octets-via-else-octets}
 
 pub returns-then-is_empty : goal.returns-then-is_empty
-returns-then-is_empty c = takes_nothing _ _ (eqb-true _ 0 (sym c.is_empty.ensures ∙ c.if-is_empty.true))
+returns-then-is_empty c = rw c.into.ensures (takes_nothing _ _ (eqb-true _ 0 (sym c.is_empty.ensures ∙ c.if-is_empty.true)))
 
 pub returns-then-octets-le1 : goal.returns-then-octets-le1
 returns-then-octets-le1 c = takes_status _ _ (eqb-false _ 0 (sym c.is_empty.ensures ∙ c.if-is_empty.false))
