@@ -4,11 +4,12 @@ ghost use Rattle.std.specs.Prelude.{◌≡◌, ◌*◌, ◌≤◌, eqb, length};
 ghost use Rattle.figures.specs.Adding.{Adds, closed_of};
 ghost use Rattle.figures.specs.Code.{capped, Fills};
 ghost use Rattle.figures.specs.Figures.{counts_of};
-ghost use Rattle.figures.specs.Sheets.{heard_in, sum_of, unlike, refused_by, Sheets};
+ghost use Rattle.figures.specs.Sheets.{heard_in, sum_of, unlike, answered, Sheets};
 ghost use Rattle.figures.specs.Taking.{start_tally, Takes};
 
 use pieces::Standing;
 use receiver::Receiver;
+use refusals::Refusal;
 
 mod damage; // damage.rt: how many samples of a cell are marked 1
 mod record; // record.rt: what the parts of a log count
@@ -43,13 +44,6 @@ pub struct Noted {
 pub struct Tally {
     pub standing: Standing,
     pub noted: Noted,
-}
-
-// The refusal (0: none), and the row of all logs together, which is zeros where it is refused.
-#[derive(Clone, Copy, Debug, PartialEq, Eq, Hash)]
-pub struct Answer {
-    pub refusal: u8,
-    pub totals: [u32; 10],
 }
 
 // The figures of a log before its first octet.
@@ -137,34 +131,25 @@ fn fill(octets: &[u8], lengths: &[u64], rows: &mut [u32]) -> Counts
     totals
 }
 
-fn refused(refusal: u8) -> Answer
-    ensures { result ≡ refused_by refusal }
-{
-    Answer {
-        refusal,
-        totals: [0; 10],
-    }
-}
-
 // One sheet over the logs that lie end to end in `octets`: a row of ten numbers for each, and one for all together. The rows are
-// held until 19 is ruled out, so that a refusal writes nothing.
-pub fn sheet(octets: &[u8], lengths: &[u64], rows: &mut [u32]) -> Answer
-    ensures { Sheets octets.now lengths.now rows.old result rows.new }
+// held until 19 is ruled out, so that a refusal writes nothing. The answer is the row of all logs together.
+#[tactic(auto, unfolding(refusals::specs::Refusals::number_of))]
+pub fn sheet(octets: &[u8], lengths: &[u64], rows: &mut [u32]) -> Result<[u32; 10], Refusal>
+    ensures { Sheets octets.now lengths.now rows.old (answered result) rows.new }
 {
     if 4096 < lengths.len() {
-        return refused(18);
+        return Err(Refusal::Logs);
     }
     if differ(octets.len(), lengths, rows.len()) {
-        return refused(5);
+        return Err(Refusal::Length);
     }
     let mut held = [0u32; 40960];
     let counts = fill(octets, lengths, &mut held);
     if sums::too_many(counts) {
-        return refused(19);
+        return Err(Refusal::Total);
     }
     rows::copy(rows, &held);
-    let totals = rows::row_of(counts);
-    Answer { refusal: 0, totals }
+    Ok(rows::row_of(counts))
 }
 
 // Adds a log that is counted to a sheet under way: its row is written at its place, where the rows go so far, and its counts are
@@ -180,12 +165,11 @@ pub fn add(rows: &mut [u32], index: usize, totals: Counts, one: Counts) -> Count
 }
 
 // The row of all logs together, when the last one is added; or 19.
-pub fn closed(totals: Counts) -> Answer
-    ensures { result ≡ closed_of totals }
+pub fn closed(totals: Counts) -> Result<[u32; 10], Refusal>
+    ensures { answered result ≡ closed_of totals }
 {
     if sums::too_many(totals) {
-        return refused(19);
+        return Err(Refusal::Total);
     }
-    let totals = rows::row_of(totals);
-    Answer { refusal: 0, totals }
+    Ok(rows::row_of(totals))
 }

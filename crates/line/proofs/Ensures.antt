@@ -75,6 +75,7 @@ use Rattle.circuits.proofs.check.Kinds as check-circuits-kinds
 use Rattle.circuits.proofs.check.Reads as check-circuits-reads
 use Rattle.circuits.proofs.plan.Kinds as plan-circuits-kinds
 use Rattle.circuits.proofs.plan.Reads as plan-circuits-reads
+use Rattle.figures.specs.Sheets.{answered}
 use Rattle.figures.proofs.sheet.Kinds as sheet-kinds
 use Rattle.figures.proofs.sheet.Reads as sheet-reads
 use Rattle.line.specs.Calls.{
@@ -267,5 +268,5 @@ pub plan_circuits_ensures : Ensured plan-circuits-kinds.ps plan-circuits-kinds.r
 plan_circuits_ensures κs a x v p = p
 
 pub sheet_ensures : Ensured sheet-kinds.ps sheet-kinds.r sheet-reads.Post
-    (λ κs a x v. MeetsSheet a.0.now a.1.0.now a.1.1.0.now x v.1.1.0)
+    (λ κs a x v. MeetsSheet a.0.now a.1.0.now a.1.1.0.now (answered x) v.1.1.0)
 sheet_ensures κs a x v p = p

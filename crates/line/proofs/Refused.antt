@@ -38,8 +38,7 @@ use Rattle.units.proofs.Demand1 as units
 use Rattle.circuits.specs.declared.Verdict.{Verdict}
 use Rattle.circuits.specs.Circuits.{refusal_of, answer_of, circuit_of, octet_refusal, check_refusal, plan_refusal_of}
 use Rattle.circuits.proofs.Demand1 as circuits
-use Rattle.figures.specs.declared.Answer.{Answer}
-use Rattle.figures.specs.Sheets.{sheet_refusal}
+use Rattle.figures.specs.Sheets.{Answer, sheet_refusal}
 use Rattle.figures.proofs.Demand1 as figures
 use Rattle.line.specs.Calls.{
   MeetsOpenSender,

@@ -31,8 +31,7 @@ use Rattle.units.specs.Back as U
 use Rattle.units.specs.Back.{ExportCall, ReadCall}
 use Rattle.circuits.specs.declared.Verdict.{Verdict}
 use Rattle.circuits.specs.Circuits.{checked_of, Plans}
-use Rattle.figures.specs.declared.Answer.{Answer}
-use Rattle.figures.specs.Sheets.{Sheets}
+use Rattle.figures.specs.Sheets.{Answer, Sheets}
 
 -- a call of `send` and what it left
 pub record SendCall : Type 0 where

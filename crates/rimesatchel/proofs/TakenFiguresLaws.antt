@@ -6,12 +6,11 @@ use Prim.Native.Nat.{ℕ, ◌≤◌}
 use lib.ListN.{length, replicate}
 use Rattle.pieces.specs.Steps.{stood_of}
 use Rattle.pieces.specs.Taken.{joined_of}
-use Rattle.figures.specs.declared.Answer.{Answer}
 use Rattle.figures.specs.declared.Counts.{Counts}
 use Rattle.figures.specs.declared.Tally.{Tally}
 use Rattle.figures.specs.Adding.{closed_of}
 use Rattle.figures.specs.Figures.{counts_of}
-use Rattle.figures.specs.Sheets.{heard_in}
+use Rattle.figures.specs.Sheets.{Answer, heard_in}
 use Rattle.figures.specs.Taking.{tally_after, tally_over, Takes}
 use Rattle.figures.proofs.Adding.{closed_capped}
 use Rattle.figures.proofs.Walks.{any_division_counts}

@@ -79,8 +79,14 @@ pub fn rime_figures_take(state: &mut [u64; 20], held: &mut [u8; 49], piece: &[u8
 pub fn rime_figures_end(state: &[u64; 20], row: &mut [u32; 10]) -> u8
     ensures { FiguresEnded state.now result row.new }
 {
-    let answer = figures::closed(tally_of(state).noted.counts);
-    let totals = answer.totals;
-    *row = totals;
-    answer.refusal
+    match figures::closed(tally_of(state).noted.counts) {
+        Ok(totals) => {
+            *row = totals;
+            0
+        }
+        Err(refusal) => {
+            *row = [0; 10];
+            refusal.into()
+        }
+    }
 }

@@ -45,7 +45,7 @@ fn print(rt: &HostRuntime, line: &[u8], whole: bool) -> bool
 
 // Writes a line of a sheet. The row of all logs together has ten numbers.
 fn print_line(rt: &HostRuntime, ended: Ended, rows: &[u32], index: usize) -> bool
-    requires { 10 ≡ length ended.answer.totals }
+    requires { 10 ≡ length ended.totals }
 {
     let mut text = [0u8; 512];
     let line = table::line(&mut text, ended, rows, index);

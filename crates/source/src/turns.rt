@@ -49,7 +49,7 @@ fn without(what: Next, left: u64) -> Turn
     }
 }
 
-// What is to be done when a read into this buffer answered `got`.
+// What is to be done when a read into this buffer answered `got`: a number, as the definition `turn_of` has it.
 #[tactic(auto, unfolding(crate::specs::Turns::turn_of, crate::specs::Turns::came_of))]
 pub fn answered(got: isize, buffer: &[u8], left: u64) -> Turn
     ensures { turned result ≡ turn_of got (length buffer.now) left }

@@ -10,7 +10,7 @@ use text::Put;
 mod lines; // lines.rt: the words of a line
 
 // What stopped it: 0 nothing, it ended well; 1 its header is refused; 2 a record is broken. Then the refusal, and how many whole
-// records are before it, which is the broken one's number.
+// records are before it, which is the broken one's number. Numbers, since `kept_at` gives back whatever numbers a lent run holds.
 #[derive(Clone, Copy, Debug, PartialEq, Eq, Hash)]
 pub struct Stop {
     pub what: u8,

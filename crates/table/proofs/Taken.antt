@@ -1,12 +1,26 @@
--- Laws of a sheet under way, over plain values: the walk along a piece.
+-- Laws of a sheet under way and of its end, over plain values: a total that is too large, and the walk along a piece.
 -- Assumes nothing.
-use Rattle.std.proofs.Common.{◌≡◌, ℕ, zero, suc, ◌+◌, ◌-◌, ◌<◌, ◌≤◌, eqb, ltb, leb, List, [], ◌∷◌, length, get_or, take, drop, sym, refl, ap, ◌∙◌, arith, length-drop, drop_of_length-le, drop-cons, drop-drop, leb-true}
+use Rattle.std.proofs.Common.{◌≡◌, ℕ, zero, suc, ◌+◌, ◌-◌, ◌<◌, ◌≤◌, eqb, ltb, leb, List, [], ◌∷◌, length, get_or, take, drop, sym, refl, ap, ◌∙◌, arith, length-drop, drop_of_length-le, drop-cons, drop-drop, leb-true, eq-eqb, ne_eqb}
 use borrow.Author.Tests.{eqb-false}
 use Rattle.runs.proofs.Laws.{split}
+use Rattle.refusals.specs.declared.Refusal.{Refusal}
+use Rattle.refusals.specs.Refusals.{number_of}
+use Rattle.refusals.proofs.Laws.{number_from}
+use Rattle.figures.specs.Adding.{closed_of}
+use Rattle.figures.specs.Sheets.{refused_by}
 use Rattle.table.specs.declared.Input.{Input}
 use Rattle.table.specs.declared.Sheet.{Sheet}
 use Rattle.table.specs.declared.logs.Step.{Step}
-use Rattle.table.specs.Taking.{goes_on_of, length_step, log_step, step_of, Stood, Steps, stepped_by, taken_from, taken_of}
+use Rattle.table.specs.Taking.{goes_on_of, length_step, log_step, step_of, last_of, Ended, refused_end, closed_end, ended_of, Stood, Steps, stepped_by, taken_from, taken_of}
+
+-- a sheet whose total is too large ends with one line
+pub ends_19 : (s : Sheet) (r : Refusal) {refusal : ℕ} {e : Ended} → last_of s.input ≡ 0 → refused_by (number_of r) ≡ closed_of s.totals
+    → refusal ≡ number_of r → e ≡ refused_end (refused_by refusal) → e ≡ ended_of s
+unfolding ended_of closed_end
+ends_19 s r none is named e =
+    e
+    ∙ ap (λ (n : ℕ). refused_end (refused_by n)) named
+    ∙ sym (rw (eq-eqb (last_of s.input) 0 none, ← is, ne_eqb (number_of r) 0 (λ zero. omega (arith, zero, number_from r))))
 
 -- how many octets a step takes: one at least, and no more than there are
 length_used : (i : Input) (octet : ℕ) → ((length_step i octet).used ≡ 1) × ((length_step i octet).octets ≡ 0)

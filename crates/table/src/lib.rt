@@ -3,9 +3,10 @@
 // stands after its length. When all are taken, the table's lines are written one by one into a lent run.
 ghost use Rattle.std.specs.Prelude.{◌≡◌, ◌==◌};
 ghost use Rattle.table.specs.Table.{Prints};
-ghost use Rattle.table.specs.Taking.{start_of, opened_of, refused_end, ended_of, line_of, EndsLog, Steps, Takes};
+ghost use Rattle.figures.specs.Sheets.{refused_by};
+ghost use Rattle.table.specs.Taking.{start_of, opened_of, end_as, refused_end, ended_of, line_of, EndsLog, Steps, Takes};
 
-use figures::{Answer, Counts, Tally};
+use figures::{Counts, Tally};
 use logs::Step;
 use text::Put;
 
@@ -31,10 +32,11 @@ pub struct Sheet {
     pub totals: Counts,
 }
 
-// A sheet at its end: its refusal and the row of all logs together, how many logs, and how many lines.
+// A sheet at its end: its refusal (0: none) and the row of all logs together, how many logs, and how many lines.
 #[derive(Clone, Copy, Debug, PartialEq, Eq, Hash)]
 pub struct Ended {
-    pub answer: Answer,
+    pub refusal: u8,
+    pub totals: [u32; 10],
     pub logs: usize,
     pub lines: usize,
 }
@@ -136,11 +138,12 @@ pub fn take(
     going
 }
 
-fn refused(answer: Answer) -> Ended
-    ensures { result ≡ refused_end answer }
+fn refused(refusal: u8) -> Ended
+    ensures { end_as result ≡ refused_end (refused_by refusal) }
 {
     Ended {
-        answer,
+        refusal,
+        totals: [0; 10],
         logs: 0,
         lines: 1,
     }
@@ -149,35 +152,31 @@ fn refused(answer: Answer) -> Ended
 // A sheet whose logs end here. 5 where standard input ends within a length or a log; then 19.
 #[tactic(auto, unfolding(crate::specs::Taking::ended_of, crate::specs::Taking::closed_end))]
 pub fn end(sheet: Sheet) -> Ended
-    ensures { result ≡ ended_of sheet }
+    ensures { end_as result ≡ ended_of sheet }
 {
     let refusal = logs::last(sheet.input);
     if refusal != 0 {
-        return refused(Answer {
-            refusal,
-            totals: [0; 10],
-        });
-    }
-    let answer = figures::closed(sheet.totals);
-    if answer.refusal != 0 {
-        return refused(answer);
+        return refused(refusal);
     }
     let logs = sheet.input.logs;
-    Ended {
-        answer,
-        logs,
-        lines: logs.wrapping_add(2),
+    match figures::closed(sheet.totals) {
+        Ok(totals) => Ended {
+            refusal: 0,
+            totals,
+            logs,
+            lines: logs.wrapping_add(2),
+        },
+        Err(refusal) => refused(refusal.into()),
     }
 }
 
 // Writes a line of the table, counted from 0: the names, the logs, all together; or the one line of a sheet that is refused.
 #[tactic(auto, unfolding(crate::specs::Taking::line_of))]
 pub fn line(run: &mut [u8], ended: Ended, rows: &[u32], index: usize) -> Put
-    ensures { Prints run.old result run.new (line_of ended rows.now index) }
+    ensures { Prints run.old result run.new (line_of (end_as ended) rows.now index) }
 {
-    let answer = ended.answer;
-    if answer.refusal != 0 {
-        return lines::refused_line(run, answer.refusal);
+    if ended.refusal != 0 {
+        return lines::refused_line(run, ended.refusal);
     }
     if index == 0 {
         return lines::names_line(run);
@@ -185,5 +184,5 @@ pub fn line(run: &mut [u8], ended: Ended, rows: &[u32], index: usize) -> Put
     if index <= ended.logs {
         return lines::log_line(run, rows, index - 1);
     }
-    lines::all_line(run, &answer.totals)
+    lines::all_line(run, &ended.totals)
 }
