@@ -25,6 +25,7 @@ mod ahead; // ahead.rt: how many whole records lie ahead
 // Where a log stands. Its stage: 0 in the header, 1 among the records, 2 the header is refused, 3 a record is broken; the
 // refusal, 0 before that; how many octets are held; how many octets the limit leaves, in the header those of the whole log;
 // how many records were handed out.
+// The stage and the refusal stay numbers: a standing that comes from C has any octet for each, and the calls give it back (`ListTaken`).
 #[derive(Clone, Copy, Debug, PartialEq, Eq, Hash)]
 pub struct Standing {
     pub stage: u8,

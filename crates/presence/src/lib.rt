@@ -1,9 +1,6 @@
 #![tactic(auto)]
 // Is there anything on it at all? Request 7: whether a log holds a sample marked 0 that isn't zero, and in which record first.
-ghost use Rattle.std.specs.Prelude.{◌≡◌, true, false, ◌++◌};
-ghost use Rattle.text.specs.Put.{Puts};
-ghost use Rattle.text.specs.Text.{item};
-ghost use Rattle.text.specs.Words.{words};
+ghost use Rattle.std.specs.Prelude.{◌≡◌, true, false};
 ghost use Rattle.presence.specs.Line.{Writes};
 ghost use Rattle.presence.specs.Presence.{presence_of, read_from};
 ghost use Rattle.presence.specs.Taking.{search_start, reads_on, Takes, answer_at_end};
@@ -18,6 +15,7 @@ mod sounds; // sounds.rt: what one record says
 
 // The refusal of the header (0: none); whether there is a sample marked 0 that isn't zero; for a yes the first record with one,
 // counted from 0, for a no how many whole records were read. All else is zero where the header is refused.
+// The refusal stays a number: a search that comes from C has any octet for it, and `SearchEnded` gives it back.
 #[derive(Clone, Copy, Debug, PartialEq, Eq, Hash)]
 pub struct Presence {
     pub refusal: u8,
@@ -146,29 +144,20 @@ pub fn end(search: Search, held: [u8; 49]) -> Presence
     }
 }
 
-// A line of words and a number.
-fn number_line(run: &mut [u8], begins: &[u8], n: usize) -> Put
-    ensures { Puts run.old (record { octets = 0; whole = true }) run.new result
-        (item begins.now n ++ words "\n") }
-{
-    let start = Put {
-        octets: 0,
-        whole: true,
-    };
-    let past = text::put_item(run, start, begins, n);
-    text::put_all(run, past, b"\n")
-}
-
 // Writes the answer's line into the run, from its start, as far as it goes: `yes K`, `no N` or `log refused r`. What is past it
 // stays.
 pub fn put_line(presence: Presence, run: &mut [u8]) -> Put
     ensures { Writes presence run.old result run.new }
 {
+    let start = Put {
+        octets: 0,
+        whole: true,
+    };
     if presence.refusal != 0 {
-        return number_line(run, b"log refused ", presence.refusal as usize);
+        return text::put_line(run, start, b"log refused ", presence.refusal as usize);
     }
     if presence.found {
-        return number_line(run, b"yes ", presence.number);
+        return text::put_line(run, start, b"yes ", presence.number);
     }
-    number_line(run, b"no ", presence.number)
+    text::put_line(run, start, b"no ", presence.number)
 }

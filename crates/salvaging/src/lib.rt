@@ -11,7 +11,7 @@ mod lines; // lines.rt: the lines that are said
 mod parts; // parts.rt: what is written of a log's parts, and the counts
 
 // The receiver's state and what is known so far: the header's refusal (0: none), the octets of the header and of the whole records,
-// the records kept, and those left out.
+// the records kept, and those left out. The refusal stays a number: counts that come from C have any octet for it (`SalvageTaken`).
 #[derive(Clone, Copy, Debug, PartialEq, Eq, Hash)]
 pub struct Tally {
     pub state: Receiver,

@@ -1,7 +1,7 @@
 #![tactic(auto)]
 // Text for programs: words and decimal numbers put one after the other into a lent run, as far as it goes. What no longer fits is left
 // out, and the answer says so.
-ghost use Rattle.std.specs.Prelude.{[], ◌∷◌, ◌≡◌, ◌+◌, ◌%◌};
+ghost use Rattle.std.specs.Prelude.{[], ◌∷◌, ◌++◌, ◌≡◌, ◌+◌, ◌%◌};
 ghost use Rattle.text.specs.Put.{Puts};
 ghost use Rattle.text.specs.Text.{decimal, item};
 
@@ -83,4 +83,12 @@ pub fn put_item(run: &mut [u8], at: Put, words: &[u8], n: usize) -> Put
 {
     let past = put_all(run, at, words);
     put_number(run, past, n)
+}
+
+// Puts words, a number behind them, and the line's end.
+pub fn put_line(run: &mut [u8], at: Put, words: &[u8], n: usize) -> Put
+    ensures { Puts run.old at run.new result (item words.now n ++ (10 ∷ [])) }
+{
+    let past = put_item(run, at, words, n);
+    put_all(run, past, b"\n")
 }

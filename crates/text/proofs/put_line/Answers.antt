@@ -1,7 +1,7 @@
--- `presence::number_line` meets its contract: its parts are put one after the other.
+-- `text::put_line` meets its contract.
 -- Assumes nothing.
 use Rattle.text.proofs.Laws.{puts_then}
-use Rattle.presence.proofs.number_line.Goals as goal
+use Rattle.text.proofs.put_line.Goals as goal
 
 pub returns : goal.returns
 returns c = puts_then c.put_item-past.ensures c.put_all.ensures
