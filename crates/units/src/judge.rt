@@ -1,10 +1,12 @@
 // What an export and a reading refuse, in the request's order.
 ghost use Rattle.std.specs.Prelude.{◌≡◌, ◌≤◌, length};
+ghost use Rattle.refusals.specs.Refusals.{refused_by};
 ghost use Rattle.formats.specs.Settings.{settled_as, settings_of};
 ghost use Rattle.sender.specs.Packing.{Unites};
 ghost use Rattle.units.specs.Units.{runs_refused, values_refused, export_refusal, unit_refused, read_refusal};
 
 use formats::{Format, Layout};
+use refusals::Refusal;
 
 // The bits that any sample has, and those that any ancillary number has: they are below a power of two just where all the numbers
 // are.
@@ -51,7 +53,7 @@ fn runs_refused(channels: usize, samples: usize, ancillary: usize) -> bool
 }
 
 // All checks of an export, by the settings of its octet and C; `room` is how many octets are lent.
-pub(crate) fn export_refusal(
+pub(crate) fn checked_export(
     octet: u32,
     channels: u32,
     set: Layout,
@@ -59,27 +61,27 @@ pub(crate) fn export_refusal(
     samples: &[u64],
     ancillary: &[u8],
     room: usize,
-) -> u8
+) -> Result<(), Refusal>
     requires { settled_as set ≡ settings_of octet channels 0 }
-    ensures { result ≡ export_refusal octet channels size samples.now ancillary.now room }
+    ensures { refused_by result ≡ export_refusal octet channels size samples.now ancillary.now room }
 {
     if runs_refused(set.channels, samples.len(), ancillary.len()) {
-        return 5;
+        return Err(Refusal::Length);
     }
     let format = set.format;
     if values_refused(format, samples, ancillary) {
-        return 6;
+        return Err(Refusal::Sample);
     }
     if format.overhead_bits != 0 {
-        return 26;
+        return Err(Refusal::Overhead);
     }
     if size < set.channels * format.width {
-        return 27;
+        return Err(Refusal::UnitSize);
     }
     if room < samples.len() * format.width {
-        return 28;
+        return Err(Refusal::UnitRoom);
     }
-    0
+    Ok(())
 }
 
 // Check 5 of a reading.
@@ -92,26 +94,26 @@ fn unit_refused(frame: usize, unit: usize, samples: usize, ancillary: usize) -> 
 }
 
 // All checks of a reading, by the settings of its octet and C; the unit and the runs are told by their lengths.
-pub(crate) fn read_refusal(
+pub(crate) fn checked_read(
     octet: u32,
     channels: u32,
     set: Layout,
     unit: usize,
     samples: usize,
     ancillary: usize,
-) -> u8
+) -> Result<(), Refusal>
     requires { settled_as set ≡ settings_of octet channels 0 }
-    ensures { result ≡ read_refusal octet channels unit samples ancillary }
+    ensures { refused_by result ≡ read_refusal octet channels unit samples ancillary }
 {
     let format = set.format;
     if unit_refused(set.channels * format.width, unit, samples, ancillary) {
-        return 5;
+        return Err(Refusal::Length);
     }
     if format.overhead_bits != 0 {
-        return 26;
+        return Err(Refusal::Overhead);
     }
     if samples < unit / format.width {
-        return 28;
+        return Err(Refusal::UnitRoom);
     }
-    0
+    Ok(())
 }

@@ -62,9 +62,16 @@ pub fn export_units(
         Ok(set) => set,
         Err(refusal) => return not_exported(refusal.into()),
     };
-    let refusal = judge::export_refusal(octet, channels, set, size, samples, ancillary, out.len());
-    if refusal != 0 {
-        return not_exported(refusal);
+    if let Err(refusal) = judge::checked_export(
+        octet,
+        channels,
+        set,
+        size,
+        samples,
+        ancillary,
+        out.len(),
+    ) {
+        return not_exported(refusal.into());
     }
     let width = set.format.width;
     let frame = set.channels * width;
@@ -99,17 +106,16 @@ pub fn read_unit(
             };
         }
     };
-    let refusal = judge::read_refusal(
+    if let Err(refusal) = judge::checked_read(
         octet,
         channels,
         set,
         unit.len(),
         samples.len(),
         ancillary.len(),
-    );
-    if refusal != 0 {
+    ) {
         return Entered {
-            refusal,
+            refusal: refusal.into(),
             entries: 0,
         };
     }

@@ -6,12 +6,15 @@ ghost use Rattle.std.specs.Prelude.{◌++◌, ◌≡◌, ◌+◌, ◌*◌, ◌%�
 ghost use Rattle.runs.specs.Runs.{octets_of};
 ghost use Rattle.units.specs.Code.{packed, Packable};
 
-// Writes a number's octets, the highest first.
+// Writes a number's octets, the highest first. One by one: copied from `to_be_bytes` those of a format of two octets or four take up to
+// a sixth more instructions.
 fn put(out: &mut [u8], at: usize, width: usize, number: u64)
     requires { (at + width ≤ length out.old) × (width ≤ 6) }
     ensures { out.new ≡ take at out.old ++ octets_of width number ++ drop (at + width) out.old }
 {
-    out[at..at + width].copy_from_slice(&number.to_be_bytes()[8 - width..]);
+    for i in 0..width {
+        out[at + i] = ((number >> (8 * (width - 1 - i))) % 256) as u8;
+    }
 }
 
 // Writes the subframe of each entry.

@@ -8,7 +8,7 @@ use Rattle.management.proofs.packing.rime_port_settings.Goals as goal
 pub returns-in-Err : goal.returns-in-Err
 returns-in-Err c =
     rw c.into.ensures
-    (sets_refused _ c.wide-format.ensures.0 c.wide-packing.ensures.0 c.in-Err.ensures (number_not_0 c.in-Err.refusal))
+    (sets_refused _ c.from-format.ensures c.from-packing.ensures c.in-Err.ensures (number_not_0 c.in-Err.refusal))
 
 pub returns : goal.returns
-returns c = sets_settled _ c.wide-format.ensures.0 c.wide-packing.ensures.0 c.in_default.ensures refl
+returns c = sets_settled _ c.from-format.ensures c.from-packing.ensures c.in_default.ensures refl

@@ -33,8 +33,9 @@ small c = omega (arith, octet_is c, (c.type_inv.unit (c.args.at + c.loop-octet.o
 pub overflow_add-number : goal.overflow_add-number
 overflow_add-number c = record {
   fits = omega (
-    arith, small c,
-    reading_fits c.args.unit.now c.args.at c.loop-octet.invariant (omega (arith, less (goal.at.overflow_add-number c).In-loop-octet, c.requires.1))
+    arith,
+    small c,
+    reading_fits c.args.unit.now c.args.at c.loop-octet.invariant (omega (arith, less (goal.at.overflow_add-number c).In-loop-octet, c.requires.1)),
   );
 }
 

@@ -1,4 +1,4 @@
--- `units::judge::export_refusal` meets its contract: each way out by the check that it goes by.
+-- `units::judge::checked_export` meets its contract: each way out by the check that it goes by.
 -- Assumes nothing.
 use mathlib.Core.Bool.{false}
 use mathlib.Core.Path.{◌≡◌, refl, sym, ◌∙◌}
@@ -6,10 +6,11 @@ use native.Mathlib.Omega.{arith}
 use lib.ListN.{length}
 use Rattle.formats.specs.Settings.{settled_as}
 use Rattle.formats.specs.Sound.{Limits}
+use Rattle.refusals.specs.Refusals.{number_of, refused_by}
 use Rattle.units.specs.Units.{runs_refused, values_refused}
 use Rattle.units.proofs.Laws.{runs_are, frame_small, subframes_fit, export_limits, exports_5, exports_6, exports_26, exports_27, exports_28, exports_0}
-use Rattle.units.proofs.judge.export_refusal.Goals as goal
-use Rattle.units.proofs.judge.export_refusal.Goals.{Else-format-ne0, Else-runs_refused, Else-size-set, Else-values_refused, Start}
+use Rattle.units.proofs.judge.checked_export.Goals as goal
+use Rattle.units.proofs.judge.checked_export.Goals.{Else-format-ne0, Else-runs_refused, Else-size-set, Else-values_refused, Start}
 
 -- the way back from the checks that passed
 abbrev from_2 : Else-runs_refused → Start
@@ -47,6 +48,7 @@ pub runs_refused-requires : goal.runs_refused-requires
 runs_refused-requires c = (bounds (goal.at.runs_refused-requires c).Start).channels_from
 
 pub returns-then-runs_refused : goal.returns-then-runs_refused
+unfolding refused_by number_of
 returns-then-runs_refused c = let s = (goal.at.returns-then-runs_refused c).Start in
     let a = s.args in
     exports_5 a.octet a.channels a.size a.samples.now a.ancillary.now a.room s.requires refl
@@ -59,12 +61,14 @@ values_refused-requires c = let a = (from_2 (goal.at.values_refused-requires c).
     (limits.sample_to, limits.ancillary_to, long.0)
 
 pub returns-then-values_refused : goal.returns-then-values_refused
+unfolding refused_by number_of
 returns-then-values_refused c = let s = from_2 (goal.at.returns-then-values_refused c).Else-runs_refused in
     let a = s.args in
     exports_6 a.octet a.channels a.size a.samples.now a.ancillary.now a.room s.requires refl (even (goal.at.returns-then-values_refused c).Else-runs_refused)
     (sym c.if-values_refused.true ∙ c.values_refused.ensures)
 
 pub returns-then-format-ne0 : goal.returns-then-format-ne0
+unfolding refused_by number_of
 returns-then-format-ne0 c = let s = start (goal.at.returns-then-format-ne0 c).Else-values_refused in
     let a = s.args in
     exports_26 a.octet a.channels a.size a.samples.now a.ancillary.now a.room s.requires
@@ -74,6 +78,7 @@ pub overflow_mul-set : goal.overflow_mul-set
 overflow_mul-set c = omega (arith, frame_small (bounds (from_2 (from_3 (from_4 (goal.at.overflow_mul-set c).Else-format-ne0)))))
 
 pub returns-then-size-set : goal.returns-then-size-set
+unfolding refused_by number_of
 returns-then-size-set c = let here = from_4 (goal.at.returns-then-size-set c).Else-format-ne0 in
     let s = start here in
     let a = s.args in
@@ -91,6 +96,7 @@ overflow_mul-samples c = let here = from_4 (from_5 (goal.at.overflow_mul-samples
     }
 
 pub returns-then-room-samples : goal.returns-then-room-samples
+unfolding refused_by number_of
 returns-then-room-samples c = let last = from_5 (goal.at.returns-then-room-samples c).Else-size-set in
     let here = from_4 last in
     let s = start here in
@@ -99,6 +105,7 @@ returns-then-room-samples c = let last = from_5 (goal.at.returns-then-room-sampl
     refl (even (from_3 here)) (small here) c.if-format-ne0.false c.if-size-set.false c.if-room-samples.true
 
 pub returns : goal.returns
+unfolding refused_by number_of
 returns c = let last = from_5 (goal.at.returns c).Else-size-set in
     let here = from_4 last in
     let s = start here in
