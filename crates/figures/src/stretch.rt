@@ -89,16 +89,10 @@ fn each(set: Layout, state: Receiver, octets: &[u8], place: usize, records: usiz
 fn is_bare(set: Layout, state: Receiver, records: usize) -> bool
     ensures { result ≡ true → Bare (settled_as set) state records }
 {
-    if set.format.overhead_bits != 0 {
-        return false;
-    }
-    if !state.started {
-        return false;
-    }
-    if state.last != 0 {
-        return false;
-    }
-    records as u64 <= 4294967295 - state.count as u64
+    set.format.overhead_bits == 0
+        && state.started
+        && state.last == 0
+        && records as u64 <= 4294967295 - state.count as u64
 }
 
 // What such cells count.

@@ -35,13 +35,7 @@ fn begins_with(format: Format, cell: &[u8], sequence: u64) -> bool
 fn waits(set: Layout, state: Receiver) -> bool
     ensures { result ≡ true → Waits (settled_as set) state }
 {
-    if !state.started {
-        return false;
-    }
-    if 15 < state.last {
-        return false;
-    }
-    state.count < 4294967295
+    state.started && state.last <= 15 && state.count < 4294967295
 }
 
 // Whether a cell without the indication is the one that comes next.
