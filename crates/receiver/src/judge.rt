@@ -43,7 +43,8 @@ fn lengths_refused(cell: usize, samples: usize, ancillary: usize, marks: usize) 
 }
 
 // Checks 1 to 5, by the settings of the state; the cell and the runs are told by their lengths. 0 where they refuse nothing.
-pub(crate) fn early_refusal(
+#[inline(always)]
+fn early_refusal(
     set: Layout,
     state: Receiver,
     cell: usize,
@@ -137,7 +138,7 @@ fn taken(
 
 // Checks 8, 15, 9, 20 and 10 where the earlier ones refuse nothing, and the answer. `found` is the cell's number, which is 0 where the
 // format has no overhead, so that 15 is never given there. `samples` is how long each run is.
-pub(crate) fn judged(
+fn judged(
     set: Layout,
     state: Receiver,
     found: Option<u8>,
@@ -164,4 +165,27 @@ pub(crate) fn judged(
     }
     let count = state.count + gap as u32;
     taken(state, gap - 1, number, second, indication, count)
+}
+
+// What a call is answered, all checks in their turn, by the settings of the state; each run is told by its length. It is compiled into
+// each call, since the usual call's settings are constants.
+#[inline(always)]
+pub(crate) fn answered(
+    set: Layout,
+    state: Receiver,
+    cell: &[u8],
+    indication: bool,
+    samples: usize,
+    ancillary: usize,
+    marks: usize,
+) -> Received
+    requires { settled_as set ≡ settings_of state.format state.channels state.order }
+    ensures { result ≡ received_of state cell.now indication samples ancillary marks }
+{
+    let early = early_refusal(set, state, cell.len(), samples, ancillary, marks);
+    if early != 0 {
+        return refused(early, state);
+    }
+    let found = bits::found_now(set.format, cell);
+    judged(set, state, found, cell, indication, samples)
 }

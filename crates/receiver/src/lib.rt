@@ -96,19 +96,15 @@ fn receive_any(
         Ok(set) => set,
         Err(refusal) => return judge::refused(refusal.into(), state),
     };
-    let early = judge::early_refusal(
+    let answer = judge::answered(
         set,
         state,
-        cell.len(),
+        cell,
+        indication,
         samples.len(),
         ancillary.len(),
         marks.len(),
     );
-    if early != 0 {
-        return judge::refused(early, state);
-    }
-    let found = bits::found_now(set.format, cell);
-    let answer = judge::judged(set, state, found, cell, indication, samples.len());
     if answer.refusal != 0 {
         return answer;
     }
@@ -148,12 +144,7 @@ fn judged_any(state: Receiver, cell: &[u8], indication: bool) -> Received
         Ok(set) => set,
         Err(refusal) => return judge::refused(refusal.into(), state),
     };
-    let early = judge::early_refusal(set, state, cell.len(), 720, 720, 720);
-    if early != 0 {
-        return judge::refused(early, state);
-    }
-    let found = bits::found_now(set.format, cell);
-    judge::judged(set, state, found, cell, indication, 720)
+    judge::answered(set, state, cell, indication, 720, 720, 720)
 }
 
 // What `receive` answers to a cell with room for all that one call can write, fifteen cells of up to 48 entries: so refusal 10 is

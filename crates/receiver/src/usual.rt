@@ -5,7 +5,7 @@ ghost use Rattle.formats.specs.Code.{is_usual};
 ghost use Rattle.receiver.specs.Receiver.{judged_of, Receives};
 ghost use Rattle.receiver.specs.Unpacking.{Unpacks, Fills, Room, Enters, straight};
 
-use crate::{Received, Receiver, bits, entries, judge, octets};
+use crate::{Received, Receiver, entries, judge, octets};
 
 // Writes one entry to the three runs: a subframe with overhead, and the marks of its sample bits with each five low bits.
 fn enter(
@@ -64,19 +64,15 @@ pub(crate) fn receive(
     ensures { Receives state cell.now indication samples.old ancillary.old marks.old result samples.new ancillary.new marks.new }
 {
     let set = formats::usual(state.channels == 2);
-    let early = judge::early_refusal(
+    let answer = judge::answered(
         set,
         state,
-        cell.len(),
+        cell,
+        indication,
         samples.len(),
         ancillary.len(),
         marks.len(),
     );
-    if early != 0 {
-        return judge::refused(early, state);
-    }
-    let found = bits::found_now(set.format, cell);
-    let answer = judge::judged(set, state, found, cell, indication, samples.len());
     if answer.refusal != 0 {
         return answer;
     }
@@ -91,10 +87,5 @@ pub(crate) fn judged(state: Receiver, cell: &[u8], indication: bool) -> Received
     ensures { result ≡ judged_of state cell.now indication }
 {
     let set = formats::usual(state.channels == 2);
-    let early = judge::early_refusal(set, state, cell.len(), 720, 720, 720);
-    if early != 0 {
-        return judge::refused(early, state);
-    }
-    let found = bits::found_now(set.format, cell);
-    judge::judged(set, state, found, cell, indication, 720)
+    judge::answered(set, state, cell, indication, 720, 720, 720)
 }
