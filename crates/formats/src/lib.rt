@@ -123,6 +123,7 @@ fn checked(slots: usize, channels: u32, order: u32) -> Result<(), Refusal>
 }
 
 // Checks 1 to 3: the refusal, or what they settle.
+#[inline(always)]
 pub fn settings(octet: u32, channels: u32, order: u32) -> Result<Layout, Refusal>
     ensures { answered result ≡ settings_of octet channels order }
 {
