@@ -2,11 +2,13 @@
 ghost use Rattle.std.specs.Prelude.{true, false, ◌||◌, List, ◌≡◌, ℕ, length};
 ghost use Rattle.formats.specs.Formats.{format_of};
 ghost use Rattle.formats.specs.Settings.{settled_as, settings_of};
+ghost use Rattle.refusals.specs.Refusals as Refusals;
 ghost use Rattle.receiver.specs.Receiver.{last_refused, count_refused, lengths_refused, found_now, number_now, gap_of, received_of};
 ghost use Rattle.receiver.specs.Unpacking.{early_refusal, late_refusal, refused_by, taken_as};
 
 use crate::{Received, Receiver, bits};
 use formats::{Format, Layout};
+use refusals::Refusal;
 
 // Check 4 of the last number.
 #[tactic(auto, unfolding(crate::specs::Receiver::last_refused))]
@@ -42,26 +44,26 @@ fn lengths_refused(cell: usize, samples: usize, ancillary: usize, marks: usize) 
     cell != 48 || ancillary != samples || marks != samples
 }
 
-// Checks 1 to 5, by the settings of the state; the cell and the runs are told by their lengths. 0 where they refuse nothing.
+// Checks 1 to 5, of which the settings of the state passed 1 to 3; the cell and the runs are told by their lengths.
 #[inline(always)]
-fn early_refusal(
+fn check_early(
     set: Layout,
     state: Receiver,
     cell: usize,
     samples: usize,
     ancillary: usize,
     marks: usize,
-) -> u8
+) -> Result<(), Refusal>
     requires { settled_as set ≡ settings_of state.format state.channels state.order }
-    ensures { result ≡ early_refusal state cell samples ancillary marks }
+    ensures { Refusals.refused_by result ≡ early_refusal state cell samples ancillary marks }
 {
     if numbers_refused(set.format, state) {
-        return 4;
+        return Err(Refusal::State);
     }
     if lengths_refused(cell, samples, ancillary, marks) {
-        return 5;
+        return Err(Refusal::Length);
     }
-    0
+    Ok(())
 }
 
 // d: how many cells on from the last one the cell with this number is.
@@ -76,30 +78,29 @@ fn gap_now(format: Format, state: Receiver, number: u8) -> u8
     numbers::difference(number, state.last)
 }
 
-// Checks 9, 20 and 10: d, the count so far, how long each run is, and how long it has to be. 0 where they refuse nothing. One answer
-// is made of all three in `judged`, which else is too long to be compiled into both ways.
-#[tactic(auto, unfolding(crate::specs::Unpacking::late_refusal))]
-fn late_refusal(gap: u8, count: u32, samples: usize, needed: usize) -> u8
-    ensures { result ≡ late_refusal gap count samples needed }
+// Checks 9, 20 and 10: d, the count so far, how long each run is, and how long it has to be.
+#[tactic(auto, unfolding(crate::specs::Unpacking::late_refusal, refusals::specs::Refusals::refused_by, refusals::specs::Refusals::number_of))]
+fn check_late(gap: u8, count: u32, samples: usize, needed: usize) -> Result<(), Refusal>
+    ensures { Refusals.refused_by result ≡ late_refusal gap count samples needed }
 {
     if gap == 0 {
-        return 9;
+        return Err(Refusal::Repeat);
     }
     if 4294967295 < count as u64 + gap as u64 {
-        return 20;
+        return Err(Refusal::Count);
     }
     if samples < needed {
-        return 10;
+        return Err(Refusal::Room);
     }
-    0
+    Ok(())
 }
 
 // The answer to a refused call: the state as it came, and zeros.
-pub(crate) fn refused(refusal: u8, state: Receiver) -> Received
-    ensures { result ≡ refused_by refusal state }
+pub(crate) fn refused(refusal: Refusal, state: Receiver) -> Received
+    ensures { result ≡ refused_by (Refusals.number_of refusal) state }
 {
     Received {
-        refusal,
+        refusal: refusal.into(),
         state,
         missing: 0,
         number: 0,
@@ -150,17 +151,16 @@ fn judged(
     ensures { result ≡ received_of state cell.now indication samples samples samples }
 {
     let Some(number) = found else {
-        return refused(8, state);
+        return refused(Refusal::Number, state);
     };
     if numbers::indication_refused(number, indication) {
-        return refused(15, state);
+        return refused(Refusal::Indicated, state);
     }
     let gap = gap_now(set.format, state, number);
     // read before the last checks, which takes fewer instructions
     let second = bits::second_now(set.format, cell);
     let needed = gap as usize * (set.channels * set.times);
-    let refusal = late_refusal(gap, state.count, samples, needed);
-    if refusal != 0 {
+    if let Err(refusal) = check_late(gap, state.count, samples, needed) {
         return refused(refusal, state);
     }
     let count = state.count + gap as u32;
@@ -182,9 +182,8 @@ pub(crate) fn answered(
     requires { settled_as set ≡ settings_of state.format state.channels state.order }
     ensures { result ≡ received_of state cell.now indication samples ancillary marks }
 {
-    let early = early_refusal(set, state, cell.len(), samples, ancillary, marks);
-    if early != 0 {
-        return refused(early, state);
+    if let Err(refusal) = check_early(set, state, cell.len(), samples, ancillary, marks) {
+        return refused(refusal, state);
     }
     let found = bits::found_now(set.format, cell);
     judged(set, state, found, cell, indication, samples)

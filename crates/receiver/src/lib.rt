@@ -94,7 +94,7 @@ fn receive_any(
         state.order as u32,
     ) {
         Ok(set) => set,
-        Err(refusal) => return judge::refused(refusal.into(), state),
+        Err(refusal) => return judge::refused(refusal, state),
     };
     let answer = judge::answered(
         set,
@@ -142,7 +142,7 @@ fn judged_any(state: Receiver, cell: &[u8], indication: bool) -> Received
         state.order as u32,
     ) {
         Ok(set) => set,
-        Err(refusal) => return judge::refused(refusal.into(), state),
+        Err(refusal) => return judge::refused(refusal, state),
     };
     judge::answered(set, state, cell, indication, 720, 720, 720)
 }

@@ -10,7 +10,7 @@ pub returns-in-Err : goal.returns-in-Err
 unfolding judged_of
 returns-in-Err c =
     let some = number_not_0 c.in-Err.refusal in
-    rw (c.refused.ensures, c.into.ensures)
+    rw c.refused.ensures
     (answer_early c.args.state c.args.cell.now c.args.indication 720 720 720 some
     (early_settings c.args.state c.in-Err.ensures (length c.args.cell.now) 720 720 720 some))
 

@@ -24,7 +24,7 @@ pub returns-in-Err : goal.returns-in-Err
 returns-in-Err c =
     let k = call (goal.at.returns-in-Err c).Start in
     let some = number_not_0 c.in-Err.refusal in
-    rw (c.refused.ensures, c.into.ensures)
+    rw c.refused.ensures
     (judged_refused k
     (answer_early k.state k.cell k.indication _ _ _ some
     (early_settings k.state c.in-Err.ensures (length k.cell) (length k.samples) (length k.ancillary) (length k.marks) some))
