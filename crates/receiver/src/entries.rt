@@ -40,7 +40,8 @@ fn fill<T: Copy>(run: &mut [T], value: T)
     }
 }
 
-// Writes `missing` entries of zero with mark 2 to the three runs.
+// Writes `missing` entries of zero with mark 2 to the three runs. These stay three parameters here and below: one struct that lends them
+// is no plainer, since each contract would have to say that it still lends the same slices, of the same lengths.
 pub(crate) fn missing_entries(
     missing: usize,
     samples: &mut [u64],
