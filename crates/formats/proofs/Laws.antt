@@ -243,25 +243,9 @@ found_some {f} octet found = go (listed_or_not octet)
         record { is = is; some = λ e. omega (arith, rw is at e, (sound_format octet h).slots_from) }
     go (inr h) = let none : Some f ≡ None = rw h at found in cc
 
--- checks 1 to 3 by S, one after the other
-module _ (slots channels order : ℕ) where
-  pub by_1 : slots ≡ 0 → 1 ≡ refusal_by slots channels order
-  by_1 none = rw (eq-eqb slots 0 none)
-
-  module _ (some : slots ≡ 0 → ⊥) where
-    pub by_2 : channels ≡ 0 → 2 ≡ refusal_by slots channels order
-    by_2 none = rw (ne_eqb slots 0 some, eq-eqb channels 0 none)
-
-    module _ (any : channels ≡ 0 → ⊥) where
-      pub by_2_above : slots < channels → 2 ≡ refusal_by slots channels order
-      by_2_above many = rw (ne_eqb slots 0 some, ne_eqb channels 0 any, lt-ltb slots channels many)
-
-      module _ (fit : channels ≤ slots) where
-        pub by_3 : 1 < order → 3 ≡ refusal_by slots channels order
-        by_3 above = rw (ne_eqb slots 0 some, ne_eqb channels 0 any, le-ltb slots channels fit, lt-ltb 1 order above)
-
-        pub by_no : order ≤ 1 → 0 ≡ refusal_by slots channels order
-        by_no within = rw (ne_eqb slots 0 some, ne_eqb channels 0 any, le-ltb slots channels fit, le-ltb 1 order within)
+-- check 1 by S
+pub by_1 : (slots channels order : ℕ) → slots ≡ 0 → 1 ≡ refusal_by slots channels order
+by_1 slots channels order none = rw (eq-eqb slots 0 none)
 
 -- and by the octet
 by_listed : (octet channels order : ℕ) → is_listed octet ≡ true

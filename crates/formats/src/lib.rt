@@ -106,14 +106,12 @@ fn times_of(slots: usize, channels: usize) -> usize
 }
 
 // Checks 2 and 3 on numbers as they stand, never cut before, by the slots of the octet's format.
+#[tactic(auto, unfolding(refusals::specs::Refusals::refused_by, refusals::specs::Refusals::number_of))]
 fn checked(slots: usize, channels: u32, order: u32) -> Result<(), Refusal>
     requires { slots ≢ 0 }
     ensures { refused_by result ≡ refusal_by slots channels order }
 {
-    if channels == 0 {
-        return Err(Refusal::Channels);
-    }
-    if slots < channels as usize {
+    if channels == 0 || slots < channels as usize {
         return Err(Refusal::Channels);
     }
     if 1 < order {
@@ -142,19 +140,11 @@ pub fn settings(octet: u32, channels: u32, order: u32) -> Result<Layout, Refusal
 }
 
 // Whether these are the usual settings: 56 hex in order 0 with one channel or two, as most readings are sent.
+#[tactic(auto, unfolding(crate::specs::Code::is_usual))]
 pub fn is_usual(octet: u8, channels: u8, order: u8) -> bool
     ensures { result ≡ is_usual octet channels order }
 {
-    if octet != 0x56 {
-        return false;
-    }
-    if order != 0 {
-        return false;
-    }
-    if channels < 1 {
-        return false;
-    }
-    channels < 3
+    octet == 0x56 && order == 0 && (1..3).contains(&channels)
 }
 
 // What the usual settings settle, at once.
