@@ -1,3 +1,4 @@
+pub mod Answered
 pub mod Checked
 pub mod Demand1
 pub mod Laws
