@@ -4,4 +4,5 @@ pub mod Demand1
 pub mod Laws
 pub mod One
 pub mod Planned
+pub mod Unfolded
 pub mod Wrong

@@ -70,8 +70,13 @@ fn judge(slots: u32, channels: u32, frequency: u32, shares: &[u32], allowances: 
 }
 
 // Unequal runs, then more than 64 circuits or 1,024 channels, then a frequency of 0 or above 1,000,000.
-#[tactic(auto, unfolding(crate::specs::Circuits::check_refusal, runs::specs::Refusals::or_else, refusals::specs::Refusals::refused_by, refusals::specs::Refusals::number_of))]
-fn check_checked(channels: u32, frequency: u32, circuits: usize, allowances: usize) -> Result<(), Refusal>
+#[tactic(auto, unfolding(crate::proofs::Unfolded::refusals))]
+fn check_checked(
+    channels: u32,
+    frequency: u32,
+    circuits: usize,
+    allowances: usize,
+) -> Result<(), Refusal>
     ensures { refused_by result ≡ check_refusal 0 channels frequency circuits allowances }
 {
     if allowances != circuits {
@@ -103,7 +108,7 @@ pub fn check(
 }
 
 // More than 64 circuits or 1,024 channels, then S times the circuits below the channels.
-#[tactic(auto, unfolding(crate::specs::Circuits::plan_refusal, runs::specs::Refusals::or_else, refusals::specs::Refusals::refused_by, refusals::specs::Refusals::number_of))]
+#[tactic(auto, unfolding(crate::proofs::Unfolded::refusals))]
 fn plan_checked(slots: usize, channels: u32, circuits: usize) -> Result<(), Refusal>
     requires { slots ≤ 48 }
     ensures { refused_by result ≡ plan_refusal 0 slots channels circuits }
