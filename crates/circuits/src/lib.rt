@@ -7,6 +7,7 @@ ghost use Rattle.circuits.specs.Circuits.{
   fits_slots,
   cells_per_second,
   judged_from,
+  is_too_many,
   check_refusal,
   checked_of,
   verdict_of,
@@ -69,6 +70,13 @@ fn judge(slots: u32, channels: u32, frequency: u32, shares: &[u32], allowances: 
     }
 }
 
+// Whether there are more than 64 circuits or 1,024 channels.
+fn is_too_many(circuits: usize, channels: u32) -> bool
+    ensures { result ≡ is_too_many circuits channels }
+{
+    64 < circuits || 1024 < channels
+}
+
 // Unequal runs, then more than 64 circuits or 1,024 channels, then a frequency of 0 or above 1,000,000.
 #[tactic(auto, unfolding(crate::proofs::Unfolded::refusals))]
 fn check_checked(
@@ -82,7 +90,7 @@ fn check_checked(
     if allowances != circuits {
         return Err(Refusal::Length);
     }
-    if 64 < circuits || 1024 < channels {
+    if is_too_many(circuits, channels) {
         return Err(Refusal::Plan);
     }
     if frequency < 1 || 1000000 < frequency {
@@ -113,7 +121,7 @@ fn plan_checked(slots: usize, channels: u32, circuits: usize) -> Result<(), Refu
     requires { slots ≤ 48 }
     ensures { refused_by result ≡ plan_refusal 0 slots channels circuits }
 {
-    if 64 < circuits || 1024 < channels {
+    if is_too_many(circuits, channels) {
         return Err(Refusal::Plan);
     }
     if slots * circuits < channels as usize {

@@ -7,14 +7,13 @@ ghost use Rattle.slips.specs.Watch.{
   watch_refused,
   in_step_of,
   out_of_step,
-  told,
   may_after,
   sure_step,
   taken_step,
   step_refusal,
   step_of,
 };
-ghost use Rattle.slips.specs.Known.{known_of, what_of, cells_of, stepped_of, octets_in, Reads};
+ghost use Rattle.slips.specs.Known.{known_of, what_of, cells_of, leaves_and_tells, stepped_of, octets_in, Reads};
 
 use numbers::difference;
 use refusals::Refusal;
@@ -139,7 +138,7 @@ impl Watch {
     #[tactic(auto, using(crate::proofs::Laws::follows), unfolding(crate::proofs::Unfolded::steps))]
     fn forward(self, missing: u8, number: u8, second: u8) -> (Watch, Slip)
         requires { step_refusal (known_of self) missing number second ≡ 0 }
-        ensures { told (known_of result.0) (what_of result.1) (cells_of result.1) ≡ taken_step (known_of self) missing number second }
+        ensures { leaves_and_tells result.0 result.1 ≡ taken_step (known_of self) missing number second }
     {
         match self {
             Watch::New => (Watch::Begun { number, second }, Slip::Nothing),
@@ -213,7 +212,7 @@ impl Slip {
 #[tactic(auto, using(crate::proofs::Laws::difference_to), unfolding(crate::proofs::Unfolded::sure_steps))]
 fn in_step(kept: u8, number: u8, second: u8, by: u8) -> (Watch, Slip)
     requires { by ≤ 2 }
-    ensures { (last : ℕ) → told (known_of result.0) (what_of result.1) (cells_of result.1) ≡ sure_step (in_step_of last kept) number second by }
+    ensures { (last : ℕ) → leaves_and_tells result.0 result.1 ≡ sure_step (in_step_of last kept) number second by }
 {
     let up = difference(second, kept);
     if up == by {
@@ -232,7 +231,7 @@ fn in_step(kept: u8, number: u8, second: u8, by: u8) -> (Watch, Slip)
 #[tactic(auto, using(crate::proofs::Laws::difference_to), unfolding(crate::proofs::Unfolded::sure_steps))]
 fn out_of_step(kept: u8, may: u8, other: u8, number: u8, second: u8, by: u8) -> (Watch, Slip)
     requires { (may ≤ 15) × (by ≤ 2) }
-    ensures { (last : ℕ) → told (known_of result.0) (what_of result.1) (cells_of result.1) ≡ sure_step (out_of_step last kept may other) number second by }
+    ensures { (last : ℕ) → leaves_and_tells result.0 result.1 ≡ sure_step (out_of_step last kept may other) number second by }
 {
     let may_now = may_after(may, by);
     let up = difference(second, kept);
