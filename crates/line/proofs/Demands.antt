@@ -27,8 +27,7 @@ use Rattle.saving.specs.declared.Salvaged.{Salvaged}
 use Rattle.saving.specs.Salvage.{salvage_refusal}
 use Rattle.cable.specs.Frames.{Imported, Exported, import_refusal, export_refusal}
 use Rattle.units.specs.Back.{ExportCall, export_table, ExportedNothing, ReadCall, read_table, EnteredNothing}
-use Rattle.circuits.specs.declared.Verdict.{Verdict}
-use Rattle.circuits.specs.Circuits.{refusal_of, answer_of, circuit_of, octet_refusal, check_refusal, plan_refusal_of}
+use Rattle.circuits.specs.Circuits.{Verdict, refusal_of, answer_of, circuit_of, octet_refusal, check_refusal, plan_refusal_of}
 use Rattle.figures.specs.Sheets.{Answer, sheet_refusal}
 use Rattle.line.specs.Calls.{
   SendCall,

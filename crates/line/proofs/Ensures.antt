@@ -71,6 +71,7 @@ use Rattle.units.proofs.export_units.Kinds as export-units-kinds
 use Rattle.units.proofs.export_units.Reads as export-units-reads
 use Rattle.units.proofs.read_unit.Kinds as read-unit-kinds
 use Rattle.units.proofs.read_unit.Reads as read-unit-reads
+use Rattle.circuits.specs.Circuits.{check_answered}
 use Rattle.circuits.proofs.check.Kinds as check-circuits-kinds
 use Rattle.circuits.proofs.check.Reads as check-circuits-reads
 use Rattle.circuits.proofs.plan.Kinds as plan-circuits-kinds
@@ -260,11 +261,11 @@ pub read_unit_ensures : Ensured read-unit-kinds.ps read-unit-kinds.r read-unit-r
 read_unit_ensures κs a x v p = p
 
 pub check_circuits_ensures : Ensured check-circuits-kinds.ps check-circuits-kinds.r check-circuits-reads.Post
-    (λ κs a x v. MeetsCheckCircuits a.0 a.1.0 a.1.1.0 a.1.1.1.0.now a.1.1.1.1.0.now x)
+    (λ κs a x v. MeetsCheckCircuits a.0 a.1.0 a.1.1.0 a.1.1.1.0.now a.1.1.1.1.0.now (check_answered x))
 check_circuits_ensures κs a x v p = p
 
 pub plan_circuits_ensures : Ensured plan-circuits-kinds.ps plan-circuits-kinds.r plan-circuits-reads.Post
-    (λ κs a x v. MeetsPlanCircuits a.0 a.1.0 a.1.1.0.now x v.1.1.0)
+    (λ κs a x v. MeetsPlanCircuits a.0 a.1.0 a.1.1.0.now (refused_by x) v.1.1.0)
 plan_circuits_ensures κs a x v p = p
 
 pub sheet_ensures : Ensured sheet-kinds.ps sheet-kinds.r sheet-reads.Post

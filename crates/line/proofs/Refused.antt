@@ -35,8 +35,7 @@ use Rattle.cable.specs.Frames.{Imported, Exported, import_refusal, export_refusa
 use Rattle.cable.proofs.Demand1 as cable
 use Rattle.units.specs.Back.{ExportCall, export_table, ExportedNothing, ReadCall, read_table, EnteredNothing}
 use Rattle.units.proofs.Demand1 as units
-use Rattle.circuits.specs.declared.Verdict.{Verdict}
-use Rattle.circuits.specs.Circuits.{refusal_of, answer_of, circuit_of, octet_refusal, check_refusal, plan_refusal_of}
+use Rattle.circuits.specs.Circuits.{Verdict, refusal_of, answer_of, circuit_of, octet_refusal, check_refusal, plan_refusal_of}
 use Rattle.circuits.proofs.Demand1 as circuits
 use Rattle.figures.specs.Sheets.{Answer, sheet_refusal}
 use Rattle.figures.proofs.Demand1 as figures

@@ -29,8 +29,7 @@ use Rattle.saving.specs.Salvage.{Salvages}
 use Rattle.cable.specs.Frames.{Imported, Exported, import_of, export_of}
 use Rattle.units.specs.Back as U
 use Rattle.units.specs.Back.{ExportCall, ReadCall}
-use Rattle.circuits.specs.declared.Verdict.{Verdict}
-use Rattle.circuits.specs.Circuits.{checked_of, Plans}
+use Rattle.circuits.specs.Circuits.{Verdict, checked_of, Plans}
 use Rattle.figures.specs.Sheets.{Answer, Sheets}
 
 -- a call of `send` and what it left
