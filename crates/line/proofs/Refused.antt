@@ -18,10 +18,7 @@ use Rattle.receiver.specs.Receiver as R
 use Rattle.status.specs.declared.step.Block.{Block}
 use Rattle.status.specs.Step.{Stepped, is_refused}
 use Rattle.status.proofs.Refused.{step_refusal_lem, refused_step}
-use Rattle.cell_log.specs.declared.Number.{Number}
-use Rattle.cell_log.specs.declared.Header.{Header}
-use Rattle.cell_log.specs.declared.Record.{Record}
-use Rattle.cell_log.specs.declared.keep.Kept.{Kept}
+use Rattle.cell_log.specs.Answers.{Number, Header, Record, Kept}
 use Rattle.cell_log.specs.Numbers.{is_cut, is_long, is_padded, number_at}
 use Rattle.cell_log.specs.Records.{header_refusal, header_of_numbers, header_of, second_number, third_number, record_at}
 use Rattle.cell_log.specs.Written.{Keeps}

@@ -9,7 +9,7 @@ use borrow.Author.Tests.{eq-eqb, ne_eqb, eqb-true}
 use lib.Dec.{eqb, ltb}
 use lib.ListN.{length, get_or, take, drop}
 use Rattle.runs.proofs.Laws.{split}
-use Rattle.cell_log.specs.declared.Header.{Header}
+use Rattle.cell_log.specs.Answers.{Header}
 use Rattle.cell_log.specs.Records.{header_of}
 use Rattle.reading.specs.Heard.{sound_in}
 use Rattle.reading.specs.Reading.{reading_of, fresh_of, behind_header}
