@@ -72,6 +72,7 @@ fn taken_to(subsystem_code: u8, status: u8) -> usize
     }
 }
 
+// A number is the C interface.
 // Takes a message as the controlling entity: the refusal (0 or 24, and then nothing is written).
 pub fn rime_controller(ports: &mut [u8], message: &[u8]) -> u8
     ensures { Takes ports.old message.now result ports.new }

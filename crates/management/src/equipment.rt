@@ -209,6 +209,7 @@ fn answered(ports: &mut [u8], message: &[u8], answer: &mut [u8]) -> Result<Repor
     Ok(NOTHING)
 }
 
+// Numbers and lent arrays are the C interface.
 // Takes a message as the equipment: the refusal (0, 24 or 25, and then nothing is written but zeros to the report).
 pub fn rime_equipment(
     ports: &mut [u8],

@@ -111,6 +111,7 @@ pub(crate) fn write_status(ports: &[u8], asked: Enquiry, answer: &mut [u8]) -> O
     if answer.len() < length {
         return None;
     }
+    // No `match`: tried, and the proof of its last arm didn't close.
     if asked.subsystem_code == 0 {
         write_input_status(ports, asked, answer);
     } else if asked.subsystem_code == 1 {

@@ -40,7 +40,8 @@ fn fill<T: Copy>(run: &mut [T], value: T)
     }
 }
 
-// Writes `missing` entries of zero with mark 2 to the three runs.
+// Writes `missing` entries of zero with mark 2 to the three runs. These stay three parameters here and below: one struct that lends them
+// is no plainer, since each contract would have to say that it still lends the same slices, of the same lengths.
 pub(crate) fn missing_entries(
     missing: usize,
     samples: &mut [u64],
@@ -158,7 +159,8 @@ fn split(
 // Takes subframes with overhead and no ancillary bits apart, in place.
 fn split_without_v(format: Format, at: usize, used: usize, samples: &mut [u64], marks: &mut [u8])
     requires { Sound format × (format.ancillary_bits ≡ 0) × (format.overhead_bits ≡ 4) × (at + used ≤ length samples.old) × (at + used ≤ length marks.old) }
-    ensures { (samples.new ≡ written samples.old at (held (sample_in format) samples.old at used)) × (marks.new ≡ written marks.old at (held (mark_in format) samples.old at used)) }
+    ensures { (samples.new ≡ written samples.old at (held (sample_in format) samples.old at used))
+        × (marks.new ≡ written marks.old at (held (mark_in format) samples.old at used)) }
 {
     for i in 0..used {
         let subframe = samples[at + i];
@@ -172,7 +174,8 @@ fn split_without_v(format: Format, at: usize, used: usize, samples: &mut [u64], 
 // Takes subframes with ancillary bits and no overhead apart, in place.
 fn split_bare(at: usize, used: usize, samples: &mut [u64], ancillary: &mut [u8])
     requires { (at + used ≤ length samples.old) × (at + used ≤ length ancillary.old) }
-    ensures { (samples.new ≡ written samples.old at (held (λ x. x / 16) samples.old at used)) × (ancillary.new ≡ written ancillary.old at (held (λ x. x % 16) samples.old at used)) }
+    ensures { (samples.new ≡ written samples.old at (held (λ x. x / 16) samples.old at used))
+        × (ancillary.new ≡ written ancillary.old at (held (λ x. x % 16) samples.old at used)) }
 {
     for i in 0..used {
         let subframe = samples[at + i];
@@ -219,7 +222,8 @@ pub(crate) fn own_entries(
     ancillary: &mut [u8],
     marks: &mut [u8],
 )
-    requires { Limits (settled_as set) × (length cell.now ≡ 48) × Room at (used_in (settled_as set)) samples.old ancillary.old marks.old × Blank set.format at (used_in (settled_as set)) ancillary.old }
+    requires { Limits (settled_as set) × (length cell.now ≡ 48) × Room at (used_in (settled_as set)) samples.old ancillary.old marks.old
+        × Blank set.format at (used_in (settled_as set)) ancillary.old }
     ensures { Unpacks (settled_as set) cell.now at samples.old ancillary.old marks.old samples.new ancillary.new marks.new }
 {
     let used = set.channels * set.times;

@@ -147,7 +147,8 @@ fn judged(
     indication: bool,
     samples: usize,
 ) -> Received
-    requires { (settled_as set ≡ settings_of state.format state.channels state.order) × (early_refusal state (length cell.now) samples samples samples ≡ 0) × (found ≡ found_now state cell.now) }
+    requires { (settled_as set ≡ settings_of state.format state.channels state.order)
+        × (early_refusal state (length cell.now) samples samples samples ≡ 0) × (found ≡ found_now state cell.now) }
     ensures { result ≡ received_of state cell.now indication samples samples samples }
 {
     let Some(number) = found else {

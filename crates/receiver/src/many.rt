@@ -41,7 +41,8 @@ fn any_cells(
     ancillary: &mut [u8],
     marks: &mut [u8],
 )
-    requires { Limits (settled_as set) × (place + 49 * records ≤ length octets.now) × Room missing (records * used_in (settled_as set)) samples.old ancillary.old marks.old }
+    requires { Limits (settled_as set) × (place + 49 * records ≤ length octets.now)
+        × Room missing (records * used_in (settled_as set)) samples.old ancillary.old marks.old }
     ensures { FillsMany (settled_as set) octets.now place records missing samples.old ancillary.old marks.old samples.new ancillary.new marks.new }
 {
     let used = set.channels * set.times;

@@ -150,10 +150,6 @@ module _ (st : Sender) (indication : Bool) (samples ancillary : List ℕ) {set :
     cell_is second_is filled =
         (writes_taken call blank given none_of second_is refl filled).cell_after_lem ∙ rw (eq-eqb (refusal_of call (length blank)) 0 (sym none_of))
 
--- one cell fewer to come
-pub one_fewer : {n most : ℕ} → n < most → most - (n + 1) < most - n
-one_fewer h = omega (arith, h)
-
 -- the state behind one cell more, and the octets of its record behind the others
 behind_more : (st : Sender) (done : List SentCell) (c : SentCell) → state_behind st (done ++ (c ∷ [])) ≡ c.state
 unfolding state_behind

@@ -86,9 +86,6 @@ module _ {set : Settled} {samples ancillary : List ℕ} (p : Packable set sample
 
   -- what they bound, by the numbers that a call names
   module _ {sample-bits ancillary-bits overhead width : ℕ} (named : Named set.format sample-bits ancillary-bits overhead width) where
-    bits_from : 8 ≤ sample-bits
-    bits_from = omega (arith, named.sample_is, p.limits.sound.sample_from)
-
     bits_to : sample-bits ≤ 40
     bits_to = omega (arith, named.sample_is, p.limits.sound.sample_to)
 

@@ -18,6 +18,7 @@ pub(crate) fn is_usual(state: Sender, samples: usize, ancillary: usize) -> bool
 }
 
 // All slots of the cell: none is unused.
+// A loop beside `fill`: with the protection bits as a closure's answer, one loop for both takes more instructions.
 pub(crate) fn fill_usual(
     set: Layout,
     sequence: u64,

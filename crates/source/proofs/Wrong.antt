@@ -13,7 +13,7 @@ use Rattle.text.specs.Words.{words}
 use Rattle.source.specs.declared.turns.Next.TheVariants.{On, End, Failed}
 use Rattle.source.specs.Kinds as kinds
 use Rattle.source.specs.Kinds.{kind_of}
-use Rattle.source.specs.Turns.{Turn, number_of, turned, without, came_of, turn_of}
+use Rattle.source.specs.Turns.{Turn, number_of, turned, came_of, turn_of}
 use Rattle.source.proofs.kind.Kinds as kind-kinds
 use Rattle.source.proofs.kind.Reads as kind-reads
 use Rattle.source.proofs.turns.answered.Kinds as answered-kinds

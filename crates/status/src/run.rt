@@ -111,7 +111,7 @@ pub fn run(
     steps(block, ancillary, marks, from, on)
 }
 
-// The steps, eight at a time where they fill an octet.
+// The steps, eight at a time where they fill an octet. A `while`: no range says whether a turn goes on by one entry or by eight.
 fn steps(
     block: Block,
     ancillary: &[u8],
