@@ -6,4 +6,5 @@ pub mod Laws
 pub mod One
 pub mod Refusals
 pub mod Rows
+pub mod Unfolded
 pub mod Wrong

@@ -75,7 +75,7 @@ fn is_frame(first: u8, second: u8) -> bool
 }
 
 // Preambles that aren't those of a frame, then odd parity in either half.
-#[tactic(auto, unfolding(crate::specs::Frames::import_refusal, refusals::specs::Refusals::refused_by, refusals::specs::Refusals::number_of))]
+#[tactic(auto, unfolding(crate::proofs::Unfolded::refusals))]
 fn import_checked(preambles: [u8; 2], subframes: [u32; 2]) -> Result<(), Refusal>
     ensures { refused_by result ≡ import_refusal preambles subframes }
 {
@@ -133,7 +133,7 @@ fn is_too_large(sample: u64, ancillary: u8) -> bool
 }
 
 // A number too large in either half, then B bits that differ.
-#[tactic(auto, unfolding(crate::specs::Frames::export_refusal, refusals::specs::Refusals::refused_by, refusals::specs::Refusals::number_of))]
+#[tactic(auto, unfolding(crate::proofs::Unfolded::refusals))]
 fn export_checked(entries: Entries) -> Result<(), Refusal>
     ensures { refused_by result ≡ export_refusal entries.samples entries.ancillary }
 {

@@ -1,12 +1,8 @@
 // Document 01, "Subframe formats" and "Placement": how many channels a format takes.
-use super::say;
+use super::refused;
 
 fn settled(rt: &impl Print, what: &str, octet: u32, channels: u32) {
-    let refusal = match formats::settings(octet, channels, 0) {
-        Ok(_) => 0,
-        Err(refusal) => refusal.into(),
-    };
-    say(rt, what, refusal);
+    refused(rt, what, formats::settings(octet, channels, 0));
 }
 
 pub(crate) fn cases(rt: &impl Print) {

@@ -16,7 +16,7 @@ use Rattle.std.specs.Int.{from_bool}
 use Rattle.std.proofs.lemmas.Slice.{put_mid-paste}
 use Rattle.runs.specs.Runs.{written}
 use Rattle.runs.proofs.Filling.{stored, stored_behind}
-use Rattle.cell_log.specs.declared.keep.Kept.{Kept}
+use Rattle.cell_log.specs.Answers.{Kept}
 use Rattle.cell_log.specs.Numbers.{groups_of}
 use Rattle.cell_log.specs.Written.{kept, not_kept, Keeps, number_refusal, octet_of, record_refusal}
 use Rattle.cell_log.proofs.Laws.{groups_1, groups_2, groups_3}

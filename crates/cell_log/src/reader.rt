@@ -2,9 +2,10 @@
 // slice and the place that it holds. A caller that has the log as a slice uses `read`.
 ghost use Rattle.std.specs.Prelude.{◌≡◌};
 ghost use Rattle.cell_log.specs.Code.{from};
-ghost use Rattle.cell_log.specs.Records.{record_at, place_after, cell_at};
+ghost use Rattle.cell_log.specs.Records.{record_answered, record_at, place_after, cell_at};
 
 use crate::Record;
+use refusals::Refusal;
 
 #[derive(Clone, Copy, Debug, PartialEq, Eq, Hash)]
 pub struct Reader<'a> {
@@ -21,8 +22,8 @@ impl<'a> Reader<'a> {
     }
 
     // The record where the reader stands.
-    pub fn record_here(self) -> Record
-        ensures { result ≡ record_at self.entry.log.now self.entry.place }
+    pub fn record_here(self) -> Result<Option<Record>, Refusal>
+        ensures { record_answered self.entry.place result ≡ record_at self.entry.log.now self.entry.place }
     {
         crate::read_record(self.log, self.place)
     }
@@ -47,8 +48,8 @@ impl<'a> Reader<'a> {
 }
 
 // The record at a place of a log.
-pub fn read(log: &[u8], place: usize) -> Record
-    ensures { result ≡ record_at log.now place }
+pub fn read(log: &[u8], place: usize) -> Result<Option<Record>, Refusal>
+    ensures { record_answered place result ≡ record_at log.now place }
 {
     Reader::new(log, place).record_here()
 }

@@ -23,9 +23,13 @@ use Rattle.formats.specs.Formats as F
 use Rattle.formats.specs.Formats.{is_listed, settings_refusal}
 use Rattle.formats.specs.Settings.{settings_of}
 use Rattle.formats.proofs.Laws.{refusal_of_lem, settled_of_lem, settles_all, sound_fields, sound_format, no_slots}
-use Rattle.circuits.specs.declared.Verdict.{Verdict}
-use Rattle.circuits.specs.declared.Verdict.TheVariants.{Refused, Yes, Share, Allowance, Sum}
 use Rattle.circuits.specs.Circuits.{
+  Verdict,
+  Refused,
+  Yes,
+  Share,
+  Allowance,
+  Sum,
   octet_refusal,
   slots_of,
   fits_slots,
@@ -271,53 +275,72 @@ plan_passed octet slots channels circuits none =
 
 -- ---- the answers
 
--- the octet's own refusal comes first
-pub check_first : {octet : ℕ} (channels frequency circuits allowances : ℕ) → (octet ≡ 0 → ⊥)
-    → octet ≡ check_refusal octet channels frequency circuits allowances
-unfolding check_refusal
-check_first channels frequency circuits allowances some = sym (first_refuses _ some)
-
-pub plan_first : {octet : ℕ} (slots channels circuits : ℕ) → (octet ≡ 0 → ⊥) → octet ≡ plan_refusal octet slots channels circuits
-unfolding plan_refusal
-plan_first slots channels circuits some = sym (first_refuses _ some)
-
 pub judged_where_taken : (octet channels frequency : ℕ) (shares allowances : List ℕ)
     → check_refusal (octet_refusal octet) channels frequency (length shares) (length allowances) ≡ 0
     → judged_from (slots_of octet) channels frequency 0 0 shares allowances ≡ checked_of octet channels frequency shares allowances
 unfolding checked_of
 judged_where_taken octet channels frequency shares allowances none = rw none
 
+module _ {set : Settled} (octet : ℕ) (given : set ≡ settings_of octet 1 0) where
+  format_taken : set.refusal ≡ 0 → octet_refusal octet ≡ 0
+  format_taken none = sym (refusal_given octet given) ∙ none
+
 module _ {set : Settled} (octet channels frequency : ℕ) (shares allowances : List ℕ) (given : set ≡ settings_of octet 1 0) where
   abbrev refusal_here : ℕ
   refusal_here = check_refusal (octet_refusal octet) channels frequency (length shares) (length allowances)
-
-  pub check_said : {n : ℕ} → n ≡ check_refusal set.refusal channels frequency (length shares) (length allowances) → n ≡ refusal_here
-  check_said is =
-      is ∙ ap (λ (n : ℕ). check_refusal n channels frequency (length shares) (length allowances)) (refusal_given octet given)
 
   pub check_refused : {n : ℕ} → n ≡ refusal_here → (n ≡ 0 → ⊥) → Refused n ≡ checked_of octet channels frequency shares allowances
   unfolding checked_of
   check_refused is some = rw (← is, ne_eqb _ _ some)
 
-  pub check_taken : refusal_here ≡ 0 → {v : Verdict} → v ≡ judged_from set.format.slots channels frequency 0 0 shares allowances
-      → v ≡ checked_of octet channels frequency shares allowances
-  check_taken none is =
-      is
-      ∙ ap (λ (n : ℕ). judged_from n channels frequency 0 0 shares allowances) (slots_are octet given)
-      ∙ judged_where_taken octet channels frequency shares allowances none
+  -- the octet's own refusal comes first
+  pub check_format : {n : ℕ} → n ≡ set.refusal → (n ≡ 0 → ⊥) → Refused n ≡ checked_of octet channels frequency shares allowances
+  unfolding check_refusal
+  check_format is some =
+      let own = is ∙ refusal_given octet given in
+      check_refused (own ∙ sym (first_refuses _ (λ e. some (own ∙ e)))) some
+
+  module _ (none : set.refusal ≡ 0) where
+    said : {n : ℕ} → n ≡ check_refusal 0 channels frequency (length shares) (length allowances) → n ≡ refusal_here
+    said is = rw (format_taken octet given none) is
+
+    pub check_other : {n : ℕ} → n ≡ check_refusal 0 channels frequency (length shares) (length allowances) → (n ≡ 0 → ⊥)
+        → Refused n ≡ checked_of octet channels frequency shares allowances
+    check_other is = check_refused (said is)
+
+    module _ (taken : 0 ≡ check_refusal 0 channels frequency (length shares) (length allowances)) where
+      pub check_passes : (set.format.slots ≤ 48) × (length shares ≤ 64) × (length allowances ≡ length shares)
+      check_passes =
+          let passed = check_passed _ _ _ _ _ (sym taken) in (slots_given octet given, passed.circuits_to, passed.equal)
+
+      pub check_taken : {v : Verdict} → v ≡ judged_from set.format.slots channels frequency 0 0 shares allowances
+          → v ≡ checked_of octet channels frequency shares allowances
+      check_taken is =
+          is
+          ∙ ap (λ (n : ℕ). judged_from n channels frequency 0 0 shares allowances) (slots_are octet given)
+          ∙ judged_where_taken octet channels frequency shares allowances (sym (said taken))
 
 module _ {set : Settled} (octet channels : ℕ) (shares : List ℕ) (given : set ≡ settings_of octet 1 0) where
-  pub plan_said : {n : ℕ} → n ≡ plan_refusal set.refusal set.format.slots channels (length shares) → n ≡ plan_refusal_of octet channels shares
-  plan_said is =
-      is ∙ ap₂ (λ (n slots : ℕ). plan_refusal n slots channels (length shares)) (refusal_given octet given) (slots_are octet given)
-
-  pub plan_refused : {n : ℕ} → n ≡ plan_refusal_of octet channels shares → (n ≡ 0 → ⊥) → Plans octet channels shares n shares
+  plan_refused : {n : ℕ} → n ≡ plan_refusal_of octet channels shares → (n ≡ 0 → ⊥) → Plans octet channels shares n shares
   plan_refused is some = record { refused = is; leaves = rw (ne_eqb _ 0 (λ e. some (is ∙ e))) }
 
-  pub plan_taken : {n : ℕ} {shares₁ : List ℕ} → n ≡ plan_refusal_of octet channels shares → n ≡ 0
-      → shares₁ ≡ planned_of set.format.slots channels (length shares) → Plans octet channels shares 0 shares₁
-  plan_taken is none made =
-      record {
-        refused = sym none ∙ is;
-        leaves = rw (sym is ∙ none) (made ∙ ap (λ (slots : ℕ). planned_of slots channels (length shares)) (slots_are octet given));
-      }
+  pub plan_format : {n : ℕ} → n ≡ set.refusal → (n ≡ 0 → ⊥) → Plans octet channels shares n shares
+  unfolding plan_refusal
+  plan_format is some =
+      let own = is ∙ refusal_given octet given in
+      plan_refused (own ∙ sym (first_refuses _ (λ e. some (own ∙ e)))) some
+
+  module _ (none : set.refusal ≡ 0) where
+    planned : {n : ℕ} → n ≡ plan_refusal 0 set.format.slots channels (length shares) → n ≡ plan_refusal_of octet channels shares
+    planned is = rw (format_taken octet given none, ← slots_are octet given) is
+
+    pub plan_other : {n : ℕ} → n ≡ plan_refusal 0 set.format.slots channels (length shares) → (n ≡ 0 → ⊥) → Plans octet channels shares n shares
+    plan_other is = plan_refused (planned is)
+
+    pub plan_taken : 0 ≡ plan_refusal 0 set.format.slots channels (length shares) → {shares₁ : List ℕ}
+        → shares₁ ≡ planned_of set.format.slots channels (length shares) → Plans octet channels shares 0 shares₁
+    plan_taken taken made =
+        record {
+          refused = planned taken;
+          leaves = rw (sym (planned taken)) (made ∙ ap (λ (slots : ℕ). planned_of slots channels (length shares)) (slots_are octet given));
+        }

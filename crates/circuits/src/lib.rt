@@ -2,23 +2,26 @@
 // Sharing channels out over circuits, request 11 of document 02: a checker of anyone's plan, and a plain planner. A plan is a run of
 // shares, the channels that each circuit carries; all circuits have one format.
 ghost use Rattle.std.specs.Prelude.{◌≡◌, ◌≤◌, length};
+ghost use Rattle.refusals.specs.Refusals.{refused_by};
 ghost use Rattle.circuits.specs.Circuits.{
   fits_slots,
   cells_per_second,
   judged_from,
+  is_too_many,
   check_refusal,
   checked_of,
-  share_after,
+  verdict_of,
+  check_answered,
   planned_of,
   plan_refusal,
   Plans,
 };
 
+use refusals::Refusal;
+
 // What the checker says of a plan; a circuit is counted from 0.
 #[derive(Clone, Copy, Debug, PartialEq, Eq, Hash)]
 pub enum Verdict {
-    // the numbers asked about were refused, by this number
-    Refused(u8),
     Yes,
     // the first fault is this circuit's share, which isn't 1 to S
     Share(u32),
@@ -48,7 +51,7 @@ fn cells_per_second(slots: u32, share: u32, frequency: u32) -> u32
 // Circuit by circuit the share, then the allowance; the sum last.
 fn judge(slots: u32, channels: u32, frequency: u32, shares: &[u32], allowances: &[u32]) -> Verdict
     requires { (slots ≤ 48) × (length shares.now ≤ 64) × (length allowances.now ≡ length shares.now) }
-    ensures { result ≡ judged_from slots channels frequency 0 0 shares.now allowances.now }
+    ensures { verdict_of result ≡ judged_from slots channels frequency 0 0 shares.now allowances.now }
 {
     let mut carried = 0;
     for (i, (&share, &allowance)) in shares.iter().zip(allowances).enumerate() {
@@ -67,66 +70,64 @@ fn judge(slots: u32, channels: u32, frequency: u32, shares: &[u32], allowances: 
     }
 }
 
-// 5 for unequal runs, 22 for more than 64 circuits or 1,024 channels, then 23 for frequency 0 or above 1,000,000; 0 where there is none.
-// The octet's own refusal comes first.
-#[tactic(auto, unfolding(crate::specs::Circuits::check_refusal, runs::specs::Refusals::or_else))]
-fn check_refusal(octet: u8, channels: u32, frequency: u32, circuits: usize, allowances: usize) -> u8
-    ensures { result ≡ check_refusal octet channels frequency circuits allowances }
+// Whether there are more than 64 circuits or 1,024 channels.
+fn is_too_many(circuits: usize, channels: u32) -> bool
+    ensures { result ≡ is_too_many circuits channels }
 {
-    if octet != 0 {
-        return octet;
-    }
+    64 < circuits || 1024 < channels
+}
+
+// Unequal runs, then more than 64 circuits or 1,024 channels, then a frequency of 0 or above 1,000,000.
+#[tactic(auto, unfolding(crate::proofs::Unfolded::refusals))]
+fn check_checked(
+    channels: u32,
+    frequency: u32,
+    circuits: usize,
+    allowances: usize,
+) -> Result<(), Refusal>
+    ensures { refused_by result ≡ check_refusal 0 channels frequency circuits allowances }
+{
     if allowances != circuits {
-        return 5;
+        return Err(Refusal::Length);
     }
-    if 64 < circuits || 1024 < channels {
-        return 22;
+    if is_too_many(circuits, channels) {
+        return Err(Refusal::Plan);
     }
     if frequency < 1 || 1000000 < frequency {
-        return 23;
+        return Err(Refusal::Frequency);
     }
-    0
+    Ok(())
 }
 
 // Judges a plan: so many channels asked for at a sampling frequency, the circuits' shares, and the cells per second that each may carry.
+// The octet's own refusal comes first.
 pub fn check(
     octet: u32,
     channels: u32,
     frequency: u32,
     shares: &[u32],
     allowances: &[u32],
-) -> Verdict
-    ensures { result ≡ checked_of octet channels frequency shares.now allowances.now }
+) -> Result<Verdict, Refusal>
+    ensures { check_answered result ≡ checked_of octet channels frequency shares.now allowances.now }
 {
-    let set = match formats::settings(octet, 1, 0) {
-        Ok(set) => set,
-        Err(refusal) => return Verdict::Refused(refusal.into()),
-    };
-    let slots = set.format.slots as u32;
-    let refusal = check_refusal(0, channels, frequency, shares.len(), allowances.len());
-    if refusal != 0 {
-        return Verdict::Refused(refusal);
-    }
-    judge(slots, channels, frequency, shares, allowances)
+    let slots = formats::settings(octet, 1, 0)?.format.slots;
+    check_checked(channels, frequency, shares.len(), allowances.len())?;
+    Ok(judge(slots as u32, channels, frequency, shares, allowances))
 }
 
-// 22 for more than 64 circuits or 1,024 channels, then 30 where S times the circuits is below the channels; 0 where there is none. The
-// octet's own refusal comes first.
-#[tactic(auto, unfolding(crate::specs::Circuits::plan_refusal, runs::specs::Refusals::or_else))]
-fn plan_refusal(octet: u8, slots: usize, channels: u32, circuits: usize) -> u8
+// More than 64 circuits or 1,024 channels, then S times the circuits below the channels.
+#[tactic(auto, unfolding(crate::proofs::Unfolded::refusals))]
+fn plan_checked(slots: usize, channels: u32, circuits: usize) -> Result<(), Refusal>
     requires { slots ≤ 48 }
-    ensures { result ≡ plan_refusal octet slots channels circuits }
+    ensures { refused_by result ≡ plan_refusal 0 slots channels circuits }
 {
-    if octet != 0 {
-        return octet;
-    }
-    if 64 < circuits || 1024 < channels {
-        return 22;
+    if is_too_many(circuits, channels) {
+        return Err(Refusal::Plan);
     }
     if slots * circuits < channels as usize {
-        return 30;
+        return Err(Refusal::Circuits);
     }
-    0
+    Ok(())
 }
 
 fn fill(slots: u32, channels: u32, shares: &mut [u32])
@@ -139,20 +140,13 @@ fn fill(slots: u32, channels: u32, shares: &mut [u32])
     }
 }
 
-// Fills circuits in the given order as far as S allows, allowances left aside; circuits left over get 0. Returns the refusal, and then
-// nothing is written.
-pub fn plan(octet: u32, channels: u32, shares: &mut [u32]) -> u8
-    ensures { Plans octet channels shares.old result shares.new }
+// Fills circuits in the given order as far as S allows, allowances left aside; circuits left over get 0. Where it is refused, nothing is
+// written.
+pub fn plan(octet: u32, channels: u32, shares: &mut [u32]) -> Result<(), Refusal>
+    ensures { Plans octet channels shares.old (refused_by result) shares.new }
 {
-    let set = match formats::settings(octet, 1, 0) {
-        Ok(set) => set,
-        Err(refusal) => return refusal.into(),
-    };
-    let slots = set.format.slots;
-    let refusal = plan_refusal(0, slots, channels, shares.len());
-    if refusal != 0 {
-        return refusal;
-    }
+    let slots = formats::settings(octet, 1, 0)?.format.slots;
+    plan_checked(slots, channels, shares.len())?;
     fill(slots as u32, channels, shares);
-    0
+    Ok(())
 }

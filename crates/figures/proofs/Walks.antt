@@ -11,7 +11,7 @@ use lib.ListN.{length, get_or, take, length-drop}
 use lib.Seq.{take_all}
 use Rattle.runs.specs.Refusals.{or_else}
 use Rattle.runs.proofs.Laws.{split}
-use Rattle.cell_log.specs.declared.Header.{Header}
+use Rattle.cell_log.specs.Answers.{Header}
 use Rattle.cell_log.specs.Records.{header_of, cell_at}
 use Rattle.cell_log.proofs.Places.{record_11}
 use Rattle.receiver.specs.declared.Ready.{Ready}
@@ -243,7 +243,7 @@ module _ (n : Noted) (octets : List ℕ) (high : 1 < get_or octets 0 0) where
       })
       ∙ ap (λ (w : Whole). part_noted n (whole w)) (sym none_there)
 
-pub past_header : (n : Noted) (held : List ℕ) {header : Header} {opened : Ready} → header ≡ header_of (take 3 held)
+pub past_header : (n : Noted) (held : List ℕ) {header : Header} {opened : Ready} → header ≡ record (header_of (take 3 held)) { refusal = 0 }
     → opened ≡ opened_of header.format header.channels header.order
     → record { state = opened.state; counts = n.counts } ≡ part_noted n (head (header_of (take 3 held)))
 unfolding part_noted

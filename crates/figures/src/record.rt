@@ -1,6 +1,6 @@
 // What the parts of a log count that are held in a lent array: its header, and a record that doesn't lie whole in a piece.
 ghost use Rattle.std.specs.Prelude.{[], ◌≡◌, take};
-ghost use Rattle.cell_log.specs.Records.{header_of};
+ghost use Rattle.cell_log.specs.Records.{header_answered, header_of};
 ghost use Rattle.reading.specs.Records.{front_of};
 ghost use Rattle.pieces.specs.Limit.{head, whole};
 ghost use Rattle.pieces.specs.Found.{number_of, numbered};
@@ -32,9 +32,9 @@ fn counted(noted: Noted, octets: [u8; 49]) -> Noted
 }
 
 fn header_of(held: [u8; 49]) -> Header
-    ensures { result ≡ header_of (take 3 held) }
+    ensures { header_answered (Ok result) ≡ record (header_of (take 3 held)) { refusal = 0 } }
 {
-    cell_log::read_header(&held[..3])
+    cell_log::header_numbers(&held[..3])
 }
 
 // Past the header that is held.

@@ -7,7 +7,7 @@ use native.Mathlib.Omega.{arith}
 use lib.ListN.{length, take, drop, length-append}
 use lib.Seq.{take_at, take_all, drop-append-add, drop-drop}
 use Rattle.runs.specs.Runs.{over, written}
-use Rattle.cell_log.specs.declared.Record.{Record}
+use Rattle.cell_log.specs.Answers.{Record}
 use Rattle.cell_log.specs.Records.{record_at, cell_at}
 use Rattle.cell_log.proofs.Places.{record_cases}
 use Rattle.receiver.specs.declared.Receiver.{Receiver}
@@ -85,6 +85,21 @@ module _ (st : Receiver) (log : List ℕ) (place : ℕ) (reports₀ : List ℕ) 
       }
 
   module _ {now : Receiver} {at records : ℕ} {reports : List ℕ} {found : Record} (s : Standing now at records reports found) where
+    -- what is read there is one answer, however it is had
+    pub seen : {found' : Record} → found' ≡ record_at log at → Standing now at records reports found'
+    seen f =
+        record {
+          done = s.done;
+          all = s.all;
+          state = s.state;
+          count = s.count;
+          place_is = s.place_is;
+          within = s.within;
+          out = s.out;
+          same = s.same;
+          read = f;
+        }
+
     there : found.what ≡ 1 → (record_at log at).what ≡ 1
     there one = ap (λ (r : Record). r.what) (sym s.read) ∙ one
 

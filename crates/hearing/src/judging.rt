@@ -1,11 +1,10 @@
 // A log's records judged in a row, from a place on: what the receiver says to each, with nothing unpacked.
 ghost use Rattle.std.specs.Prelude.{◌≡◌, ◌+◌, ◌≤◌, length};
 ghost use Rattle.runs.specs.Runs.{written};
+ghost use Rattle.cell_log.specs.Records.{record_at};
 ghost use Rattle.hearing.specs.Judging.{report_of, stop_of, judged_not, Judges, JudgesOn};
-ghost use Rattle.hearing.specs.Code.{ended_as};
 
 use crate::states;
-use cell_log::Record;
 use receiver::{Received, Receiver};
 
 // The refusal of the call (0: none); the state to go on with, the next place, the records judged, and why it stopped.
@@ -34,10 +33,14 @@ fn put(reports: &mut [u8], place: usize, got: Received)
 }
 
 // Why a walk stops where this was found: no room for a record that is there, or what a single call would answer.
-pub(crate) fn stop_of(found: Record) -> u8
-    ensures { result ≡ stop_of found }
+fn stop_at(log: &[u8], place: usize) -> u8
+    ensures { result ≡ stop_of (record_at log.now place) }
 {
-    if found.what == 1 { 10 } else { found.refusal }
+    match cell_log::read_record(log, place) {
+        Ok(Some(_)) => 10,
+        Ok(None) => 0,
+        Err(refusal) => refusal.into(),
+    }
 }
 
 fn refused(refusal: u8, state: Receiver) -> Judged
@@ -52,10 +55,9 @@ fn refused(refusal: u8, state: Receiver) -> Judged
     }
 }
 
-fn ended(state: Receiver, next: usize, records: usize, found: Record) -> Judged
-    ensures { result ≡ ended_as state next records found }
+fn ended(state: Receiver, next: usize, records: usize, stop: u8) -> Judged
+    ensures { result ≡ record { refusal = 0; state = state; next = next; records = records; stop = stop } }
 {
-    let stop = stop_of(found);
     Judged {
         refusal: 0,
         state,
@@ -72,18 +74,19 @@ fn walk(state: Receiver, log: &[u8], place: usize, reports: &mut [u8]) -> Judged
     let most = reports.len() / 5;
     let mut now = state;
     let mut at = place;
-    let mut found = cell_log::read_record(log, at);
     for records in 0..most {
-        if found.what != 1 {
-            return ended(now, at, records, found);
+        match cell_log::read_record(log, at) {
+            Ok(Some(record)) => {
+                let got = receiver::judged(now, cell_log::read_cell(log, at), record.indication);
+                put(reports, 5 * records, got);
+                now = got.state;
+                at = record.next;
+            }
+            Ok(None) => return ended(now, at, records, 0),
+            Err(refusal) => return ended(now, at, records, refusal.into()),
         }
-        let got = receiver::judged(now, cell_log::read_cell(log, at), found.indication);
-        put(reports, 5 * records, got);
-        now = got.state;
-        at = found.next;
-        found = cell_log::read_record(log, at);
     }
-    ended(now, at, most, found)
+    ended(now, at, most, stop_at(log, at))
 }
 
 // Judges a log's records from a place on, in the order in which they stand, and writes five octets a record into `reports`, as

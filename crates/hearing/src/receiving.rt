@@ -161,15 +161,18 @@ fn walk(
         samples.new ancillary.new marks.new }
 {
     let mut b = begun(0, state, place);
-    let mut found = cell_log::read_record(log, place);
-    while found.what == 1 {
-        b = one(b, used, found.indication, log, samples, ancillary, marks);
-        if b.stop != 0 {
-            return b;
+    loop {
+        match cell_log::read_record(log, b.next) {
+            Ok(Some(record)) => {
+                b = one(b, used, record.indication, log, samples, ancillary, marks);
+                if b.stop != 0 {
+                    return b;
+                }
+            }
+            Ok(None) => return stopped(b, 0),
+            Err(refusal) => return stopped(b, refusal.into()),
         }
-        found = cell_log::read_record(log, b.next);
     }
-    stopped(b, found.refusal)
 }
 
 // Receives a log's records from a place on, in the order in which they stand, and writes their entries into the three runs, as many

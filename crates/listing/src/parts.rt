@@ -1,6 +1,6 @@
 // The lines of a log's parts, and the counts behind them.
 ghost use Rattle.std.specs.Prelude.{◌≡◌, ◌+◌, ◌≤◌, length, take};
-ghost use Rattle.cell_log.specs.Records.{header_of};
+ghost use Rattle.cell_log.specs.Records.{header_answered, header_of};
 ghost use Rattle.pieces.specs.Found.{number_of, numbered};
 ghost use Rattle.pieces.specs.Steps.{found_parts};
 ghost use Rattle.pieces.specs.Taken.{fault_part};
@@ -22,13 +22,13 @@ pub(crate) struct Stepped {
 }
 
 fn header_of(held: [u8; 49]) -> Header
-    ensures { result ≡ header_of (take 3 held) }
+    ensures { header_answered (Ok result) ≡ record (header_of (take 3 held)) { refusal = 0 } }
 {
-    cell_log::read_header(&held[..3])
+    cell_log::header_numbers(&held[..3])
 }
 
 fn fresh(header: Header) -> Tally
-    ensures { result ≡ fresh_tally header }
+    ensures { result ≡ fresh_tally (header_answered (Ok header)) }
 {
     Tally {
         state: receiver::opened(header.format, header.channels, header.order).state,
@@ -43,8 +43,11 @@ fn fresh(header: Header) -> Tally
 fn judged_front(state: Receiver, octets: [u8; 49]) -> Received
     ensures { result ≡ judged_front state octets }
 {
-    let record = cell_log::read_record(&octets, 0);
-    receiver::judged(state, cell_log::read_cell(&octets, 0), record.indication)
+    receiver::judged(
+        state,
+        cell_log::read_cell(&octets, 0),
+        cell_log::read_indication(&octets, 0),
+    )
 }
 
 // The counts past a record that the receiver judged. No log is so long that one of them wraps.

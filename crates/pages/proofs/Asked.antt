@@ -9,7 +9,7 @@ use borrow.Author.Tests.{eq-eqb, ne_eqb, eqb-true}
 use lib.Dec.{eqb, ltb}
 use lib.ListN.{length, get_or, take, drop}
 use Rattle.runs.proofs.Laws.{split}
-use Rattle.cell_log.specs.declared.Header.{Header}
+use Rattle.cell_log.specs.Answers.{Header}
 use Rattle.cell_log.specs.Records.{header_of}
 use Rattle.reading.specs.Heard.{sound_in}
 use Rattle.reading.specs.Reading.{reading_of, fresh_of, behind_header}
@@ -35,9 +35,7 @@ use Rattle.status.proofs.Sent as status
 use Rattle.cable.specs.Back.{Halves, SameFrame}
 use Rattle.cable.specs.Frames.{import_of, export_of}
 use Rattle.cable.proofs.Back as cable
-use Rattle.circuits.specs.declared.Verdict.{Verdict}
-use Rattle.circuits.specs.declared.Verdict.TheVariants.{Refused, Yes, Share, Allowance, Sum}
-use Rattle.circuits.specs.Circuits.{answer_of, circuit_of, checked_of, check_refusal, octet_refusal}
+use Rattle.circuits.specs.Circuits.{Verdict, Refused, Yes, Share, Allowance, Sum, answer_of, circuit_of, checked_of, check_refusal, octet_refusal}
 use Rattle.circuits.proofs.Checked as circuits
 use Rattle.units.specs.Back as U
 use Rattle.rimesatchel.specs.Contents.{presence_numbers}

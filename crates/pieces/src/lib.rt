@@ -2,6 +2,7 @@
 // A log taken in pieces, request 14: what turns pieces of any length into the header and the records of the log. The octets of a
 // part that isn't whole yet are held in an array that the caller lends.
 ghost use Rattle.std.specs.Prelude.{◌≡◌, ◌+◌, ◌-◌, ◌<◌, ◌≤◌, length, take, drop};
+ghost use Rattle.cell_log.specs.Records.{header_of};
 ghost use Rattle.pieces.specs.Found.{number_of, numbered};
 ghost use Rattle.pieces.specs.Steps.{
   start_of,
@@ -85,30 +86,36 @@ fn fault_found(standing: Standing, stage: u8, fault: u8, end: usize) -> Found
     }
 }
 
+// The refusal of the header that octets begin with (0: none).
+fn header_refusal(octets: &[u8]) -> u8
+    ensures { result ≡ (header_of octets.now).refusal }
+{
+    match cell_log::read_header(octets) {
+        Ok(_) => 0,
+        Err(refusal) => refusal.into(),
+    }
+}
+
 // What the header's newest octet makes of it. It is held already.
 #[tactic(auto, unfolding(crate::specs::Steps::header_found))]
 fn header_found(standing: Standing, held: [u8; 49], next: usize, end: usize) -> Found
     ensures { numbered result ≡ header_found standing held next end }
 {
     let count = standing.count % 9;
-    if count == 2 {
-        let header = cell_log::read_header(&held[..3]);
-        if header.refusal == 0 {
-            return Found {
-                what: What::Header,
-                next,
-                standing: Standing {
-                    stage: 1,
-                    count: 0,
-                    left: standing.left.saturating_sub(3),
-                    ..standing
-                },
-            };
-        }
+    if count == 2 && header_refusal(&held[..3]) == 0 {
+        return Found {
+            what: What::Header,
+            next,
+            standing: Standing {
+                stage: 1,
+                count: 0,
+                left: standing.left.saturating_sub(3),
+                ..standing
+            },
+        };
     }
     if count == 8 {
-        let header = cell_log::read_header(&held[..9]);
-        return fault_found(standing, 2, header.refusal, end);
+        return fault_found(standing, 2, header_refusal(&held[..9]), end);
     }
     Found {
         what: What::Nothing,
@@ -240,8 +247,7 @@ pub fn end(standing: Standing, held: [u8; 49]) -> u8
 {
     if standing.stage == 0 {
         let count = standing.count % 9;
-        let header = cell_log::read_header(&held[..count]);
-        return header.refusal;
+        return header_refusal(&held[..count]);
     }
     if standing.stage != 1 || standing.count % 49 == 0 {
         return 0;

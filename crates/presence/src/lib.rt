@@ -1,6 +1,7 @@
 #![tactic(auto)]
 // Is there anything on it at all? Request 7: whether a log holds a sample marked 0 that isn't zero, and in which record first.
 ghost use Rattle.std.specs.Prelude.{◌≡◌, true, false};
+ghost use Rattle.cell_log.specs.Records.{header_answered};
 ghost use Rattle.presence.specs.Line.{Writes};
 ghost use Rattle.presence.specs.Presence.{presence_of, read_from};
 ghost use Rattle.presence.specs.Taking.{search_start, reads_on, Takes, answer_at_end};
@@ -25,15 +26,14 @@ pub struct Presence {
 
 // Reads records from the place behind an accepted header on, and stops at the first that says yes.
 fn records(log: &[u8], header: Header) -> Presence
-    ensures { result ≡ read_from header log.now }
+    ensures { result ≡ read_from (header_answered (Ok header)) log.now }
 {
     let opened = receiver::opened(header.format, header.channels, header.order);
     let mut state = opened.state;
     let mut place = header.place;
     let mut number = 0;
-    let mut here = cell_log::read_record(log, place);
-    while here.what == 1 {
-        let said = sounds::heard(state, cell_log::read_cell(log, place), here.indication);
+    while let Ok(Some(record)) = cell_log::read_record(log, place) {
+        let said = sounds::heard(state, cell_log::read_cell(log, place), record.indication);
         if said.sounds {
             return Presence {
                 refusal: 0,
@@ -42,9 +42,8 @@ fn records(log: &[u8], header: Header) -> Presence
             };
         }
         state = said.state;
-        place = here.next;
+        place = record.next;
         number += 1;
-        here = cell_log::read_record(log, place);
     }
     Presence {
         refusal: 0,
@@ -58,15 +57,14 @@ fn records(log: &[u8], header: Header) -> Presence
 pub fn anything(log: &[u8]) -> Presence
     ensures { result ≡ presence_of log.now }
 {
-    let header = cell_log::read_header(log);
-    if header.refusal != 0 {
-        return Presence {
-            refusal: header.refusal,
+    match cell_log::read_header(log) {
+        Ok(header) => records(log, header),
+        Err(refusal) => Presence {
+            refusal: refusal.into(),
             found: false,
             number: 0,
-        };
+        },
     }
-    records(log, header)
 }
 
 // What is known behind a part of a log: the receiver's state, and the answer so far. Until a record says yes its number is how

@@ -17,11 +17,10 @@ fn past_front(sought: Sought, octets: [u8; 49]) -> Sought
     if sought.found {
         return sought;
     }
-    let record = cell_log::read_record(&octets, 0);
     let said = sounds::heard(
         sought.state,
         cell_log::read_cell(&octets, 0),
-        record.indication,
+        cell_log::read_indication(&octets, 0),
     );
     if said.sounds {
         return Sought {
@@ -41,7 +40,7 @@ fn past_front(sought: Sought, octets: [u8; 49]) -> Sought
 fn past_header(held: [u8; 49]) -> Sought
     ensures { result ≡ fresh_sought (header_of (take 3 held)) }
 {
-    let header = cell_log::read_header(&held[..3]);
+    let header = cell_log::header_numbers(&held[..3]);
     Sought {
         state: receiver::opened(header.format, header.channels, header.order).state,
         refusal: 0,

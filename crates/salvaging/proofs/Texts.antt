@@ -1,9 +1,8 @@
 -- Laws of what is written of a log's parts, and of the counts behind them.
 -- Assumes nothing.
-use Rattle.std.proofs.Common.{◌≡◌, ℕ, ◌+◌, ◌-◌, ◌%◌, ◌^◌, true, false, cond, eqb, ltb, List, [], ◌∷◌, ◌++◌, length, take, sym, refl, ap, ◌∙◌, append_assoc, append-nil, eq-eqb, ne_eqb}
+use Rattle.std.proofs.Common.{◌≡◌, ℕ, ◌+◌, ◌-◌, ◌%◌, ◌^◌, Bool, true, false, cond, eqb, ltb, List, [], ◌∷◌, ◌++◌, length, take, sym, refl, ap, ◌∙◌, append_assoc, append-nil, eq-eqb, ne_eqb}
 use Rattle.runs.proofs.Laws.{split}
-use Rattle.cell_log.specs.declared.Header.{Header}
-use Rattle.cell_log.specs.declared.Record.{Record}
+use Rattle.cell_log.specs.Answers.{Header}
 use Rattle.cell_log.specs.Records.{header_of, record_at, cell_at}
 use Rattle.cell_log.specs.Written.{record_octets}
 use Rattle.receiver.specs.declared.Received.{Received}
@@ -62,13 +61,13 @@ module _ (t : Tally) (octets : List ℕ) where
   abbrev w : Whole
   w = front_of octets
 
-  judged_is : {r : Record} {cell : List ℕ} {got : Received} → r ≡ record_at octets 0 → cell ≡ cell_at octets 0
-      → got ≡ judged_of t.state cell r.indication → got ≡ judged_whole t.state w
+  judged_is : {said : Bool} {cell : List ℕ} {got : Received} → said ≡ (record_at octets 0).indication → cell ≡ cell_at octets 0
+      → got ≡ judged_of t.state cell said → got ≡ judged_whole t.state w
   unfolding front_of
-  judged_is f e g = g ∙ (λ i. judged_of t.state (e i) (f i).indication)
+  judged_is f e g = g ∙ (λ i. judged_of t.state (e i) (f i))
 
-  module _ {r : Record} {cell : List ℕ} {got : Received} {tally : Tally} (read : r ≡ record_at octets 0) (part : cell ≡ cell_at octets 0)
-      (judged : got ≡ judged_of t.state cell r.indication) (counted : tally ≡ after_of t got)
+  module _ {said : Bool} {cell : List ℕ} {got : Received} {tally : Tally} (read : said ≡ (record_at octets 0).indication)
+      (part : cell ≡ cell_at octets 0) (judged : got ≡ judged_of t.state cell said) (counted : tally ≡ after_of t got)
     where
       is : got ≡ judged_whole t.state w
       is = judged_is read part judged
@@ -81,14 +80,14 @@ module _ (t : Tally) (octets : List ℕ) where
       tally_is = counted ∙ ap (after_of t) is
 
       pub tells_sound : {out out₁ notes : List ℕ} {saved saved₁ noted : Put} → got.refusal ≡ 0
-          → Puts out saved out₁ saved₁ (record_octets r.indication cell)
+          → Puts out saved out₁ saved₁ (record_octets said cell)
           → TellsOne t (whole w) out saved out₁ saved₁ notes noted notes noted tally
       unfolding part_octets part_text front_of
       tells_sound {notes = notes} {noted = noted} ok puts =
           let test : eqb (judged_whole t.state w).refusal 0 ≡ true = eq-eqb (judged_whole t.state w).refusal 0 (refusal_is ∙ ok) in
           record {
             saves = puts_same
-                ((λ i. record_octets (read i).indication (part i))
+                ((λ i. record_octets (read i) (part i))
                 ∙ sym (ap (λ b. cond b (record_octets w.indication w.cell) []) test)) puts;
             notes_it = puts_same
                 (sym (ap (λ b. cond b [] (refused_line ((t.kept + t.left_out) % 2 ^ 64) (judged_whole t.state w).refusal)) test))
@@ -133,7 +132,7 @@ module _ (t : Tally) {parts : List Part} where
       }
 
 pub one_header : {t : Tally} (held : List ℕ) {out out₁ notes : List ℕ} {saved saved₁ noted : Put} {tally : Tally} {h : Header}
-    → h ≡ header_of (take 3 held) → Puts out saved out₁ saved₁ (head_octets h) → tally ≡ fresh_tally h
+    → h ≡ record (header_of (take 3 held)) { refusal = 0 } → Puts out saved out₁ saved₁ (head_octets h) → tally ≡ fresh_tally h
     → TellsOne t (head (header_of (take 3 held))) out saved out₁ saved₁ notes noted notes noted tally
 unfolding part_octets part_text part_tally
 one_header held {notes = notes} {noted = noted} same puts counts =

@@ -1,6 +1,6 @@
 // What is written of a log's parts, and the counts behind them.
 ghost use Rattle.std.specs.Prelude.{◌≡◌, ◌+◌, ◌-◌, ◌≤◌, length, take};
-ghost use Rattle.cell_log.specs.Records.{header_of};
+ghost use Rattle.cell_log.specs.Records.{header_answered, header_of};
 ghost use Rattle.cell_log.specs.Written.{record_octets};
 ghost use Rattle.reading.specs.Records.{front_of};
 ghost use Rattle.pieces.specs.Limit.{whole};
@@ -26,13 +26,13 @@ pub(crate) struct Stepped {
 }
 
 fn header_of(held: [u8; 49]) -> Header
-    ensures { result ≡ header_of (take 3 held) }
+    ensures { header_answered (Ok result) ≡ record (header_of (take 3 held)) { refusal = 0 } }
 {
-    cell_log::read_header(&held[..3])
+    cell_log::header_numbers(&held[..3])
 }
 
 fn fresh(header: Header) -> Tally
-    ensures { result ≡ fresh_tally header }
+    ensures { result ≡ fresh_tally (header_answered (Ok header)) }
 {
     Tally {
         state: receiver::opened(header.format, header.channels, header.order).state,
@@ -81,7 +81,7 @@ fn past_fault(tally: Tally, standing: Standing) -> Tally
 
 // A header that was taken: each of its numbers is one octet.
 fn put_header(out: &mut [u8], at: Put, header: Header) -> Put
-    ensures { Puts out.old at out.new result (head_octets header) }
+    ensures { Puts out.old at out.new result (head_octets (header_answered (Ok header))) }
 {
     let octets = [
         (header.format % 256) as u8,
@@ -110,13 +110,13 @@ fn record_step(
     ensures { TellsOne tally (whole (front_of octets)) out.old saved out.new result.saved
         notes.old noted notes.new result.noted result.tally }
 {
-    let record = cell_log::read_record(&octets, 0);
+    let indication = cell_log::read_indication(&octets, 0);
     let cell = cell_log::read_cell(&octets, 0);
-    let got = receiver::judged(tally.state, cell, record.indication);
+    let got = receiver::judged(tally.state, cell, indication);
     let counted = after(tally, got);
     if got.refusal == 0 {
         return Stepped {
-            saved: put_record(out, saved, record.indication, cell),
+            saved: put_record(out, saved, indication, cell),
             noted,
             tally: counted,
         };

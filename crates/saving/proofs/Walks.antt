@@ -12,8 +12,7 @@ use lib.ListN.{length, take, drop, length-append, length-drop}
 use lib.Seq.{length-take-le}
 use Rattle.runs.specs.Runs.{written}
 use Rattle.runs.proofs.Laws.{split}
-use Rattle.cell_log.specs.declared.Record.{Record}
-use Rattle.cell_log.specs.declared.keep.Kept.{Kept}
+use Rattle.cell_log.specs.Answers.{Record, Kept}
 use Rattle.cell_log.specs.Records.{record_at, cell_at}
 use Rattle.cell_log.specs.Written.{Keeps, record_refusal, record_octets}
 use Rattle.cell_log.proofs.Places.{record_cases, cell_facts}
@@ -128,6 +127,10 @@ pub room_again : {log : List ℕ} {state : Receiver} {first : Standing} {out lis
 room_again {log = log} {out = out} {list = list} e = subst (λ (st : Receiver). Room log st out list) (sym (started e))
 
 module _ {log : List ℕ} {state : Receiver} {here : Standing} {found : Record} (w : Walking log state here found) where
+  -- what is read there is one answer, however it is had
+  pub seen : {found' : Record} → found' ≡ record_at log here.place → Walking log state here found'
+  seen f = record { read = f; within = w.within; far = w.far; kept = w.kept; left = w.left; rest = w.rest }
+
   module _ (none : found.what ≡ 1 → ⊥) where
     pub none_here : (record_at log here.place).what ≡ 1 → ⊥
     none_here one = none (ap (λ (r : Record). r.what) w.read ∙ one)

@@ -71,15 +71,13 @@ fn count(log: &[u8], state: Receiver) -> Standing
     ensures { Counts log.now state result }
 {
     let mut here = start(state);
-    let mut found = cell_log::read_record(log, here.place);
-    while found.what == 1 {
+    while let Ok(Some(record)) = cell_log::read_record(log, here.place) {
         let got = receiver::judged(
             here.state,
             cell_log::read_cell(log, here.place),
-            found.indication,
+            record.indication,
         );
-        here = after(here, found.next, got);
-        found = cell_log::read_record(log, here.place);
+        here = after(here, record.next, got);
     }
     here
 }
@@ -113,7 +111,7 @@ fn put(out: &mut [u8], list: &mut [u64], here: Standing, refusal: u8, indication
         list.new }
 {
     if refusal == 0 {
-        cell_log::keep::write_record(out, 3 + 49 * here.kept, indication, cell);
+        let _ = cell_log::keep::write_record(out, 3 + 49 * here.kept, indication, cell);
         return;
     }
     let index = here.kept + here.left_out;
@@ -127,13 +125,11 @@ fn write(log: &[u8], state: Receiver, out: &mut [u8], list: &mut [u64]) -> Stand
         out.new list.new }
 {
     let mut here = start(state);
-    let mut found = cell_log::read_record(log, here.place);
-    while found.what == 1 {
+    while let Ok(Some(record)) = cell_log::read_record(log, here.place) {
         let cell = cell_log::read_cell(log, here.place);
-        let got = receiver::judged(here.state, cell, found.indication);
-        put(out, list, here, got.refusal, found.indication, cell);
-        here = after(here, found.next, got);
-        found = cell_log::read_record(log, here.place);
+        let got = receiver::judged(here.state, cell, record.indication);
+        put(out, list, here, got.refusal, record.indication, cell);
+        here = after(here, record.next, got);
     }
     here
 }
@@ -155,16 +151,16 @@ fn refused(refusal: u8) -> Salvaged
 pub fn salvage(log: &[u8], out: &mut [u8], list: &mut [u64]) -> Salvaged
     ensures { Salvages log.now out.old list.old result out.new list.new }
 {
-    let header = cell_log::read_header(log);
-    if header.refusal != 0 {
-        return refused(header.refusal);
-    }
+    let header = match cell_log::read_header(log) {
+        Ok(header) => header,
+        Err(refusal) => return refused(refusal.into()),
+    };
     let opened = receiver::opened(header.format, header.channels, header.order);
     let state = opened.state;
     if !has_room(log, state, out.len(), list.len()) {
         return refused(21);
     }
-    cell_log::keep::write_header(out, header.format, header.channels, header.order);
+    let _ = cell_log::keep::write_header(out, header.format, header.channels, header.order);
     let end = write(log, state, out, list);
     Salvaged {
         refusal: 0,

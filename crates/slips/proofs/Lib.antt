@@ -6,5 +6,6 @@ pub mod One
 pub mod Rows
 pub mod Steps
 pub mod Told
+pub mod Unfolded
 pub mod Watched
 pub mod Wrong

@@ -31,9 +31,13 @@ cells_of (Missing n) = n
 cells_of Alone = 0
 cells_of (Undecided n) = n
 
--- what a step leaves and tells, as the request has it
+-- what a step that isn't refused leaves and tells, as the request has it
+abbrev pub leaves_and_tells : Code.Watch → Slip → Stepped
+leaves_and_tells after slip = told (known_of after) (what_of slip) (cells_of slip)
+
+-- and any step
 abbrev pub stepped_of : Result Slip Refusal → Code.Watch → Stepped
-stepped_of (Ok slip) after = told (known_of after) (what_of slip) (cells_of slip)
+stepped_of (Ok slip) after = leaves_and_tells after slip
 stepped_of (Err refusal) after = refused (number_of refusal) (known_of after)
 
 -- "started, number, sure, second, may, waits, other"

@@ -7,14 +7,13 @@ ghost use Rattle.slips.specs.Watch.{
   watch_refused,
   in_step_of,
   out_of_step,
-  told,
   may_after,
   sure_step,
   taken_step,
   step_refusal,
   step_of,
 };
-ghost use Rattle.slips.specs.Known.{known_of, what_of, cells_of, stepped_of, octets_in, Reads};
+ghost use Rattle.slips.specs.Known.{known_of, what_of, cells_of, leaves_and_tells, stepped_of, octets_in, Reads};
 
 use numbers::difference;
 use refusals::Refusal;
@@ -100,7 +99,7 @@ impl Watch {
     }
 
     // Whether every number in it is below 16.
-    #[tactic(auto, unfolding(crate::specs::Watch::watch_refused, crate::specs::Watch::is_too_large, crate::specs::Watch::some_set, crate::specs::Watch::unlike))]
+    #[tactic(auto, unfolding(crate::proofs::Unfolded::watches))]
     fn is_sound(self) -> bool
         ensures { result ≡ not (watch_refused (known_of self)) }
     {
@@ -118,7 +117,7 @@ impl Watch {
     }
 
     // A watch with a number above 15, then a report that can't follow.
-    #[tactic(auto, unfolding(crate::specs::Watch::step_refusal, crate::specs::Watch::report_refused, refusals::specs::Refusals::refused_by, refusals::specs::Refusals::number_of))]
+    #[tactic(auto, unfolding(crate::proofs::Unfolded::refusals))]
     fn checked(self, missing: u8, number: u8, second: u8) -> Result<(), Refusal>
         ensures { refused_by result ≡ step_refusal (known_of self) missing number second }
     {
@@ -136,10 +135,10 @@ impl Watch {
     }
 
     // The watch brought forward by a report that follows, and what it tells.
-    #[tactic(auto, using(crate::proofs::Laws::follows), unfolding(crate::specs::Watch::taken_step, crate::specs::Watch::new_step, crate::specs::Watch::agrees_with))]
+    #[tactic(auto, using(crate::proofs::Laws::follows), unfolding(crate::proofs::Unfolded::steps))]
     fn forward(self, missing: u8, number: u8, second: u8) -> (Watch, Slip)
         requires { step_refusal (known_of self) missing number second ≡ 0 }
-        ensures { told (known_of result.0) (what_of result.1) (cells_of result.1) ≡ taken_step (known_of self) missing number second }
+        ensures { leaves_and_tells result.0 result.1 ≡ taken_step (known_of self) missing number second }
     {
         match self {
             Watch::New => (Watch::Begun { number, second }, Slip::Nothing),
@@ -210,10 +209,10 @@ impl Slip {
 }
 
 // A step where the cell taken last was in step: `by` blocks start up to this one.
-#[tactic(auto, using(crate::proofs::Laws::difference_to), unfolding(crate::specs::Watch::sure_step, crate::specs::Watch::agrees_with, crate::specs::Watch::may_after))]
+#[tactic(auto, using(crate::proofs::Laws::difference_to), unfolding(crate::proofs::Unfolded::sure_steps))]
 fn in_step(kept: u8, number: u8, second: u8, by: u8) -> (Watch, Slip)
     requires { by ≤ 2 }
-    ensures { (last : ℕ) → told (known_of result.0) (what_of result.1) (cells_of result.1) ≡ sure_step (in_step_of last kept) number second by }
+    ensures { (last : ℕ) → leaves_and_tells result.0 result.1 ≡ sure_step (in_step_of last kept) number second by }
 {
     let up = difference(second, kept);
     if up == by {
@@ -229,10 +228,10 @@ fn in_step(kept: u8, number: u8, second: u8, by: u8) -> (Watch, Slip)
 }
 
 // A step where the cell taken last was out of step.
-#[tactic(auto, using(crate::proofs::Laws::difference_to), unfolding(crate::specs::Watch::sure_step, crate::specs::Watch::agrees_with, crate::specs::Watch::slipped))]
+#[tactic(auto, using(crate::proofs::Laws::difference_to), unfolding(crate::proofs::Unfolded::sure_steps))]
 fn out_of_step(kept: u8, may: u8, other: u8, number: u8, second: u8, by: u8) -> (Watch, Slip)
     requires { (may ≤ 15) × (by ≤ 2) }
-    ensures { (last : ℕ) → told (known_of result.0) (what_of result.1) (cells_of result.1) ≡ sure_step (out_of_step last kept may other) number second by }
+    ensures { (last : ℕ) → leaves_and_tells result.0 result.1 ≡ sure_step (out_of_step last kept may other) number second by }
 {
     let may_now = may_after(may, by);
     let up = difference(second, kept);
@@ -261,7 +260,7 @@ impl TryFrom<[u8; 7]> for Watch {
 
     ghost try_from_gives = { Reads };
 
-    #[tactic(auto, unfolding(crate::specs::Watch::watch_refused, crate::specs::Watch::is_too_large, crate::specs::Watch::some_set, crate::specs::Watch::unlike))]
+    #[tactic(auto, unfolding(crate::proofs::Unfolded::watches))]
     fn try_from(octets: [u8; 7]) -> Result<Watch, Refusal> {
         let watch = match octets {
             [0, 0, 0, 0, 0, 0, 0] => Watch::New,

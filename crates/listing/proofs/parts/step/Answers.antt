@@ -2,7 +2,7 @@
 -- Assumes nothing.
 use Rattle.std.proofs.Common.{refl, sym, ap, ◌∙◌}
 use Rattle.pieces.proofs.Parts.{parts_record, parts_header, parts_fault, parts_none}
-use Rattle.cell_log.specs.declared.Header.{Header}
+use Rattle.cell_log.specs.Answers.{Header}
 use Rattle.listing.specs.Lines.{format_line}
 use Rattle.listing.specs.List.{line_of}
 use Rattle.listing.specs.Taking.{part_text, part_tally, fresh_tally, after_of}

@@ -15,9 +15,7 @@ unfolding front_of
 returns-then-said c =
     past_yes _ _ c.if-sought.false
     (c.heard-said.ensures
-    ∙ (λ i.
-    said_of c.args.sought.state (c.read_cell.ensures.0 i)
-    (c.read_record-record.ensures i).indication))
+    ∙ (λ i. said_of c.args.sought.state (c.read_cell.ensures.0 i) (c.read_indication.ensures i)))
     c.if-said.true
 
 pub returns : goal.returns
@@ -25,7 +23,5 @@ unfolding front_of
 returns c =
     past_no _ _ c.if-sought.false
     (c.heard-said.ensures
-    ∙ (λ i.
-    said_of c.args.sought.state (c.read_cell.ensures.0 i)
-    (c.read_record-record.ensures i).indication))
+    ∙ (λ i. said_of c.args.sought.state (c.read_cell.ensures.0 i) (c.read_indication.ensures i)))
     c.if-said.false refl
