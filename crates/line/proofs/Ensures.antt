@@ -73,6 +73,7 @@ use Rattle.units.proofs.export_units.Kinds as export-units-kinds
 use Rattle.units.proofs.export_units.Reads as export-units-reads
 use Rattle.units.proofs.read_unit.Kinds as read-unit-kinds
 use Rattle.units.proofs.read_unit.Reads as read-unit-reads
+use Rattle.refusals.specs.Refusals.{refused_by}
 use Rattle.circuits.specs.Circuits.{check_answered}
 use Rattle.circuits.proofs.check.Kinds as check-circuits-kinds
 use Rattle.circuits.proofs.check.Reads as check-circuits-reads
