@@ -8,7 +8,11 @@ pub(crate) fn cases(rt: &impl Print) {
     let second = run[1];
     let _ = println!(rt; "log number 128: {first:02x} {second:02x}");
     let long = [128u8, 0];
-    refused(rt, "log number 80 00: refused ", cell_log::read_number(&long, 0));
+    refused(
+        rt,
+        "log number 80 00: refused ",
+        cell_log::read_number(&long, 0),
+    );
     let empty: [u8; 0] = [];
     refused(rt, "empty log: refused ", cell_log::read_header(&empty));
 }

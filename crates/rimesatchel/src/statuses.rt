@@ -84,7 +84,13 @@ pub fn rime_status_run(
     ensures { RanOctets block.old ancillary.now marks.now from step result block.new
         out.new next.new }
 {
-    match run(block_of(*block), ancillary, marks, from as usize, step as usize) {
+    match run(
+        block_of(*block),
+        ancillary,
+        marks,
+        from as usize,
+        step as usize,
+    ) {
         Ok(ran) => {
             *block = octets_of(ran.stepped.block);
             *out = handed_octets(ran.stepped.handed);

@@ -2,18 +2,18 @@
 -- Assumes nothing.
 use mathlib.Core.Bool.{cond, true≢false}
 use mathlib.Core.List.{List}
-use mathlib.Core.Path.{◌≡◌, refl, sym, ◌∙◌, ap}
+use mathlib.Core.Path.{◌≡◌, refl, sym, ◌∙◌, ap, ap₂}
 use Prim.Native.Nat.{ℕ}
 use lib.Dec.{eqb}
-use Rattle.std.proofs.Common.{Result, Ok, Err}
+use Rattle.std.proofs.Common.{Result, Ok, Err, IfOk}
 use Rattle.refusals.specs.declared.Refusal.{Refusal}
 use Rattle.refusals.proofs.Laws.{number_injective, number_not_0}
 use Rattle.slips.specs.declared.Watch as Code
 use Rattle.slips.specs.declared.Watch.TheVariants.{New, Begun, InStep, OutOfStep}
 use Rattle.slips.specs.declared.Slip.{Slip}
 use Rattle.slips.specs.declared.Slip.TheVariants.{Nothing, Missing, Alone, Undecided}
-use Rattle.slips.specs.Watch.{Watch, Stepped}
-use Rattle.slips.specs.Known.{known_of, stepped_of, Reads}
+use Rattle.slips.specs.Watch.{Watch, Stepped, told}
+use Rattle.slips.specs.Known.{known_of, what_of, cells_of, stepped_of, stepped_from, watch_in, octets_in, Reads}
 
 back : Watch → Code.Watch
 back w =
@@ -64,3 +64,19 @@ reads_one octets (Ok v) (Ok w) p q = ap Ok (known_injective v w (p.0 ∙ sym q.0
 reads_one octets (Ok v) (Err f) p q = absurd (true≢false (sym q.1 ∙ p.1))
 reads_one octets (Err e) (Ok w) p q = absurd (true≢false (sym p.1 ∙ q.1))
 reads_one octets (Err e) (Err f) p q = ap Err (p.0 ∙ sym q.0)
+
+slip_told : (w : Watch) (slip : Slip) → slip_in (told w (what_of slip) (cells_of slip)) ≡ slip
+unfolding slip_in
+slip_told w Nothing = refl
+slip_told w (Missing n) = refl
+slip_told w Alone = refl
+slip_told w (Undecided n) = refl
+
+pub from_injective : (before : List ℕ) (x y : Result (List ℕ × Slip) Refusal) → stepped_from before x ≡ stepped_from before y
+    → IfOk x (λ r. r.0 ≡ octets_in (watch_in r.0)) → IfOk y (λ r. r.0 ≡ octets_in (watch_in r.0)) → x ≡ y
+from_injective before (Ok r) (Ok s) same p q =
+    ap₂ (λ (o : List ℕ) (slip : Slip). Ok (o, slip)) (p ∙ ap (λ (t : Stepped). octets_in t.watch) same ∙ sym q)
+    (sym (slip_told (watch_in r.0) r.1) ∙ ap slip_in same ∙ slip_told (watch_in s.0) s.1)
+from_injective before (Ok r) (Err f) same p q = absurd (number_not_0 f (sym (ap (λ (t : Stepped). t.refusal) same)))
+from_injective before (Err e) (Ok s) same p q = absurd (number_not_0 e (ap (λ (t : Stepped). t.refusal) same))
+from_injective before (Err e) (Err f) same p q = ap Err (number_injective (ap (λ (t : Stepped). t.refusal) same))

@@ -3,9 +3,11 @@
 -- Assumes nothing.
 use mathlib.Core.Path.{refl, sym, ◌∙◌}
 use Rattle.runs.proofs.One.{One}
-use Rattle.slips.proofs.Known.{step_injective, reads_one}
+use Rattle.slips.proofs.Known.{step_injective, reads_one, from_injective}
 use Rattle.slips.proofs.Watch.step.Kinds as step-kinds
 use Rattle.slips.proofs.Watch.step.Reads as step-reads
+use Rattle.slips.proofs.step.Kinds as from-kinds
+use Rattle.slips.proofs.step.Reads as from-reads
 use Rattle.slips.proofs.Watch.octets.Kinds as octets-kinds
 use Rattle.slips.proofs.Watch.octets.Reads as octets-reads
 use Rattle.slips.proofs.WatchTryFromArrayU87.try_from.Kinds as read-kinds
@@ -20,3 +22,6 @@ octets_one κs a x y v w pre p q = (p ∙ sym q, refl)
 
 pub try_from_one : One read-kinds.ps read-kinds.r read-reads.Pre read-reads.Post
 try_from_one κs a x y v w pre p q = (reads_one a.0 x y p q, refl)
+
+pub step_of_octets_one : One from-kinds.ps from-kinds.r from-reads.Pre from-reads.Post
+step_of_octets_one κs a x y v w pre p q = (from_injective a.0 x y (p.0 ∙ sym q.0) p.1 q.1, refl)

@@ -27,11 +27,13 @@ use Rattle.slips.specs.Watch.{
   taken_step,
   step_of,
 }
-use Rattle.slips.specs.Known.{stepped_of}
+use Rattle.slips.specs.Known.{stepped_of, stepped_from}
 use Rattle.slips.specs.declared.Watch as Code
 use Rattle.slips.specs.declared.Watch.TheVariants.{InStep, OutOfStep}
 use Rattle.slips.proofs.WatchTryFromArrayU87.try_from.Kinds as read-kinds
 use Rattle.slips.proofs.WatchTryFromArrayU87.try_from.Reads as read-reads
+use Rattle.slips.proofs.step.Kinds as from-kinds
+use Rattle.slips.proofs.step.Reads as from-reads
 use Rattle.slips.proofs.Watch.step.Kinds as step-kinds
 use Rattle.slips.proofs.Watch.step.Reads as step-reads
 
@@ -73,10 +75,9 @@ module _ (κs : Lfts 1) (s : Place) where
   step_not_always_refused x v wrong p = wrong (ap (λ (s : Stepped). s.refusal) p)
 
   -- 31 before 4
-  pub report_not_before_watch :
-      Stepping (InStep 16 0) 1 4 0 (λ x. x.refusal ≡ 31)
+  pub report_not_before_number : Stepping (InStep 16 0) 1 4 0 (λ x. x.refusal ≡ 31)
   unfolding unfolded
-  report_not_before_watch x v wrong p = let right : (stepped_of x v.0).refusal ≡ 4 = ap (λ (s : Stepped). s.refusal) p in omega arith
+  report_not_before_number x v wrong p = let right : (stepped_of x v.0).refusal ≡ 4 = ap (λ (s : Stepped). s.refusal) p in omega arith
 
   -- a report with another number of missing cells than the numbers tell, taken
   pub missing_not_taken_unseen : Stepping (InStep 3 0) 1 4 0 (λ x. x.refusal ≡ 0)
@@ -98,3 +99,11 @@ module _ (κs : Lfts 0) where
   unfolding unfolded refused_by
   two_no_yes (Ok w) v wrong p = true≢false p.1
   two_no_yes (Err e) v wrong p = number_not_0 e wrong
+
+  -- 31 before 4: a yes that is 2
+  pub report_not_before_watch :
+      Never from-kinds.ps from-kinds.r from-reads.Post κs (2 ∷ 3 ∷ 1 ∷ 0 ∷ 0 ∷ 0 ∷ 0 ∷ [], (1, (4, (0, tt))))
+      (λ x v. (stepped_from (2 ∷ 3 ∷ 1 ∷ 0 ∷ 0 ∷ 0 ∷ 0 ∷ []) x).refusal ≡ 31)
+  unfolding unfolded
+  report_not_before_watch x v wrong p =
+      let right : (stepped_from (2 ∷ 3 ∷ 1 ∷ 0 ∷ 0 ∷ 0 ∷ 0 ∷ []) x).refusal ≡ 4 = ap (λ (s : Stepped). s.refusal) p.0 in omega arith

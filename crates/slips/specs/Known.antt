@@ -60,3 +60,8 @@ octets_in w = w.started ∷ w.number ∷ w.sure ∷ w.second ∷ w.may ∷ w.wai
 abbrev pub Reads : List ℕ → Result Code.Watch Refusal → Type 0
 Reads octets (Ok watch) = (known_of watch ≡ watch_in octets) × (watch_refused (watch_in octets) ≡ false)
 Reads octets (Err refusal) = (refusal ≡ State) × (watch_refused (watch_in octets) ≡ true)
+
+-- a step of a watch that is seven octets, as the request has it: "the watch" goes on, or stays as it was
+abbrev pub stepped_from : List ℕ → Result (List ℕ × Slip) Refusal → Stepped
+stepped_from before (Ok r) = told (watch_in r.0) (what_of r.1) (cells_of r.1)
+stepped_from before (Err refusal) = refused (number_of refusal) (watch_in before)

@@ -1,6 +1,6 @@
 #![tactic(auto)]
 // Slips, told by second numbers: cells that are missing beside those that the receiver tells missing.
-ghost use Rattle.std.specs.Prelude.{ℕ, [], ◌∷◌, ◌≡◌, ◌≤◌, not, MatchOption};
+ghost use Rattle.std.specs.Prelude.{ℕ, [], ◌∷◌, ◌≡◌, ◌≤◌, not, MatchOption, IfOk};
 ghost use Rattle.refusals.specs.Refusals.{refused_by};
 ghost use Rattle.slips.specs.Slips.{starts_of, behind_of};
 ghost use Rattle.slips.specs.Watch.{
@@ -13,7 +13,7 @@ ghost use Rattle.slips.specs.Watch.{
   step_refusal,
   step_of,
 };
-ghost use Rattle.slips.specs.Known.{known_of, what_of, cells_of, leaves_and_tells, stepped_of, octets_in, Reads};
+ghost use Rattle.slips.specs.Known.{known_of, what_of, cells_of, leaves_and_tells, stepped_of, stepped_from, watch_in, octets_in, Reads};
 
 use numbers::difference;
 use refusals::Refusal;
@@ -280,4 +280,16 @@ impl TryFrom<[u8; 7]> for Watch {
             Err(Refusal::State)
         }
     }
+}
+
+// A step of a watch that is kept as seven octets, by value: the octets to go on with, and what is told. Refused, State for octets that
+// can't be a watch or Report for a report that can't follow.
+pub fn step(watch: [u8; 7], missing: u8, number: u8, second: u8) -> Result<([u8; 7], Slip), Refusal>
+    ensures step { stepped_from watch result ≡ step_of (watch_in watch) missing number second }
+    ensures octets { IfOk result (λ r. r.0 ≡ octets_in (watch_in r.0)) }
+{
+    let seen = Watch::try_from(watch)?;
+    seen.checked(missing, number, second)?;
+    let (after, slip) = seen.forward(missing, number, second);
+    Ok((after.octets(), slip))
 }

@@ -20,6 +20,6 @@ pub returns : goal.returns
 returns c = listed_octets_lem c.start-begun.ensures c.take-printed.ensures
     c.rest-end.ensures
     (elim c.if-lines.branch [
-        then-lines w ↦ w.whole-is ∙ rw w.if-lines.true
+      | then-lines w ↦ w.whole-is ∙ rw w.if-lines.true
       | else-lines w ↦ w.whole-is ∙ rw w.if-lines.false
     ])

@@ -14,7 +14,7 @@ returns-in-Ok-Some c =
     let is = answered_some _ c.in-Ok-Some.field-0-is c.in-Ok-Some.ensures in (
       ap (λ (r : Record). r.refusal) is,
       ap (λ (n : ℕ). 1 ∷ n ∷ c.in-Ok-Some.found.start ∷ c.in-Ok-Some.found.next ∷ []) (c.from.ensures ∙ byte_of c.in-Ok-Some.found.indication)
-      ∙ ap record_numbers is,
+          ∙ ap record_numbers is,
     )
 
 pub returns-in-Ok-None : goal.returns-in-Ok-None
