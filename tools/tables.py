@@ -83,7 +83,7 @@ def source():
 
 def sevens(old):
     """The table in crates/guards/src/lib.rt: the protection bits of all numbers of seven bits."""
-    start = 'const SEVENS: [u8; 128] = [\n'
+    start = 'static SEVENS: [u8; 128] = [\n'
     before, rest = old.split(start, 1)
     after = rest.split('];\n', 1)[1]
     rows = [range(first, first + 32) for first in range(0, 128, 32)]
