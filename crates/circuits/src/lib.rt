@@ -54,11 +54,13 @@ fn judge(slots: u32, channels: u32, frequency: u32, shares: &[u32], allowances: 
     ensures { verdict_of result ≡ judged_from slots channels frequency 0 0 shares.now allowances.now }
 {
     let mut carried = 0;
-    for (i, (&share, &allowance)) in shares.iter().zip(allowances).enumerate() {
+    // no `zip`: the page's library, which has addresses of 32 bits, can't take an iterator's
+    for i in 0..shares.len() {
+        let share = shares[i];
         if !fits_slots(slots, share) {
             return Verdict::Share(i as u32);
         }
-        if allowance < cells_per_second(slots, share, frequency) {
+        if allowances[i] < cells_per_second(slots, share, frequency) {
             return Verdict::Allowance(i as u32);
         }
         carried += share;
