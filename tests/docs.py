@@ -1,6 +1,6 @@
 #!/usr/bin/env python3
 """What the pages name is there: paths, make targets, crates, functions, calls, refusal numbers, options, subcommands, man pages
-and chapters, in README.md, CONTRIBUTING.md, docs/ (docs/LANDINGS.md and docs/PORT.md are history and are left out), the man
+and chapters, in README.md, CONTRIBUTING.md, docs/ (LANDINGS.md, PORT.md and DESIGN-PASS.md there are history and are left out), the man
 pages, `make help` and every --help. tests/gate/05-promises.sh asks more of docs/PROMISES.md.
 
 usage: docs.py             looks at every page
@@ -129,7 +129,8 @@ def pages():
     """Each page's name and text. In man pages the escapes of roff are taken away."""
     found = {}
     for name in tree():
-        if re.fullmatch(r'README\.md|CONTRIBUTING\.md|docs/.*\.md', name) and name not in ('docs/LANDINGS.md', 'docs/PORT.md'):
+        if re.fullmatch(r'README\.md|CONTRIBUTING\.md|docs/.*\.md', name) and name not in (
+            'docs/LANDINGS.md', 'docs/PORT.md', 'docs/DESIGN-PASS.md'):
             found[name] = (HERE / name).read_text(encoding='utf-8')
         elif re.fullmatch(r'(?:man|desk)/.*\.1', name):
             text = re.sub(r'\\f.|\\&', '', (HERE / name).read_text(encoding='utf-8')).replace('\\-', '-')

@@ -27,8 +27,7 @@ fn take_read(search: Search, held: &mut [u8; 49], buffer: &[u8], turn: Turn) -> 
     requires { turn.octets ≤ length buffer.now }
     ensures { Takes search held.old (take turn.octets buffer.now) result held.new }
 {
-    let n = turn.octets;
-    presence::take(search, held, &buffer[..n])
+    presence::take(search, held, &buffer[..turn.octets])
 }
 
 // Writes the answer of a log that ends here, or behind a yes or a fault. Where no record says yes, it says where the log stopped: a yes
@@ -37,8 +36,7 @@ fn finish(rt: &HostRuntime, name: &[u8], search: Search, held: [u8; 49]) {
     let answer = presence::end(search, held);
     let mut text = [0u8; 64];
     let line = presence::put_line(answer, &mut text);
-    let octets = line.octets;
-    print(rt, &text[..octets], line.whole);
+    print(rt, &text[..line.octets], line.whole);
     if !answer.found {
         source::stopped(rt, b"anything", name, stops::of(search.standing, held));
     }

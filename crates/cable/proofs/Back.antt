@@ -17,6 +17,8 @@ use lib.Pow.{shr-shr}
 use Rattle.runs.proofs.Laws.{split, past, neither, both_true}
 use Rattle.cable.specs.Slots.{time_slot, sample_in, ancillary_in, parity_of, subframe_of}
 use Rattle.cable.specs.Frames.{
+  Exported,
+  Imported,
   first,
   second,
   preamble_x,
@@ -35,8 +37,6 @@ use Rattle.cable.specs.Frames.{
   export_of,
 }
 use Rattle.cable.specs.Back.{Halves, SameSlots, SameFrame}
-use Rattle.cable.specs.declared.Imported.{Imported}
-use Rattle.cable.specs.declared.Exported.{Exported}
 use Rattle.cable.proofs.Demand1.{demand_1_import, demand_1_export}
 use Rattle.cable.proofs.Laws.{sample_is, ancillary_is, subframe_is, carried_of}
 use Rattle.cable.proofs.Refusals.{import_taken, import_0, export_taken, export_fits, export_0}

@@ -6,9 +6,7 @@ use Prim.Native.Nat.{ℕ}
 use borrow.Author.Tests.{eqb-true, eqb-false}
 use lib.Dec.{eqb}
 use Rattle.runs.proofs.Laws.{split}
-use Rattle.cable.specs.Frames.{import_refusal, import_of, imported, not_imported, export_refusal, export_of, exported, not_exported}
-use Rattle.cable.specs.declared.Imported.{Imported}
-use Rattle.cable.specs.declared.Exported.{Exported}
+use Rattle.cable.specs.Frames.{Exported, Imported, import_refusal, import_of, imported, not_imported, export_refusal, export_of, exported, not_exported}
 use Rattle.cable.proofs.Refusals.{import_taken, import_refused, export_taken, export_refused}
 
 -- an answer that is one thing where n is 0, and another, which tells n, where it isn't

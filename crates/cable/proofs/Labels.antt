@@ -12,9 +12,8 @@ use Rattle.status.specs.Step.{fit_of, b_of, c_of}
 use Rattle.status.specs.declared.step.Block.{Block}
 use Rattle.status.proofs.Sent.{brings_out}
 use Rattle.cable.specs.Slots.{time_slot, ancillary_in}
-use Rattle.cable.specs.Frames.{first, preamble_z, begins_by, import_of, imported}
+use Rattle.cable.specs.Frames.{Imported, first, preamble_z, begins_by, import_of, imported}
 use Rattle.cable.specs.Labels.{Labelled, ancillary_at}
-use Rattle.cable.specs.declared.Imported.{Imported}
 use Rattle.cable.proofs.Back.{begins_le}
 use Rattle.cable.proofs.Demand1.{demand_1_import}
 use Rattle.cable.proofs.Refusals.{import_taken}

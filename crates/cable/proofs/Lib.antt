@@ -1,3 +1,4 @@
+pub mod Answered
 pub mod Back
 pub mod Demand1
 pub mod Labels
@@ -5,4 +6,5 @@ pub mod Laws
 pub mod One
 pub mod Refusals
 pub mod Rows
+pub mod Unfolded
 pub mod Wrong

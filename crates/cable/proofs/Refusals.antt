@@ -29,23 +29,11 @@ use Rattle.cable.specs.Frames.{
 }
 
 module _ (preambles subframes : List ℕ) where
-  pub import_16 : is_frame (first preambles) (second preambles) ≡ false → 16 ≡ import_refusal preambles subframes
+  -- nothing is refused
+  pub import_0 : is_frame (first preambles) (second preambles) ≡ true → (parity_of (first subframes) ≡ 1 → ⊥) → (parity_of (second subframes) ≡ 1 → ⊥)
+      → 0 ≡ import_refusal preambles subframes
   unfolding import_refusal
-  import_16 other = rw other
-
-  module _ (frame : is_frame (first preambles) (second preambles) ≡ true) where
-    pub import_17 : parity_of (first subframes) ≡ 1 → 17 ≡ import_refusal preambles subframes
-    unfolding import_refusal
-    import_17 odd = rw (frame, eq-eqb _ _ odd)
-
-    module _ (even : parity_of (first subframes) ≡ 1 → ⊥) where
-      pub import_17_second : parity_of (second subframes) ≡ 1 → 17 ≡ import_refusal preambles subframes
-      unfolding import_refusal
-      import_17_second odd = rw (frame, ne_eqb _ _ even, eq-eqb _ _ odd)
-
-      pub import_0 : (parity_of (second subframes) ≡ 1 → ⊥) → 0 ≡ import_refusal preambles subframes
-      unfolding import_refusal
-      import_0 both = rw (frame, ne_eqb _ _ even, ne_eqb _ _ both)
+  import_0 frame even both = rw (frame, ne_eqb _ _ even, ne_eqb _ _ both)
 
   pub import_refused : {n : ℕ} → n ≡ import_refusal preambles subframes → (n ≡ 0 → ⊥) → not_imported n ≡ import_of preambles subframes
   unfolding import_of
@@ -73,23 +61,11 @@ module _ (preambles subframes : List ℕ) where
       ∙ import_taken none
 
 module _ (samples ancillary : List ℕ) where
-  pub export_6 : is_too_large (first samples) (first ancillary) ≡ true → 6 ≡ export_refusal samples ancillary
+  -- nothing is refused
+  pub export_0 : is_too_large (first samples) (first ancillary) ≡ false → is_too_large (second samples) (second ancillary) ≡ false
+      → b_of (first ancillary) ≡ b_of (second ancillary) → 0 ≡ export_refusal samples ancillary
   unfolding export_refusal
-  export_6 large = rw large
-
-  module _ (fits : is_too_large (first samples) (first ancillary) ≡ false) where
-    pub export_6_second : is_too_large (second samples) (second ancillary) ≡ true → 6 ≡ export_refusal samples ancillary
-    unfolding export_refusal
-    export_6_second large = rw (fits, large)
-
-    module _ (both : is_too_large (second samples) (second ancillary) ≡ false) where
-      pub export_29 : (b_of (first ancillary) ≡ b_of (second ancillary) → ⊥) → 29 ≡ export_refusal samples ancillary
-      unfolding export_refusal
-      export_29 differ = rw (fits, both, ne_eqb _ _ differ)
-
-      pub export_0 : b_of (first ancillary) ≡ b_of (second ancillary) → 0 ≡ export_refusal samples ancillary
-      unfolding export_refusal
-      export_0 same = rw (fits, both, eq-eqb _ _ same)
+  export_0 fits both same = rw (fits, both, eq-eqb _ _ same)
 
   pub export_refused : {n : ℕ} → n ≡ export_refusal samples ancillary → (n ≡ 0 → ⊥) → not_exported n ≡ export_of samples ancillary
   unfolding export_of

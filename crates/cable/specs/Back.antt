@@ -2,8 +2,7 @@
 -- Assumes nothing.
 use Rattle.std.specs.Prelude.{List, ◌≡◌, ℕ, ◌^◌, ◌≤◌, ◌<◌, length}
 use Rattle.cable.specs.Slots.{time_slot}
-use Rattle.cable.specs.Frames.{first, second}
-use Rattle.cable.specs.declared.Exported.{Exported}
+use Rattle.cable.specs.Frames.{Exported, first, second}
 
 -- two preambles, and two subframes of 32 slots
 pub record Halves (preambles subframes : List ℕ) : Type 0 where

@@ -1,8 +1,8 @@
 // Document 01, "Subframe formats" and "Placement": how many channels a format takes.
-use super::say;
+use super::refused;
 
 fn settled(rt: &impl Print, what: &str, octet: u32, channels: u32) {
-    say(rt, what, formats::settings(octet, channels, 0).refusal);
+    refused(rt, what, formats::settings(octet, channels, 0));
 }
 
 pub(crate) fn cases(rt: &impl Print) {

@@ -12,7 +12,7 @@ use borrow.Author.Tests.{ltb-true, ltb-false, ne_eqb}
 use lib.Dec.{eqb, ltb}
 use lib.ListN.{length, get_or, take, drop, length-append}
 use lib.Seq.{append_snoc, get_or_at, length-take-le, take_at, drop_at, drop-cons}
-use Rattle.cell_log.specs.declared.Number.{Number}
+use Rattle.cell_log.specs.Answers.{Number}
 use Rattle.cell_log.specs.Code.{behind, number_within}
 use Rattle.cell_log.specs.Numbers.{number, number_at, groups_of}
 use Rattle.runs.specs.Refusals.{or_else}

@@ -9,7 +9,7 @@ use borrow.Author.Tests.{lt-ltb, le-ltb, eq-eqb, ne_eqb, ltb-true, ltb-false, le
 use lib.Dec.{eqb, leb, ltb}
 use lib.ListN.{length, get_or, get_or-eq_default}
 use Rattle.runs.proofs.Laws.{split}
-use Rattle.cell_log.specs.declared.Number.{Number}
+use Rattle.cell_log.specs.Answers.{Number}
 use Rattle.cell_log.specs.Code.{behind, number_within}
 use Rattle.cell_log.specs.Numbers.{groups_at, is_cut, is_long, is_padded, value_at, number, no_number_of, number_at}
 use Rattle.cell_log.proofs.Laws.{number_none, number_cut, number_whole, number_more}

@@ -14,10 +14,8 @@ use Rattle.runs.proofs.Laws.{every_at, split, past, past_both}
 use Rattle.formats.specs.Formats.{listed_octets, is_among, is_listed, settings_refusal}
 use Rattle.formats.specs.Settings.{settings_of}
 use Rattle.formats.proofs.Laws.{beyond, Settles, settles_all, sound_fields, refusal_of_lem, given_refusal}
-use Rattle.formats.specs.declared.Settled.{Settled}
-use Rattle.cell_log.specs.declared.Header.{Header}
-use Rattle.cell_log.specs.declared.Number.{Number}
-use Rattle.cell_log.specs.declared.keep.Kept.{Kept}
+use Rattle.formats.specs.Settled.{Settled}
+use Rattle.cell_log.specs.Answers.{Number, Header, Kept}
 use Rattle.cell_log.specs.Numbers.{number_at}
 use Rattle.cell_log.specs.Records.{no_header, header_refusal, header_of_numbers, header_of, second_number, third_number}
 use Rattle.cell_log.specs.Written.{Keeps, kept, header_octets, header_refused_of}

@@ -1,20 +1,24 @@
 -- Laws of writing into a lent log, over plain values.
 -- Assumes nothing.
-use mathlib.Core.List.{List, [], ◌∷◌}
-use mathlib.Core.Path.{◌≡◌, refl, ◌∙◌}
-use Prim.Native.Nat.{ℕ, suc, ◌+◌, ◌/◌, ◌%◌, ◌≤◌, ◌<◌}
+use mathlib.Core.Bool.{Bool, true, false}
+use mathlib.Core.List.{List, [], ◌∷◌, ◌++◌}
+use mathlib.Core.Path.{◌≡◌, refl, ◌∙◌, ap}
+use Prim.Native.Nat.{ℕ, suc, ◌+◌, ◌-◌, ◌/◌, ◌%◌, ◌≤◌, ◌<◌}
 use native.Mathlib.Omega.{arith}
 use native.Mathlib.Numerals.{add-one}
 use borrow.Author.Tests.{lt-ltb, le-ltb, eq-eqb, ne_eqb, ltb-false, eqb-true}
 use lib.Dec.{eqb, ltb}
 use Rattle.runs.proofs.Laws.{split, past}
-use lib.ListN.{length, set}
-use lib.Seq.{sets}
+use lib.ListN.{length, set, take, drop}
+use lib.Seq.{sets, take_all}
+use borrow.Rule.Slice.PartMut.{put_mid}
+use Rattle.std.specs.Int.{from_bool}
+use Rattle.std.proofs.lemmas.Slice.{put_mid-paste}
 use Rattle.runs.specs.Runs.{written}
 use Rattle.runs.proofs.Filling.{stored, stored_behind}
-use Rattle.cell_log.specs.declared.keep.Kept.{Kept}
+use Rattle.cell_log.specs.Answers.{Kept}
 use Rattle.cell_log.specs.Numbers.{groups_of}
-use Rattle.cell_log.specs.Written.{kept, not_kept, Keeps, number_refusal, record_refusal}
+use Rattle.cell_log.specs.Written.{kept, not_kept, Keeps, number_refusal, octet_of, record_refusal}
 use Rattle.cell_log.proofs.Laws.{groups_1, groups_2, groups_3}
 
 -- a refusal leaves the log as it was
@@ -29,6 +33,12 @@ keeps_not k e a = keeps_no e (λ z. omega arith) a
 pub keeps : {refusal place : ℕ} {octets log after : List ℕ} {answer : Kept} → refusal ≡ 0 → answer ≡ kept (place + length octets)
     → after ≡ written log place octets → Keeps refusal place octets log answer after
 keeps e a l = record { answered = a ∙ rw e; left = l ∙ rw e }
+
+-- entries copied over a part of a run are written from where the part starts
+copied : (new run : List ℕ) (at end : ℕ) {part : List ℕ} → part ≡ new → length new ≡ end - at → put_mid at (end - at) run part ≡ written run at new
+copied new run at end {part} e n =
+    put_mid-paste at (end - at) run part new (length new) e n refl
+    ∙ ap (λ (l : List ℕ). take at run ++ l ++ drop (at + length new) run) (take_all (length new) new (omega arith))
 
 module _ (log : List ℕ) (place n : ℕ) where
   pub number_large : 2097151 < n → number_refusal log place n ≡ 11
@@ -74,6 +84,11 @@ module _ (log : List ℕ) (place n : ℕ) where
       groups_stored ((128 + n % 128) ∷ (128 + n / 128 % 128) ∷ n / 128 / 128 ∷ []) small (groups_3 n large small) h a
       (rw (add-one place, two))
 
+-- an indication's octet, as it is converted
+pub octet_as_converted : (indication : Bool) → from_bool indication ≡ octet_of indication
+octet_as_converted true = refl
+octet_as_converted false = refl
+
 module _ (log : List ℕ) (place : ℕ) (cell : List ℕ) where
   pub record_no_cell : (length cell ≡ 48 → ⊥) → record_refusal log place cell ≡ 5
   unfolding record_refusal
@@ -96,10 +111,12 @@ module _ (log : List ℕ) (place : ℕ) (cell : List ℕ) where
   unfolding record_refusal
   record_room e h = rw (eq-eqb (length cell) 48 e, le-ltb (length log) (place + 49) h)
 
-  -- an octet stored, and a cell behind it, are a record written
-  pub record_stored : (octet : ℕ) {first : ℕ} {after : List ℕ} {answer : Kept} → octet ≡ first → length cell ≡ 48 → place + 49 ≤ length log
-      → answer ≡ kept (place + 49) → after ≡ written (set log place octet) (place + 1) cell
-      → Keeps (record_refusal log place cell) place (first ∷ cell) log answer after
+  -- an octet stored, and a cell copied behind it, are a record written
+  pub record_stored : (octet : ℕ) {first : ℕ} {part : List ℕ} {answer : Kept} → octet ≡ first → length cell ≡ 48 → place + 49 ≤ length log
+      → answer ≡ kept (place + 49) → part ≡ cell
+      → Keeps (record_refusal log place cell) place (first ∷ cell) log answer
+      (put_mid (place + 1) (place + 49 - (place + 1)) (set log place octet) part)
   record_stored octet {first} same e h a l =
       let n : place + length (first ∷ cell) ≡ place + 49 = omega arith in
-      keeps (record_room e h) (a ∙ rw n) (l ∙ stored_behind octet cell log place (omega arith) ∙ rw same)
+      keeps (record_room e h) (a ∙ rw n)
+      (copied cell (set log place octet) (place + 1) (place + 49) l (omega arith) ∙ stored_behind octet cell log place (omega arith) ∙ rw same)

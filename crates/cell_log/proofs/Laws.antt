@@ -1,7 +1,7 @@
 -- Laws of log numbers, over plain values.
 -- Assumes nothing.
 use mathlib.Core.List.{List, [], ◌∷◌}
-use mathlib.Core.Path.{◌≡◌, refl, ap}
+use mathlib.Core.Path.{◌≡◌, refl, sym, ◌∙◌, ap}
 use Prim.Native.Nat.{ℕ, zero, suc, ◌+◌, ◌-◌, ◌*◌, ◌/◌, ◌%◌, ◌^◌, ◌≤◌, ◌<◌}
 use native.Mathlib.Nat.{pow-suc, pow-zero, pow-le-pow_right}
 use native.Mathlib.Omega.{arith}
@@ -9,7 +9,7 @@ use borrow.Author.Tests.{lt-ltb, le-ltb, le-leb, lt-leb, ltb-true, ltb-false, le
 use lib.Dec.{eqb, leb, ltb}
 use lib.ListN.{length, get_or}
 use Rattle.runs.proofs.Laws.{split}
-use Rattle.cell_log.specs.declared.Number.{Number}
+use Rattle.cell_log.specs.Answers.{Number}
 use Rattle.cell_log.specs.Code.{behind, number_within}
 use Rattle.cell_log.specs.Numbers.{number, no_number_of, groups_of}
 
@@ -87,6 +87,21 @@ unfolding number_within
 number_some zero log at = λ some. absurd (some refl)
 number_some (suc k) log at =
     number_cases k log at (λ n. (n.value ≡ 0 → ⊥) → n.refusal ≡ 0) (λ some. absurd (some refl)) (λ h s some. refl) (λ h s z some. refl)
+
+-- a number that is refused is none, and so is one that it stands behind
+pub number_refused : (k : ℕ) (log : List ℕ) (at : ℕ) → ((number_within k log at).refusal ≡ 0 → ⊥) → number_within k log at ≡ no_number_of
+unfolding number_within
+number_refused zero log at = λ some. refl
+number_refused (suc k) log at =
+    number_cases k log at (λ n. (n.refusal ≡ 0 → ⊥) → n ≡ no_number_of)
+    (λ some. refl) (λ h s some. absurd (some refl)) (λ h s z some. absurd (some refl))
+
+pub number_behind : (k : ℕ) (log : List ℕ) (at : ℕ) {group : ℕ} {more : Number} → group ≡ get_or log at 0 → at < length log → 128 ≤ group
+    → more ≡ number_within k log (at + 1) → (more.refusal ≡ 0 → ⊥) → more ≡ number_within (suc k) log at
+unfolding behind
+number_behind k log at {group} e h large is some =
+    let none = is ∙ number_refused k log (at + 1) (λ z. some (ap (λ (n : Number). n.refusal) is ∙ z)) in
+    none ∙ sym (number_more k log at e h large ∙ rw (← is, none))
 
 -- a number ends within its groups
 pub next_small : (k : ℕ) (log : List ℕ) (at : ℕ) → (number_within k log at).next ≤ at + k

@@ -1,3 +1,4 @@
+pub mod Answered
 pub mod Converse
 pub mod Groups
 pub mod Headers

@@ -1,13 +1,14 @@
 -- Laws of records and of the parts of a log, over plain values.
 -- Assumes nothing.
-use mathlib.Core.List.{List}
-use mathlib.Core.Path.{◌≡◌, refl, ap}
+use mathlib.Core.List.{List, []}
+use mathlib.Core.Path.{◌≡◌, refl, sym, ap}
+use native.Mathlib.Nat.{zero-add}
 use Prim.Native.Nat.{ℕ, ◌+◌, ◌*◌, ◌-◌, ◌≤◌, ◌<◌}
 use native.Mathlib.Omega.{arith}
 use borrow.Author.Tests.{eq-eqb, ne_eqb, lt-ltb, le-ltb, le-leb, lt-leb, ltb-true, ltb-false, leb-true, leb-false}
 use lib.Dec.{eqb, leb, ltb}
 use lib.ListN.{length, get_or, take, drop}
-use Rattle.cell_log.specs.declared.Record.{Record}
+use Rattle.cell_log.specs.Answers.{Record}
 use Rattle.cell_log.specs.Code.{from}
 use Rattle.cell_log.specs.Records.{record_at, end_at, no_record, place_after, cell_at}
 use Rattle.runs.proofs.Laws.{split}
@@ -82,6 +83,12 @@ module _ (log : List ℕ) (place : ℕ) where
   pub part_none : (p : ℕ × ℕ) {r : Record} → r ≡ record_at log place → (r.what ≡ 1 → ⊥) → Handed p r r.start
   part_none p {r} e none =
       let zero' : r.what ≡ 0 = omega (arith, none, ap (λ (x : Record). x.what) e, record_room.0) in part p r.start e (omega arith)
+
+  -- no part where no cell is
+  pub part_empty : (p : ℕ × ℕ) {r : Record} → r ≡ record_at log place → r.what ≡ 0 → r.start ≡ 0
+      → ([] ≡ cell_at log place) × (p ≡ from p (record_at log place).start)
+  unfolding cell_at
+  part_empty p {r} e what start = (rw (← e, what), rw (← e, start) (ap (λ (n : ℕ). (p.0, n)) (sym (zero-add p.1))))
 
   pub place_past : {r : Record} → r ≡ record_at log place → r.what ≡ 1 → r.next ≡ place_after log place
   unfolding place_after

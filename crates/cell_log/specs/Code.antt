@@ -1,7 +1,7 @@
 -- Words that only the code of the log needs.
 -- Assumes nothing.
 use Rattle.std.specs.Prelude.{cond, List, ℕ, zero, suc, ◌+◌, ◌*◌, ◌%◌, eqb, leb, ltb, length, get_or}
-use Rattle.cell_log.specs.declared.Number.{Number}
+use Rattle.cell_log.specs.Answers.{Number}
 use Rattle.cell_log.specs.Numbers.{number, no_number_of}
 
 -- a group and the number that the groups behind it hold, which is 0 where it was refused itself, and where its last group is 0, so

@@ -1,37 +1,17 @@
 // Writes a log into a lent run: its numbers, its header and its records (document 01, "The log").
 ghost use Rattle.std.specs.Prelude.{◌≡◌, ◌+◌, ◌≤◌, length};
-ghost use Rattle.runs.specs.Runs.{written};
 ghost use Rattle.cell_log.specs.Numbers.{groups_of};
 ghost use Rattle.cell_log.specs.Written.{
   Keeps,
-  kept,
-  not_kept,
+  kept_answered,
   number_refusal,
   header_refused_of,
   header_octets,
   record_refusal,
-  octet_of,
   record_octets,
 };
 
-// What writing into a lent log answers: the refusal (0: none), and the place after what was written, zero where it is refused.
-#[derive(Clone, Copy)]
-pub struct Kept {
-    pub refusal: u8,
-    pub next: usize,
-}
-
-fn kept_to(next: usize) -> Kept
-    ensures { result ≡ kept next }
-{
-    Kept { refusal: 0, next }
-}
-
-fn not_kept(refusal: u8) -> Kept
-    ensures { result ≡ not_kept refusal }
-{
-    Kept { refusal, next: 0 }
-}
+use refusals::Refusal;
 
 // How many groups the shortest form of a number has.
 fn group_count(value: u32) -> usize
@@ -39,94 +19,74 @@ fn group_count(value: u32) -> usize
     ensures { (result ≡ length (groups_of 3 value)) × (result ≤ 3) }
 {
     if value < 128 {
-        return 1;
+        1
+    } else if value < 16384 {
+        2
+    } else {
+        3
     }
-    if value < 16384 {
-        return 2;
-    }
-    3
 }
 
 // Writes a number's shortest form at a place of a lent log: 11 where it has more than three groups, or the log's end would cut it.
-pub fn write_number(log: &mut [u8], place: usize, value: u32) -> Kept
-    ensures { Keeps (number_refusal log.old place value) place (groups_of 3 value) log.old result
+pub fn write_number(log: &mut [u8], place: usize, value: u32) -> Result<usize, Refusal>
+    ensures { Keeps (number_refusal log.old place value) place (groups_of 3 value) log.old (kept_answered result)
         log.new }
 {
-    if 2097151 < value {
-        return not_kept(11);
-    }
-    if log.len() < place {
-        return not_kept(11);
-    }
-    let count = group_count(value);
-    if log.len() - place < count {
-        return not_kept(11);
+    if value > 2097151 || log.len().saturating_sub(place) < group_count(value) {
+        return Err(Refusal::LogNumber);
     }
     if value < 128 {
         log[place] = value as u8;
-        return kept_to(place + 1);
+        return Ok(place + 1);
     }
     log[place] = (128 + value % 128) as u8;
     if value < 16384 {
         log[place + 1] = (value / 128) as u8;
-        return kept_to(place + 2);
+        return Ok(place + 2);
     }
     log[place + 1] = (128 + value / 128 % 128) as u8;
     log[place + 2] = (value / 128 / 128) as u8;
-    kept_to(place + 3)
+    Ok(place + 3)
 }
 
 // Writes a header at the start of a lent log: 1 to 3 as an opening has them, 11 where the log's end would cut it.
-pub fn write_header(log: &mut [u8], format: u32, channels: u32, order: u32) -> Kept
+pub fn write_header(
+    log: &mut [u8],
+    format: u32,
+    channels: u32,
+    order: u32,
+) -> Result<usize, Refusal>
     ensures { Keeps (header_refused_of log.old format channels order) 0 (header_octets format channels order)
-        log.old result log.new }
+        log.old (kept_answered result) log.new }
 {
-    let settled = formats::settings(format, channels, order);
-    if settled.refusal != 0 {
-        return not_kept(settled.refusal);
-    }
+    formats::settings(format, channels, order)?;
     if log.len() < 3 {
-        return not_kept(11);
+        return Err(Refusal::LogNumber);
     }
     log[0] = format as u8;
     log[1] = channels as u8;
     log[2] = order as u8;
-    kept_to(3)
-}
-
-fn put(log: &mut [u8], place: usize, octets: &[u8])
-    requires { place + length octets.now ≤ length log.old }
-    ensures { log.new ≡ written log.old place octets.now }
-{
-    let mut i = 0;
-    while i < octets.len() {
-        log[place + i] = octets[i];
-        i += 1;
-    }
-}
-
-fn octet_of(indication: bool) -> u8
-    ensures { result ≡ octet_of indication }
-{
-    if indication { 1 } else { 0 }
+    Ok(3)
 }
 
 // Writes a record at a place of a lent log: 5 where the cell has not 48 octets, 12 where the log's end would cut it.
-pub fn write_record(log: &mut [u8], place: usize, indication: bool, cell: &[u8]) -> Kept
+pub fn write_record(
+    log: &mut [u8],
+    place: usize,
+    indication: bool,
+    cell: &[u8],
+) -> Result<usize, Refusal>
     ensures { Keeps (record_refusal log.old place cell.now) place
-        (record_octets indication cell.now) log.old result log.new }
+        (record_octets indication cell.now) log.old (kept_answered result) log.new }
 {
     if cell.len() != 48 {
-        return not_kept(5);
+        return Err(Refusal::Length);
     }
-    if log.len() < place {
-        return not_kept(12);
+    if log.len().saturating_sub(place) < 49 {
+        return Err(Refusal::LogRecord);
     }
-    if log.len() - place < 49 {
-        return not_kept(12);
-    }
-    let start = place + 1;
-    log[place] = octet_of(indication);
-    put(log, start, cell);
-    kept_to(place + 49)
+    let next = place + 49;
+    log[place] = u8::from(indication);
+    log[place + 1..next].copy_from_slice(cell);
+    Ok(next)
 }

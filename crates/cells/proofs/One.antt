@@ -3,17 +3,12 @@
 -- Assumes nothing.
 use Rattle.std.proofs.Common.{sym, refl, ◌∙◌}
 use Rattle.runs.proofs.One.{One}
-use Rattle.cells.proofs.wide.Kinds as wide-kinds
-use Rattle.cells.proofs.wide.Reads as wide-reads
 use Rattle.cells.proofs.next_place.Kinds as next-place-kinds
 use Rattle.cells.proofs.next_place.Reads as next-place-reads
 use Rattle.cells.proofs.turned_two.Kinds as turned-two-kinds
 use Rattle.cells.proofs.turned_two.Reads as turned-two-reads
 use Rattle.cells.proofs.turned_four.Kinds as turned-four-kinds
 use Rattle.cells.proofs.turned_four.Reads as turned-four-reads
-
-pub wide_one : One wide-kinds.ps wide-kinds.r wide-reads.Pre wide-reads.Post
-wide_one κs a x y v w pre p q = (p.0 ∙ sym q.0, refl)
 
 pub next_place_one : One next-place-kinds.ps next-place-kinds.r next-place-reads.Pre next-place-reads.Post
 next_place_one κs a x y v w pre p q = (p ∙ sym q, refl)

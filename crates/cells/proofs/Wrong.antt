@@ -4,8 +4,6 @@ use Rattle.std.proofs.Common.{◌≡◌, arith}
 use contract.Lifetimes.{Lfts}
 use Rattle.runs.proofs.Wrong.{Never}
 use Rattle.cells.specs.Code.{step_on}
-use Rattle.cells.proofs.wide.Kinds as wide-kinds
-use Rattle.cells.proofs.wide.Reads as wide-reads
 use Rattle.cells.proofs.next_place.Kinds as next-place-kinds
 use Rattle.cells.proofs.next_place.Reads as next-place-reads
 use Rattle.cells.proofs.turned_two.Kinds as turned-two-kinds
@@ -14,13 +12,6 @@ use Rattle.cells.proofs.turned_four.Kinds as turned-four-kinds
 use Rattle.cells.proofs.turned_four.Reads as turned-four-reads
 
 module _ (κs : Lfts 0) where
-  -- always 0, and the octet read as a signed number
-  pub wide_not_nothing : Never wide-kinds.ps wide-kinds.r wide-reads.Post κs (7, tt) (λ x v. x ≡ 0)
-  wide_not_nothing x v wrong p = omega (arith, wrong, p.0)
-
-  pub wide_not_signed : Never wide-kinds.ps wide-kinds.r wide-reads.Post κs (255, tt) (λ x v. x ≡ 0xFFFFFFFFFFFFFFFF)
-  wide_not_signed x v wrong p = omega (arith, wrong, p.0)
-
   -- 56 hex, C = 5, order 1: after channel 4 at time 0, slot 8, comes channel 0 at time 1, which is slot 1 and not slot 10
   pub next_not_past_the_run : Never next-place-kinds.ps next-place-kinds.r next-place-reads.Post κs (2, (10, (8, tt))) (λ x v. x ≡ 10)
   unfolding step_on

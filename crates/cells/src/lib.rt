@@ -1,36 +1,18 @@
 #![tactic(auto)]
 // Cells, document 01: one subframe, placement, and a whole cell there and back. Packing stands with the sender and unpacking with
 // the receiver. Here are the laws that both share, and the few steps of the code that both take.
-ghost use Rattle.std.specs.Prelude.{◌≡◌, ◌-◌, ◌%◌, ◌^◌, ◌<◌};
+ghost use Rattle.std.specs.Prelude.{◌≡◌, ◌%◌, ◌^◌, ◌<◌};
 ghost use Rattle.cells.specs.Code.{step_on, turned_two, turned_four};
-
-// An octet as a wide number.
-pub fn wide(octet: u8) -> u64
-    ensures { (result ≡ octet) × (result < 256) }
-{
-    octet as u64
-}
-
-// The first number without the second: 0 where the second is larger.
-fn without(number: usize, less: usize) -> usize
-    ensures { result ≡ number - less }
-{
-    if less < number {
-        return number - less;
-    }
-    0
-}
 
 // The next place in order 1, of `used` places: `step` further on, or past the last one back to where the next row begins. Sums wrap
 // modulo 2^64, which no place in a cell comes near.
 pub fn next_place(step: usize, used: usize, at: usize) -> usize
     ensures { result ≡ step_on step used at % 2 ^ 64 }
 {
-    if at < without(used, step) {
+    if at < used.saturating_sub(step) {
         return at + step;
     }
-    let next = std::num::wrapping_add_usize(at, step);
-    std::num::wrapping_sub_usize(next, without(used, 1))
+    at.wrapping_add(step).wrapping_sub(used.saturating_sub(1))
 }
 
 // A number's two lowest octets in the opposite order.

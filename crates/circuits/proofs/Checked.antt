@@ -9,9 +9,7 @@ use native.Mathlib.Omega.{arith}
 use borrow.Author.Tests.{eqb-true, eqb-false, leb-true, leb-false, le-leb}
 use lib.Dec.{eqb, leb}
 use lib.ListN.{length}
-use Rattle.circuits.specs.declared.Verdict.{Verdict}
-use Rattle.circuits.specs.declared.Verdict.TheVariants.{Refused, Yes, Share, Allowance, Sum}
-use Rattle.circuits.specs.Circuits.{octet_refusal, slots_of, fits_slots, cells_per_second, pick, judged_from, check_refusal, checked_of}
+use Rattle.circuits.specs.Circuits.{Verdict, Refused, Yes, Share, Allowance, Sum, octet_refusal, slots_of, fits_slots, cells_per_second, pick, judged_from, check_refusal, checked_of}
 use Rattle.circuits.specs.Plans.{total, ShareFits, Allowed, GoodTo, Good, ShareFault, AllowanceFault, SumFault}
 use Rattle.circuits.proofs.Laws.{fits_by, check_passed, judged_where_taken}
 

@@ -9,9 +9,7 @@ use lib.Dec.{eqb}
 use lib.ListN.{length}
 use Rattle.runs.proofs.Laws.{split}
 use Rattle.formats.specs.Formats.{is_listed}
-use Rattle.circuits.specs.declared.Verdict.{Verdict}
-use Rattle.circuits.specs.declared.Verdict.TheVariants.{Refused, Yes, Share, Allowance, Sum}
-use Rattle.circuits.specs.Circuits.{refusal_of, octet_refusal, check_refusal, checked_of, plan_refusal_of, Plans}
+use Rattle.circuits.specs.Circuits.{Verdict, Refused, Yes, Share, Allowance, Sum, refusal_of, octet_refusal, check_refusal, checked_of, plan_refusal_of, Plans}
 use Rattle.circuits.proofs.Checked.{never_refused}
 use Rattle.circuits.proofs.Laws.{one_channel, no_format_lem, check_refused}
 

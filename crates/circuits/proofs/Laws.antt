@@ -1,28 +1,35 @@
 -- Laws for the two loops and the refusals: a plan judged circuit by circuit, and circuits filled one after the other.
 -- Assumes nothing.
 use mathlib.Core.Bool.{true, false, not, ◌||◌}
-use mathlib.Core.List.{List, ◌∷◌}
-use mathlib.Core.Path.{◌≡◌, refl, sym, ◌∙◌, ap, ap₂}
-use Prim.Native.Nat.{ℕ, suc, ◌+◌, ◌-◌, ◌*◌, ◌≤◌, ◌<◌, min}
-use native.Mathlib.Nat.{zero-mul, suc-mul}
+use mathlib.Core.List.{List, [], ◌∷◌}
+use mathlib.Core.Logic.{◌⊎◌, inl, inr}
+use mathlib.Core.Path.{◌≡◌, sym, ◌∙◌, ap, ap₂}
+use Prim.Native.Nat.{ℕ, zero, suc, ◌+◌, ◌-◌, ◌*◌, ◌/◌, ◌%◌, ◌≤◌, ◌<◌, min}
+use native.Mathlib.Nat.{zero-mul, suc-mul, mod-lt, le-div_iff_mul-le}
+use Rattle.std.proofs.lemmas.Nat.{div-add-mod', div-mul-add}
 use native.Mathlib.Numerals.{add-one}
 use native.Mathlib.Omega.{arith}
 use borrow.Author.Tests
 use borrow.Author.Tests.{eq-eqb, ne_eqb, lt-ltb, le-ltb, le-leb, lt-leb, leb-true, eqb-true, ltb-false}
 use lib.Dec.{eqb, ltb, leb}
-use lib.ListN.{length, get_or, set, drop, drop_of_length-le}
-use lib.Seq.{drop-cons}
+use lib.ListN.{length, get_or, set}
+use Rattle.std.proofs.lemmas.Bool.Decides.{nat_tests}
+use Rattle.std.proofs.lemmas.List.{nil_from_length}
 use Rattle.runs.specs.Refusals.{or_else}
-use Rattle.runs.proofs.Laws.{split, past, past_both, neither, both_true, first_refuses, get_or_tab, length_tab}
+use Rattle.runs.proofs.Laws.{first_refuses, split, past, past_both, neither, both_true, get_or_tab, length_tab}
 use Rattle.runs.proofs.Filling.{Filled, begun, turned_front, done_to_end}
-use Rattle.formats.specs.declared.Settled.{Settled}
+use Rattle.formats.specs.Settled.{Settled}
 use Rattle.formats.specs.Formats as F
 use Rattle.formats.specs.Formats.{is_listed, settings_refusal}
 use Rattle.formats.specs.Settings.{settings_of}
 use Rattle.formats.proofs.Laws.{refusal_of_lem, settled_of_lem, settles_all, sound_fields, sound_format, no_slots}
-use Rattle.circuits.specs.declared.Verdict.{Verdict}
-use Rattle.circuits.specs.declared.Verdict.TheVariants.{Refused, Yes, Share, Allowance, Sum}
 use Rattle.circuits.specs.Circuits.{
+  Verdict,
+  Refused,
+  Yes,
+  Share,
+  Allowance,
+  Sum,
   octet_refusal,
   slots_of,
   fits_slots,
@@ -44,59 +51,89 @@ unfolding fits_slots
 fits_by slots share e =
     let two = both_true (leb 1 share) (leb share slots) e in (leb-true 1 share two.0, leb-true share slots two.1)
 
--- ---- the loop that judges: what is said of the whole plan is said of the circuits that are left
-pub record Judging (slots channels frequency : ℕ) (shares allowances : List ℕ) (i carried : ℕ) : Type 0 where
-  pub within : i ≤ length shares
-  pub few : carried ≤ 48 * i
+rounded_up_of : (x y q r : ℕ) → r < y → x ≡ q * y + r → q + min 1 r ≡ (x + (y - 1)) / y
+rounded_up_of x y q zero less is =
+    let above : x + (y - 1) ≡ q * y + (y - 1) = omega (arith, is) in
+    omega (arith, ap (λ (n : ℕ). n / y) above, div-mul-add q y (y - 1) (omega arith))
+rounded_up_of x y q (suc r) less is =
+    let above : x + (y - 1) ≡ suc q * y + r = rw (suc-mul q y) (omega (arith, is)) in
+    omega (arith, ap (λ (n : ℕ). n / y) above, div-mul-add (suc q) y r (omega arith))
+
+-- rounded up as the library's call does it
+pub cells_rounded_up : (slots share frequency : ℕ) → 1 ≤ share → share ≤ slots
+    → cells_per_second slots share frequency ≡ frequency / (slots / share) + min 1 (frequency % (slots / share))
+unfolding cells_per_second
+cells_rounded_up slots share frequency from to =
+    let times = slots / share in
+    let some : 1 ≤ times = (le-div_iff_mul-le from).1 (omega arith) in
+    sym (rounded_up_of frequency times (frequency / times) (frequency % times) (mod-lt frequency some) (sym (div-add-mod' frequency times)))
+
+-- ---- the loop that judges: what is said of the whole plan is said of the circuits that are left, from this one on
+pub record Judging (slots channels frequency : ℕ) (shares allowances : List ℕ) (circuit carried : ℕ) (shares₁ allowances₁ : List ℕ)
+    : Type 0 where
+  pub many : circuit + length shares₁ ≡ length shares
+  pub same : length allowances₁ ≡ length shares₁
+  pub few : carried ≤ 48 * circuit
   pub rest : judged_from slots channels frequency 0 0 shares allowances
-      ≡ judged_from slots channels frequency i carried (drop i shares) (drop i allowances)
+      ≡ judged_from slots channels frequency circuit carried shares₁ allowances₁
 
 module _ (slots channels frequency : ℕ) (shares allowances : List ℕ) where
-  pub judging_begun : Judging slots channels frequency shares allowances 0 0
-  judging_begun = record { within = omega arith; few = omega arith; rest = refl }
+  pub judging_begun : {k : ℕ} {shares₁ allowances₁ : List ℕ} → length allowances ≡ length shares → k ≡ 0 → shares₁ ≡ shares → allowances₁ ≡ allowances
+      → Judging slots channels frequency shares allowances k 0 shares₁ allowances₁
+  judging_begun same none first second =
+      record {
+        many = omega (arith, none, ap length first);
+        same = omega (arith, same, ap length first, ap length second);
+        few = omega arith;
+        rest = rw (none, first, second);
+      }
 
-  module _ {i carried : ℕ} (so_far : Judging slots channels frequency shares allowances i carried)
-      (here : i < length shares) (there : i < length allowances)
+  module _ {circuit carried share allowance : ℕ} {shares₁ shares₂ allowances₁ allowances₂ : List ℕ}
+      (so_far : Judging slots channels frequency shares allowances circuit carried shares₁ allowances₁)
+      (next : (shares₁ ≡ share ∷ shares₂) × (allowances₁ ≡ allowance ∷ allowances₂))
     where
-      abbrev share : ℕ
-      share = get_or shares i 0
-
       next_two : judged_from slots channels frequency 0 0 shares allowances
-          ≡ judged_from slots channels frequency i carried (share ∷ drop (suc i) shares) (get_or allowances i 0 ∷ drop (suc i) allowances)
-      next_two =
-          so_far.rest
-          ∙ ap₂ (judged_from slots channels frequency i carried) (drop-cons shares i 0 here) (drop-cons allowances i 0 there)
+          ≡ judged_from slots channels frequency circuit carried (share ∷ shares₂) (allowance ∷ allowances₂)
+      next_two = so_far.rest ∙ ap₂ (judged_from slots channels frequency circuit carried) next.0 next.1
 
-      pub share_fault : fits_slots slots share ≡ false → Share i ≡ judged_from slots channels frequency 0 0 shares allowances
+      pub share_fault : {k : ℕ} → k ≡ circuit → fits_slots slots share ≡ false
+          → Share k ≡ judged_from slots channels frequency 0 0 shares allowances
       unfolding judged_from
-      share_fault bad = sym (next_two ∙ rw bad)
+      share_fault is bad = ap Share is ∙ sym (next_two ∙ rw bad)
 
       module _ (fits : fits_slots slots share ≡ true) where
-        pub allowance_fault : get_or allowances i 0 < cells_per_second slots share frequency
-            → Allowance i ≡ judged_from slots channels frequency 0 0 shares allowances
+        pub allowance_fault : {k : ℕ} → k ≡ circuit → allowance < cells_per_second slots share frequency
+            → Allowance k ≡ judged_from slots channels frequency 0 0 shares allowances
         unfolding judged_from
-        allowance_fault above = sym (next_two ∙ rw (fits, lt-leb _ _ above))
+        allowance_fault is above = ap Allowance is ∙ sym (next_two ∙ rw (fits, lt-leb _ _ above))
 
-        pub judging_turned : slots ≤ 48 → cells_per_second slots share frequency ≤ get_or allowances i 0 → {read : ℕ} → read ≡ share
-            → Judging slots channels frequency shares allowances (i + 1) (carried + read)
+        pub judging_turned : slots ≤ 48 → cells_per_second slots share frequency ≤ allowance → {k : ℕ} → k ≡ circuit + 1
+            → Judging slots channels frequency shares allowances k (carried + share) shares₂ allowances₂
         unfolding judged_from
         judging_turned most enough is =
             record {
-              within = omega arith;
+              many = omega (arith, so_far.many, is, ap length next.0);
+              same = omega (arith, so_far.same, ap length next.0, ap length next.1);
               few = omega (arith, so_far.few, (fits_by slots share fits).1, is);
-              rest = next_two ∙ rw (fits, le-leb _ _ enough, add-one i, is);
+              rest = next_two ∙ rw (fits, le-leb _ _ enough, is, add-one circuit);
             }
 
-  module _ {i carried : ℕ} (so_far : Judging slots channels frequency shares allowances i carried) (end : length shares ≤ i) where
-    ended : judged_from slots channels frequency 0 0 shares allowances ≡ pick (eqb carried channels) Yes Sum
-    unfolding judged_from
-    ended = so_far.rest ∙ rw (drop_of_length-le shares end)
+  module _ {circuit carried : ℕ} {shares₁ allowances₁ : List ℕ}
+      (so_far : Judging slots channels frequency shares allowances circuit carried shares₁ allowances₁)
+      (end : (length shares₁ ≡ 0) ⊎ (length allowances₁ ≡ 0))
+    where
+      none_left : shares₁ ≡ []
+      none_left = nil_from_length shares₁ (elim end [ inl e ↦ e | inr e ↦ omega (arith, so_far.same, e) ])
 
-    pub judged_yes : carried ≡ channels → Yes ≡ judged_from slots channels frequency 0 0 shares allowances
-    judged_yes same = sym (ended ∙ rw (eq-eqb carried channels same))
+      ended : judged_from slots channels frequency 0 0 shares allowances ≡ pick (eqb carried channels) Yes Sum
+      unfolding judged_from
+      ended = so_far.rest ∙ rw none_left
 
-    pub judged_sum : (carried ≡ channels → ⊥) → Sum ≡ judged_from slots channels frequency 0 0 shares allowances
-    judged_sum other = sym (ended ∙ rw (ne_eqb carried channels other))
+      pub judged_yes : carried ≡ channels → Yes ≡ judged_from slots channels frequency 0 0 shares allowances
+      judged_yes same = sym (ended ∙ rw (eq-eqb carried channels same))
+
+      pub judged_sum : (carried ≡ channels → ⊥) → Sum ≡ judged_from slots channels frequency 0 0 shares allowances
+      judged_sum other = sym (ended ∙ rw (ne_eqb carried channels other))
 
 -- ---- the loop that fills
 
@@ -138,75 +175,21 @@ module _ (slots channels : ℕ) (shares₀ : List ℕ) where
   filling_done so_far end =
       done_to_end shares₀ _ 0 so_far.filled (omega (arith, long, so_far.filled.same)) (omega (arith, long))
 
--- ---- the refusals of a check
+-- ---- what isn't refused, and what is 30
 
-module _ (octet channels frequency circuits allowances : ℕ) where
-  pub check_1 : (octet ≡ 0 → ⊥) → octet ≡ check_refusal octet channels frequency circuits allowances
-  unfolding check_refusal
-  check_1 some = sym (first_refuses _ some)
+pub check_0 : (octet channels frequency circuits allowances : ℕ) → octet ≡ 0 → allowances ≡ circuits → circuits ≤ 64 → channels ≤ 1024
+    → 1 ≤ frequency → frequency ≤ 1000000 → 0 ≡ check_refusal octet channels frequency circuits allowances
+unfolding check_refusal or_else
+check_0 octet channels frequency circuits allowances none equal few some from to = grind (arith, nat_tests)
 
-  module _ (none : octet ≡ 0) where
-    after_1 : check_refusal octet channels frequency circuits allowances ≡ check_refusal 0 channels frequency circuits allowances
-    after_1 = ap (λ (n : ℕ). check_refusal n channels frequency circuits allowances) none
+module _ (octet slots channels circuits : ℕ) (none : octet ≡ 0) (few : circuits ≤ 64) (some : channels ≤ 1024) where
+  pub plan_30 : slots * circuits < channels → 30 ≡ plan_refusal octet slots channels circuits
+  unfolding plan_refusal or_else
+  plan_30 short = grind (arith, nat_tests)
 
-    pub check_5 : (allowances ≡ circuits → ⊥) → 5 ≡ check_refusal octet channels frequency circuits allowances
-    unfolding check_refusal or_else
-    check_5 other = sym (after_1 ∙ rw (ne_eqb _ _ other))
-
-    module _ (equal : allowances ≡ circuits) where
-      pub check_22 : 64 < circuits → 22 ≡ check_refusal octet channels frequency circuits allowances
-      unfolding check_refusal or_else
-      check_22 many = sym (after_1 ∙ rw (eq-eqb _ _ equal, lt-ltb _ _ many))
-
-      module _ (few : circuits ≤ 64) where
-        pub check_22_channels : 1024 < channels → 22 ≡ check_refusal octet channels frequency circuits allowances
-        unfolding check_refusal or_else
-        check_22_channels many = sym (after_1 ∙ rw (eq-eqb _ _ equal, le-ltb _ _ few, lt-ltb _ _ many))
-
-        module _ (some : channels ≤ 1024) where
-          pub check_23 : frequency < 1 → 23 ≡ check_refusal octet channels frequency circuits allowances
-          unfolding check_refusal or_else
-          check_23 low = sym (after_1 ∙ rw (eq-eqb _ _ equal, le-ltb _ _ few, le-ltb _ _ some, lt-ltb _ _ low))
-
-          module _ (from : 1 ≤ frequency) where
-            pub check_23_above : 1000000 < frequency → 23 ≡ check_refusal octet channels frequency circuits allowances
-            unfolding check_refusal or_else
-            check_23_above high =
-                sym (after_1 ∙ rw (eq-eqb _ _ equal, le-ltb _ _ few, le-ltb _ _ some, le-ltb _ _ from, lt-ltb _ _ high))
-
-            pub check_0 : frequency ≤ 1000000 → 0 ≡ check_refusal octet channels frequency circuits allowances
-            unfolding check_refusal or_else
-            check_0 to =
-                sym (after_1 ∙ rw (eq-eqb _ _ equal, le-ltb _ _ few, le-ltb _ _ some, le-ltb _ _ from, le-ltb _ _ to))
-
--- ---- and of a plan
-
-module _ (octet slots channels circuits : ℕ) where
-  pub plan_1 : (octet ≡ 0 → ⊥) → octet ≡ plan_refusal octet slots channels circuits
-  unfolding plan_refusal
-  plan_1 some = sym (first_refuses _ some)
-
-  module _ (none : octet ≡ 0) where
-    then_22 : plan_refusal octet slots channels circuits ≡ plan_refusal 0 slots channels circuits
-    then_22 = ap (λ (n : ℕ). plan_refusal n slots channels circuits) none
-
-    pub plan_22 : 64 < circuits → 22 ≡ plan_refusal octet slots channels circuits
-    unfolding plan_refusal or_else
-    plan_22 many = sym (then_22 ∙ rw (lt-ltb _ _ many))
-
-    module _ (few : circuits ≤ 64) where
-      pub plan_22_channels : 1024 < channels → 22 ≡ plan_refusal octet slots channels circuits
-      unfolding plan_refusal or_else
-      plan_22_channels many = sym (then_22 ∙ rw (le-ltb _ _ few, lt-ltb _ _ many))
-
-      module _ (some : channels ≤ 1024) where
-        pub plan_30 : slots * circuits < channels → 30 ≡ plan_refusal octet slots channels circuits
-        unfolding plan_refusal or_else
-        plan_30 short = sym (then_22 ∙ rw (le-ltb _ _ few, le-ltb _ _ some, lt-ltb _ _ short))
-
-        pub plan_0 : channels ≤ slots * circuits → 0 ≡ plan_refusal octet slots channels circuits
-        unfolding plan_refusal or_else
-        plan_0 enough = sym (then_22 ∙ rw (le-ltb _ _ few, le-ltb _ _ some, le-ltb _ _ enough))
+  pub plan_0 : channels ≤ slots * circuits → 0 ≡ plan_refusal octet slots channels circuits
+  unfolding plan_refusal or_else
+  plan_0 enough = grind (arith, nat_tests)
 
 -- ---- S, and what passes the checks
 
@@ -298,37 +281,66 @@ pub judged_where_taken : (octet channels frequency : ℕ) (shares allowances : L
 unfolding checked_of
 judged_where_taken octet channels frequency shares allowances none = rw none
 
+module _ {set : Settled} (octet : ℕ) (given : set ≡ settings_of octet 1 0) where
+  format_taken : set.refusal ≡ 0 → octet_refusal octet ≡ 0
+  format_taken none = sym (refusal_given octet given) ∙ none
+
 module _ {set : Settled} (octet channels frequency : ℕ) (shares allowances : List ℕ) (given : set ≡ settings_of octet 1 0) where
   abbrev refusal_here : ℕ
   refusal_here = check_refusal (octet_refusal octet) channels frequency (length shares) (length allowances)
-
-  pub check_said : {n : ℕ} → n ≡ check_refusal set.refusal channels frequency (length shares) (length allowances) → n ≡ refusal_here
-  check_said is =
-      is ∙ ap (λ (n : ℕ). check_refusal n channels frequency (length shares) (length allowances)) (refusal_given octet given)
 
   pub check_refused : {n : ℕ} → n ≡ refusal_here → (n ≡ 0 → ⊥) → Refused n ≡ checked_of octet channels frequency shares allowances
   unfolding checked_of
   check_refused is some = rw (← is, ne_eqb _ _ some)
 
-  pub check_taken : refusal_here ≡ 0 → {v : Verdict} → v ≡ judged_from set.format.slots channels frequency 0 0 shares allowances
-      → v ≡ checked_of octet channels frequency shares allowances
-  check_taken none is =
-      is
-      ∙ ap (λ (n : ℕ). judged_from n channels frequency 0 0 shares allowances) (slots_are octet given)
-      ∙ judged_where_taken octet channels frequency shares allowances none
+  -- the octet's own refusal comes first
+  pub check_format : {n : ℕ} → n ≡ set.refusal → (n ≡ 0 → ⊥) → Refused n ≡ checked_of octet channels frequency shares allowances
+  unfolding check_refusal
+  check_format is some =
+      let own = is ∙ refusal_given octet given in
+      check_refused (own ∙ sym (first_refuses _ (λ e. some (own ∙ e)))) some
+
+  module _ (none : set.refusal ≡ 0) where
+    said : {n : ℕ} → n ≡ check_refusal 0 channels frequency (length shares) (length allowances) → n ≡ refusal_here
+    said is = rw (format_taken octet given none) is
+
+    pub check_other : {n : ℕ} → n ≡ check_refusal 0 channels frequency (length shares) (length allowances) → (n ≡ 0 → ⊥)
+        → Refused n ≡ checked_of octet channels frequency shares allowances
+    check_other is = check_refused (said is)
+
+    module _ (taken : 0 ≡ check_refusal 0 channels frequency (length shares) (length allowances)) where
+      pub check_passes : (set.format.slots ≤ 48) × (length shares ≤ 64) × (length allowances ≡ length shares)
+      check_passes =
+          let passed = check_passed _ _ _ _ _ (sym taken) in (slots_given octet given, passed.circuits_to, passed.equal)
+
+      pub check_taken : {v : Verdict} → v ≡ judged_from set.format.slots channels frequency 0 0 shares allowances
+          → v ≡ checked_of octet channels frequency shares allowances
+      check_taken is =
+          is
+          ∙ ap (λ (n : ℕ). judged_from n channels frequency 0 0 shares allowances) (slots_are octet given)
+          ∙ judged_where_taken octet channels frequency shares allowances (sym (said taken))
 
 module _ {set : Settled} (octet channels : ℕ) (shares : List ℕ) (given : set ≡ settings_of octet 1 0) where
-  pub plan_said : {n : ℕ} → n ≡ plan_refusal set.refusal set.format.slots channels (length shares) → n ≡ plan_refusal_of octet channels shares
-  plan_said is =
-      is ∙ ap₂ (λ (n slots : ℕ). plan_refusal n slots channels (length shares)) (refusal_given octet given) (slots_are octet given)
-
-  pub plan_refused : {n : ℕ} → n ≡ plan_refusal_of octet channels shares → (n ≡ 0 → ⊥) → Plans octet channels shares n shares
+  plan_refused : {n : ℕ} → n ≡ plan_refusal_of octet channels shares → (n ≡ 0 → ⊥) → Plans octet channels shares n shares
   plan_refused is some = record { refused = is; leaves = rw (ne_eqb _ 0 (λ e. some (is ∙ e))) }
 
-  pub plan_taken : {n : ℕ} {shares₁ : List ℕ} → n ≡ plan_refusal_of octet channels shares → n ≡ 0
-      → shares₁ ≡ planned_of set.format.slots channels (length shares) → Plans octet channels shares 0 shares₁
-  plan_taken is none made =
-      record {
-        refused = sym none ∙ is;
-        leaves = rw (sym is ∙ none) (made ∙ ap (λ (slots : ℕ). planned_of slots channels (length shares)) (slots_are octet given));
-      }
+  pub plan_format : {n : ℕ} → n ≡ set.refusal → (n ≡ 0 → ⊥) → Plans octet channels shares n shares
+  unfolding plan_refusal
+  plan_format is some =
+      let own = is ∙ refusal_given octet given in
+      plan_refused (own ∙ sym (first_refuses _ (λ e. some (own ∙ e)))) some
+
+  module _ (none : set.refusal ≡ 0) where
+    planned : {n : ℕ} → n ≡ plan_refusal 0 set.format.slots channels (length shares) → n ≡ plan_refusal_of octet channels shares
+    planned is = rw (format_taken octet given none, ← slots_are octet given) is
+
+    pub plan_other : {n : ℕ} → n ≡ plan_refusal 0 set.format.slots channels (length shares) → (n ≡ 0 → ⊥) → Plans octet channels shares n shares
+    plan_other is = plan_refused (planned is)
+
+    pub plan_taken : 0 ≡ plan_refusal 0 set.format.slots channels (length shares) → {shares₁ : List ℕ}
+        → shares₁ ≡ planned_of set.format.slots channels (length shares) → Plans octet channels shares 0 shares₁
+    plan_taken taken made =
+        record {
+          refused = planned taken;
+          leaves = rw (sym (planned taken)) (made ∙ ap (λ (slots : ℕ). planned_of slots channels (length shares)) (slots_are octet given));
+        }

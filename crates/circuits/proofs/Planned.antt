@@ -11,9 +11,8 @@ use lib.ListN.{length, get_or, take}
 use lib.Seq.{length-take-le, get_or-take}
 use Rattle.runs.specs.Runs.{tab}
 use Rattle.runs.proofs.Laws.{split, length_tab, get_or_tab, tab_is}
-use Rattle.circuits.specs.declared.Verdict.TheVariants.{Yes}
 use Rattle.formats.specs.Formats.{times_of}
-use Rattle.circuits.specs.Circuits.{octet_refusal, slots_of, cells_per_second, checked_of, planned_of, plan_refusal}
+use Rattle.circuits.specs.Circuits.{Yes, octet_refusal, slots_of, cells_per_second, checked_of, planned_of, plan_refusal}
 use Rattle.circuits.specs.Plans.{total, ShareFits, Allowed, Shares, filled_of}
 use Rattle.circuits.proofs.Laws.{planned_at, plan_passed, plan_30, plan_0, check_0, slots_least}
 use Rattle.circuits.proofs.Checked.{good_yes}

@@ -2,23 +2,26 @@
 // Sharing channels out over circuits, request 11 of document 02: a checker of anyone's plan, and a plain planner. A plan is a run of
 // shares, the channels that each circuit carries; all circuits have one format.
 ghost use Rattle.std.specs.Prelude.{◌≡◌, ◌≤◌, length};
+ghost use Rattle.refusals.specs.Refusals.{refused_by};
 ghost use Rattle.circuits.specs.Circuits.{
   fits_slots,
   cells_per_second,
   judged_from,
+  is_too_many,
   check_refusal,
   checked_of,
-  share_after,
+  verdict_of,
+  check_answered,
   planned_of,
   plan_refusal,
   Plans,
 };
 
+use refusals::Refusal;
+
 // What the checker says of a plan; a circuit is counted from 0.
-#[derive(Clone, Copy)]
+#[derive(Clone, Copy, Debug, PartialEq, Eq, Hash)]
 pub enum Verdict {
-    // the numbers asked about were refused, by this number
-    Refused(u8),
     Yes,
     // the first fault is this circuit's share, which isn't 1 to S
     Share(u32),
@@ -29,161 +32,123 @@ pub enum Verdict {
 }
 
 // Whether a share is 1 to S.
-fn fits_slots(slots: usize, share: usize) -> bool
+#[tactic(auto, unfolding(crate::specs::Circuits::fits_slots))]
+fn fits_slots(slots: u32, share: u32) -> bool
     ensures { result ≡ fits_slots slots share }
 {
-    if share < 1 {
-        return false;
-    }
-    share <= slots
+    1 <= share && share <= slots
 }
 
 // The frequency divided by T, rounded up.
-fn cells_per_second(slots: usize, share: usize, frequency: u32) -> usize
+#[tactic(auto, using(crate::proofs::Laws::cells_rounded_up))]
+fn cells_per_second(slots: u32, share: u32, frequency: u32) -> u32
     requires { (1 ≤ share) × (share ≤ slots) × (slots ≤ 48) }
     ensures { result ≡ cells_per_second slots share frequency }
 {
-    let times = slots / share;
-    (frequency as usize + (times - 1)) / times
+    frequency.div_ceil(slots / share)
 }
 
 // Circuit by circuit the share, then the allowance; the sum last.
-fn judge(slots: usize, channels: u32, frequency: u32, shares: &[u32], allowances: &[u32]) -> Verdict
+fn judge(slots: u32, channels: u32, frequency: u32, shares: &[u32], allowances: &[u32]) -> Verdict
     requires { (slots ≤ 48) × (length shares.now ≤ 64) × (length allowances.now ≡ length shares.now) }
-    ensures { result ≡ judged_from slots channels frequency 0 0 shares.now allowances.now }
+    ensures { verdict_of result ≡ judged_from slots channels frequency 0 0 shares.now allowances.now }
 {
-    let mut carried: usize = 0;
-    let mut i: usize = 0;
-    while i < shares.len() {
-        let share = wide(shares[i]);
+    let mut carried = 0;
+    // no `zip`: the page's library, which has addresses of 32 bits, can't take an iterator's
+    for i in 0..shares.len() {
+        let share = shares[i];
         if !fits_slots(slots, share) {
             return Verdict::Share(i as u32);
         }
-        if wide(allowances[i]) < cells_per_second(slots, share, frequency) {
+        if allowances[i] < cells_per_second(slots, share, frequency) {
             return Verdict::Allowance(i as u32);
         }
         carried += share;
-        i += 1;
     }
-    if carried == channels as usize {
-        return Verdict::Yes;
+    if carried == channels {
+        Verdict::Yes
+    } else {
+        Verdict::Sum
     }
-    Verdict::Sum
 }
 
-fn wide(number: u32) -> usize
-    ensures { result ≡ number }
+// Whether there are more than 64 circuits or 1,024 channels.
+fn is_too_many(circuits: usize, channels: u32) -> bool
+    ensures { result ≡ is_too_many circuits channels }
 {
-    number as usize
+    64 < circuits || 1024 < channels
 }
 
-// 5 for unequal runs, 22 for more than 64 circuits or 1,024 channels, then 23 for frequency 0 or above 1,000,000; 0 where there is none.
-// The octet's own refusal comes first.
-fn check_refusal(octet: u8, channels: u32, frequency: u32, circuits: usize, allowances: usize) -> u8
-    ensures { result ≡ check_refusal octet channels frequency circuits allowances }
+// Unequal runs, then more than 64 circuits or 1,024 channels, then a frequency of 0 or above 1,000,000.
+#[tactic(auto, unfolding(crate::proofs::Unfolded::refusals))]
+fn check_checked(
+    channels: u32,
+    frequency: u32,
+    circuits: usize,
+    allowances: usize,
+) -> Result<(), Refusal>
+    ensures { refused_by result ≡ check_refusal 0 channels frequency circuits allowances }
 {
-    if octet != 0 {
-        return octet;
-    }
     if allowances != circuits {
-        return 5;
+        return Err(Refusal::Length);
     }
-    if 64 < circuits {
-        return 22;
+    if is_too_many(circuits, channels) {
+        return Err(Refusal::Plan);
     }
-    if 1024 < channels {
-        return 22;
+    if frequency < 1 || 1000000 < frequency {
+        return Err(Refusal::Frequency);
     }
-    if frequency < 1 {
-        return 23;
-    }
-    if 1000000 < frequency {
-        return 23;
-    }
-    0
+    Ok(())
 }
 
 // Judges a plan: so many channels asked for at a sampling frequency, the circuits' shares, and the cells per second that each may carry.
+// The octet's own refusal comes first.
 pub fn check(
     octet: u32,
     channels: u32,
     frequency: u32,
     shares: &[u32],
     allowances: &[u32],
-) -> Verdict
-    ensures { result ≡ checked_of octet channels frequency shares.now allowances.now }
+) -> Result<Verdict, Refusal>
+    ensures { check_answered result ≡ checked_of octet channels frequency shares.now allowances.now }
 {
-    let settled = formats::settings(octet, 1, 0);
-    let format = settled.format;
-    let refusal = check_refusal(
-        settled.refusal,
-        channels,
-        frequency,
-        shares.len(),
-        allowances.len(),
-    );
-    if refusal != 0 {
-        return Verdict::Refused(refusal);
-    }
-    judge(format.slots, channels, frequency, shares, allowances)
+    let slots = formats::settings(octet, 1, 0)?.format.slots;
+    check_checked(channels, frequency, shares.len(), allowances.len())?;
+    Ok(judge(slots as u32, channels, frequency, shares, allowances))
 }
 
-// 22 for more than 64 circuits or 1,024 channels, then 30 where S times the circuits is below the channels; 0 where there is none. The
-// octet's own refusal comes first.
-fn plan_refusal(octet: u8, slots: usize, channels: u32, circuits: usize) -> u8
+// More than 64 circuits or 1,024 channels, then S times the circuits below the channels.
+#[tactic(auto, unfolding(crate::proofs::Unfolded::refusals))]
+fn plan_checked(slots: usize, channels: u32, circuits: usize) -> Result<(), Refusal>
     requires { slots ≤ 48 }
-    ensures { result ≡ plan_refusal octet slots channels circuits }
+    ensures { refused_by result ≡ plan_refusal 0 slots channels circuits }
 {
-    if octet != 0 {
-        return octet;
-    }
-    if 64 < circuits {
-        return 22;
-    }
-    if 1024 < channels {
-        return 22;
+    if is_too_many(circuits, channels) {
+        return Err(Refusal::Plan);
     }
     if slots * circuits < channels as usize {
-        return 30;
+        return Err(Refusal::Circuits);
     }
-    0
-}
-
-// The next circuit's share of the channels that are left: all of them, or S.
-fn share_of(left: u32, slots: u32) -> u32
-    ensures { (result ≤ left) × (result ≡ share_after slots left) }
-{
-    if left < slots {
-        return left;
-    }
-    slots
+    Ok(())
 }
 
 fn fill(slots: u32, channels: u32, shares: &mut [u32])
     ensures { shares.new ≡ planned_of slots channels (length shares.old) }
 {
     let mut left = channels;
-    let mut i: usize = 0;
-    while i < shares.len() {
-        let share = share_of(left, slots);
-        shares[i] = share;
-        left -= share;
-        i += 1;
+    for share in shares.iter_mut() {
+        *share = slots.min(left);
+        left -= *share;
     }
 }
 
-// Fills circuits in the given order as far as S allows, allowances left aside; circuits left over get 0. Returns the refusal, and then
-// nothing is written.
-pub fn plan(octet: u32, channels: u32, shares: &mut [u32]) -> u8
-    ensures { Plans octet channels shares.old result shares.new }
+// Fills circuits in the given order as far as S allows, allowances left aside; circuits left over get 0. Where it is refused, nothing is
+// written.
+pub fn plan(octet: u32, channels: u32, shares: &mut [u32]) -> Result<(), Refusal>
+    ensures { Plans octet channels shares.old (refused_by result) shares.new }
 {
-    let settled = formats::settings(octet, 1, 0);
-    let format = settled.format;
-    let slots = format.slots;
-    let refusal = plan_refusal(settled.refusal, slots, channels, shares.len());
-    if refusal != 0 {
-        return refusal;
-    }
+    let slots = formats::settings(octet, 1, 0)?.format.slots;
+    plan_checked(slots, channels, shares.len())?;
     fill(slots as u32, channels, shares);
-    0
+    Ok(())
 }

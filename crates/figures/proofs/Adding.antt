@@ -9,12 +9,11 @@ use borrow.Author.Tests.{le-leb, lt-leb}
 use lib.ListN.{length, drop, length-append, length-drop}
 use Rattle.runs.specs.Runs.{over, written}
 use Rattle.runs.proofs.Laws.{split}
-use Rattle.figures.specs.declared.Answer.{Answer}
 use Rattle.figures.specs.declared.Counts.{Counts}
 use Rattle.figures.specs.Adding.{rows_with, Adds, closed_of, added_over}
 use Rattle.figures.specs.Code.{no_counts, capped, held_row, held_rows}
 use Rattle.figures.specs.Figures.{counts_of, too_many_of, plus_of}
-use Rattle.figures.specs.Sheets.{heard_in, heard_over, totals_of, rows_of, refused_by}
+use Rattle.figures.specs.Sheets.{Answer, heard_in, heard_over, totals_of, rows_of, refused_by}
 use Rattle.figures.proofs.Going.{over_on, rows_small}
 use Rattle.figures.proofs.Laws.{
   counts_none,

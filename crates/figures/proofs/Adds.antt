@@ -14,10 +14,10 @@ use Rattle.runs.proofs.Laws.{past, neither}
 use Rattle.reading.specs.Heard.{Heard}
 use Rattle.reading.specs.Totals.{total_of}
 use Rattle.reading.proofs.Totals.{total_joined}
-use Rattle.figures.specs.declared.Answer.{Answer}
 use Rattle.figures.specs.declared.Counts.{Counts}
 use Rattle.figures.specs.Figures.{counts_of, row_of, too_many_of, plus_of}
 use Rattle.figures.specs.Sheets.{
+  Answer,
   logs_of,
   heard_in,
   heard_over,

@@ -10,12 +10,12 @@ use borrow.Author.Tests.{eq-eqb}
 use lib.Dec.{eqb}
 use lib.ListN.{length, get_or, take, drop, length-drop}
 use lib.Seq.{length-take-le}
+use Rattle.std.specs.Prelude.{Some}
 use Rattle.runs.proofs.Laws.{split}
 use Rattle.formats.specs.declared.Format.{Format}
-use Rattle.formats.specs.declared.Settled.{Settled}
+use Rattle.formats.specs.Settled.{Settled}
 use Rattle.formats.specs.Formats.{format_of}
 use Rattle.formats.specs.Settings.{settings_of}
-use Rattle.numbers.specs.declared.Found.TheVariants.{Number}
 use Rattle.numbers.specs.Numbers.{indication_refused}
 use Rattle.receiver.specs.declared.Receiver.{Receiver}
 use Rattle.receiver.specs.Receiver.{last_refused, count_refused, found_now, gap_of, judged_of}
@@ -61,7 +61,7 @@ module _ (st : Receiver) (cell : List ℕ) (indication : Bool) {set : Settled}
         ap (λ (f : Format). eqb f.overhead_bits 0) (sym (settled_format st settles bare.taken))
         ∙ eq-eqb set.format.overhead_bits 0 bare.no_overhead
 
-    found : Number 0 ≡ found_now st cell
+    found : Some 0 ≡ found_now st cell
     unfolding found_now
     found = sym (rw without)
 
@@ -118,7 +118,7 @@ bare_more st used n =
     }
 
 -- what is heard behind a cell that is heard so
-over_front : (st st₁ : Receiver) (w : Whole) (ws : List Whole) (one : Counts) → onward (hear st w) ≡ st₁ → one_of (hear st w) ≡ one
+pub over_front : (st st₁ : Receiver) (w : Whole) (ws : List Whole) (one : Counts) → onward (hear st w) ≡ st₁ → one_of (hear st w) ≡ one
     → record { state = (noted_over st₁ ws).state; counts = plus_of one (noted_over st₁ ws).counts } ≡ noted_over st (w ∷ ws)
 unfolding heard_by end_by
 over_front st st₁ w ws one on-is one-is =

@@ -10,7 +10,7 @@ use borrow.Author.Tests.{ne_eqb, eqb-true, eqb-false}
 use lib.Dec.{eqb}
 use lib.ListN.{replicate}
 use Rattle.runs.proofs.Laws.{split}
-use Rattle.formats.specs.declared.Settled.{Settled}
+use Rattle.formats.specs.Settled.{Settled}
 use Rattle.formats.specs.Formats.{format_of}
 use Rattle.formats.specs.Settings.{settled, settings_of}
 use Rattle.formats.specs.Sound.{Limits}

@@ -8,8 +8,7 @@ use borrow.Author.Tests.{eqb-true, ne_eqb}
 use lib.Dec.{eqb}
 use lib.ListN.{length, replicate}
 use Rattle.runs.proofs.Laws.{split}
-use Rattle.figures.specs.declared.Answer.{Answer}
-use Rattle.figures.specs.Sheets.{sheet_refusal, refused_by, sheet_of, Sheets}
+use Rattle.figures.specs.Sheets.{Answer, sheet_refusal, refused_by, sheet_of, Sheets}
 
 pub answer_refusal : (octets lengths : List ℕ) (rows : ℕ)
     → (sheet_of octets lengths rows).refusal ≡ sheet_refusal octets lengths rows

@@ -1,18 +1,16 @@
 -- Laws of counts: sums of them, and counts that are too many.
 -- Assumes nothing.
 use mathlib.Core.Bool.{Bool, true, false, not}
-use mathlib.Core.List.{List, [], ◌∷◌, ◌++◌, append-nil}
+use mathlib.Core.List.{List, [], ◌∷◌, ◌++◌}
 use mathlib.Core.Path.{◌≡◌, refl, sym, ◌∙◌, ap}
-use Prim.Native.Nat.{ℕ, ◌+◌, ◌*◌, ◌-◌, ◌%◌, ◌≤◌, ◌<◌}
+use Prim.Native.Nat.{ℕ, ◌+◌, ◌*◌, ◌%◌, ◌≤◌, ◌<◌}
 use native.Mathlib.Nat.{pos_of_ne-zero, div-lt_iff_lt-mul, le_of_suc-le-suc, mod-eq_of_lt}
 use native.Mathlib.Numerals.{add-one}
 use native.Mathlib.Omega.{arith}
 use borrow.Author.Tests.{eq-eqb, ne_eqb, eqb-true, eqb-false, lt-ltb, le-ltb, ltb-true, ltb-false}
 use lib.Dec.{eqb, ltb}
-use lib.ListN.{length, get_or, take, drop, take-append-drop, drop_of_length-le}
-use lib.Seq.{take-suc, take_all, length-take-le}
-use Rattle.runs.specs.Runs.{over}
-use Rattle.runs.proofs.Filling.{Filled, done_front}
+use lib.ListN.{length, get_or, take, drop, take-append-drop}
+use lib.Seq.{take-suc, take_all}
 use Rattle.runs.proofs.Laws.{split, neither}
 use Rattle.reading.specs.Heard.{Heard}
 use Rattle.reading.specs.Totals.{total_of}
@@ -38,6 +36,12 @@ same_counts s m r8 r9 r15 r20 m0 m1 m2 i =
       marked_1 = m1 i;
       marked_2 = m2 i;
     }
+
+-- counts as they begin
+pub counts_begun : {c : Counts}
+    → (c.sound ≡ 0) × ((c.missing ≡ 0) × ((c.refused_8 ≡ 0) × ((c.refused_9 ≡ 0) × ((c.refused_15 ≡ 0) × ((c.refused_20 ≡ 0)
+    × ((c.marked_0 ≡ 0) × ((c.marked_1 ≡ 0) × (c.marked_2 ≡ 0)))))))) → c ≡ no_counts
+counts_begun (s, (m, (r8, (r9, (r15, (r20, (m0, (m1, m2)))))))) = same_counts s m r8 r9 r15 r20 m0 m1 m2
 
 -- of no records, of one before others, and of two lists
 pub counts_none : counts_of [] ≡ no_counts
@@ -210,17 +214,6 @@ cap_above n =
     (λ t. let many : 4294967296 < n = ltb-true 4294967296 n t in rw (t, lt-ltb 4294967295 n (omega arith)) refl)
     (λ t. rw t refl)
 
-pub sum_full : (a b : ℕ) → 4294967296 < a → 4294967296 ≡ cap_of (a + b)
-unfolding cap_of
-sum_full a b many = sym (rw (lt-ltb 4294967296 (a + b) (omega arith)))
-
-pub sum_past : (a b : ℕ) → a ≤ 4294967296 → 4294967296 - a < b → 4294967296 ≡ cap_of (a + b)
-unfolding cap_of
-sum_past a b few many = sym (rw (lt-ltb 4294967296 (a + b) (omega arith)))
-
-pub sum_fits : (a b : ℕ) → a ≤ 4294967296 → b ≤ 4294967296 - a → a + b ≡ cap_of (a + b)
-sum_fits a b few fits = sym (cap_same (a + b) (omega arith))
-
 pub capped_more : (a b : Counts) → capped (plus_of (capped a) b) ≡ capped (plus_of a b)
 unfolding capped
 capped_more a b =
@@ -277,16 +270,6 @@ length_row c = refl
 low : (n : ℕ) → n ≤ 4294967295 → n % 4294967296 ≡ n
 low n few = mod-eq_of_lt (omega arith)
 
-pub row_held : (c : Counts) {per a b d e f g h j k l : ℕ} → per ≡ per_million c.sound c.missing → a ≡ c.sound % 4294967296
-    → b ≡ c.missing % 4294967296 → d ≡ c.refused_8 % 4294967296 → e ≡ c.refused_9 % 4294967296
-    → f ≡ c.refused_15 % 4294967296
-    → g ≡ c.refused_20 % 4294967296 → h ≡ c.marked_0 % 4294967296 → j ≡ c.marked_1 % 4294967296
-    → k ≡ c.marked_2 % 4294967296 → l ≡ per % 4294967296
-    → (a ∷ b ∷ d ∷ e ∷ f ∷ g ∷ h ∷ j ∷ k ∷ l ∷ []) ≡ held_row c
-unfolding held_row row_of
-row_held c pe ae be de ee fe ge he je ke le i =
-    ae i ∷ be i ∷ de i ∷ ee i ∷ fe i ∷ ge i ∷ he i ∷ je i ∷ ke i ∷ (le ∙ ap (λ (n : ℕ). n % 4294967296) pe) i ∷ []
-
 million_to : (sound missing : ℕ) → per_million sound missing ≤ 1000000
 unfolding per_million
 million_to sound missing =
@@ -330,16 +313,3 @@ module _ (octets : ℕ) (lengths : List ℕ) (numbers : ℕ) where
       → not (eqb numbers (10 * length lengths)) ≡ unlike octets lengths numbers
   unfolding unlike
   agrees e t = sym (rw (← e, t) refl)
-
--- a run that was filled from another
-pub copied : (rows held : List ℕ) {now : List ℕ} {i : ℕ} → length rows ≤ length held
-    → Filled now rows 0 (take (length rows) held) i
-    → length rows ≤ i → now ≡ take (length rows) held
-unfolding over
-copied rows held few f all =
-    let size : length (take (length rows) held) ≡ length rows = length-take-le (length rows) held few in
-    let past : drop (length (take (length rows) held)) rows ≡ [] =
-    drop_of_length-le rows {i = length (take (length rows) held)} (omega (arith, size)) in
-    done_front _ _ f (omega (arith, size, all))
-    ∙ ap (λ (l : List ℕ). take (length rows) held ++ l) past
-    ∙ append-nil (take (length rows) held)

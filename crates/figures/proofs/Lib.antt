@@ -14,5 +14,6 @@ pub mod Refusals
 pub mod Slots
 pub mod Tops
 pub mod Turns
+pub mod Unsettled
 pub mod Walks
 pub mod Wrong

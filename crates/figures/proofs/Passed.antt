@@ -10,7 +10,7 @@ use lib.Dec.{eqb}
 use lib.ListN.{length, get_or, take, drop, length-drop}
 use lib.Seq.{get_or-drop, drop-drop, length-take-le}
 use Rattle.runs.proofs.Laws.{split}
-use Rattle.formats.specs.declared.Settled.{Settled}
+use Rattle.formats.specs.Settled.{Settled}
 use Rattle.formats.specs.Settings.{settings_of}
 use Rattle.receiver.specs.declared.Receiver.{Receiver}
 use Rattle.receiver.specs.Receiver.{receive_refusal, after, received_of, judged_of}

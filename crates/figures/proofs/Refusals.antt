@@ -11,11 +11,10 @@ use lib.ListN.{length, take, drop}
 use lib.Seq.{take_at}
 use Rattle.runs.specs.Runs.{over}
 use Rattle.runs.proofs.Laws.{neither}
-use Rattle.figures.specs.declared.Answer.{Answer}
 use Rattle.figures.specs.declared.Counts.{Counts}
 use Rattle.figures.specs.Code.{held_row, held_rows, Fills}
 use Rattle.figures.specs.Figures.{row_of, too_many_of}
-use Rattle.figures.specs.Sheets.{logs_of, totals_of, rows_of, sum_of, unlike, sheet_refusal, refused_by, sheet_of, Sheets}
+use Rattle.figures.specs.Sheets.{Answer, logs_of, totals_of, rows_of, sum_of, unlike, sheet_refusal, refused_by, sheet_of, Sheets}
 use Rattle.figures.proofs.Going.{rows_small, length_rows}
 use Rattle.figures.proofs.Laws.{capped_many, total_row}
 

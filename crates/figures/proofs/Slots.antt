@@ -13,7 +13,7 @@ use lib.Dec.{eqb}
 use Rattle.runs.specs.Runs.{tab}
 use Rattle.runs.proofs.Laws.{split}
 use Rattle.formats.specs.declared.Format.{Format}
-use Rattle.formats.specs.declared.Settled.{Settled}
+use Rattle.formats.specs.Settled.{Settled}
 use Rattle.formats.specs.Sound.{Limits}
 use Rattle.cells.specs.Cells.{subframe_at, mark_in, entries_of}
 use Rattle.cells.specs.Placement.{slot_of, slot_of_entry}

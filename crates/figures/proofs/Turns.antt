@@ -10,13 +10,13 @@ use native.Mathlib.Omega.{arith}
 use borrow.Author.Tests.{eq-eqb, ne_eqb, le-ltb}
 use lib.Dec.{eqb}
 use lib.ListN.{length, get_or}
+use Rattle.std.specs.Prelude.{Some}
 use Rattle.formats.specs.declared.Format.{Format}
-use Rattle.formats.specs.declared.Settled.{Settled}
+use Rattle.formats.specs.Settled.{Settled}
 use Rattle.formats.specs.Formats.{format_of}
 use Rattle.formats.specs.Settings.{settings_of}
 use Rattle.formats.specs.Sound.{Sound, Limits}
 use Rattle.formats.proofs.Laws.{limits_of}
-use Rattle.numbers.specs.declared.Found.TheVariants.{Number}
 use Rattle.numbers.specs.Code.{sequence_of}
 use Rattle.numbers.specs.Numbers.{entry_of, found_of, word_bit, difference_of, indication_refused}
 use Rattle.numbers.proofs.Laws.{sequence_bit, gathered_same, eight_back, entry_lt, entry_found}
@@ -33,7 +33,7 @@ use Rattle.figures.specs.Stretch.{told_of, next_told, Waits}
 module _ (st : Receiver) (cell : List ℕ) (indication : Bool) {set : Settled}
     (settles : set ≡ settings_of st.format st.channels st.order) (taken : set.refusal ≡ 0)
     (fourth : false ≡ (last_refused st || count_refused st)) (whole : length cell ≡ 48) {number : ℕ}
-    (found : Number number ≡ found_now st cell) (rightly : false ≡ indication_refused number indication) (one : 1 ≡ gap_of st cell)
+    (found : Some number ≡ found_now st cell) (rightly : false ≡ indication_refused number indication) (one : 1 ≡ gap_of st cell)
     (goes_on : st.count + 1 ≤ 4294967295)
   where
     lengths : false ≡ lengths_refused (length cell) 720 720 720
@@ -89,7 +89,7 @@ module _ (st : Receiver) (cell : List ℕ) {set : Settled}
         ∙ sequence_bit slot word_lt (omega arith))
         ∙ eight_back 0 word_lt
 
-    found : Number number ≡ found_now st cell
+    found : Some number ≡ found_now st cell
     found = sym (found_over st cell format_is over ∙ ap found_of eight_is ∙ entry_found low)
 
     with_overhead : eqb (format_of st.format).overhead_bits 0 ≡ false

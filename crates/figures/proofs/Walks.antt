@@ -11,7 +11,7 @@ use lib.ListN.{length, get_or, take, length-drop}
 use lib.Seq.{take_all}
 use Rattle.runs.specs.Refusals.{or_else}
 use Rattle.runs.proofs.Laws.{split}
-use Rattle.cell_log.specs.declared.Header.{Header}
+use Rattle.cell_log.specs.Answers.{Header}
 use Rattle.cell_log.specs.Records.{header_of, cell_at}
 use Rattle.cell_log.proofs.Places.{record_11}
 use Rattle.receiver.specs.declared.Ready.{Ready}
@@ -29,7 +29,10 @@ use Rattle.reading.specs.Heard.{Heard, heard_by, end_by, hear, onward, heard_fro
 use Rattle.reading.specs.Reading.{Reading, fresh_of, behind_header, reading_of}
 use Rattle.reading.specs.Records.{Whole, is_whole, front_of, walk_within, records_in}
 use Rattle.reading.proofs.Reading.{header_three, reading_none}
-use Rattle.pieces.specs.declared.Found.{Found}
+use Rattle.pieces.specs.declared.Found as code
+use Rattle.pieces.specs.declared.What.{What}
+use Rattle.pieces.specs.declared.What.TheVariants as kind
+use Rattle.pieces.specs.Found.{Found, number_of, numbered}
 use Rattle.pieces.specs.declared.Standing.{Standing}
 use Rattle.pieces.specs.declared.Stretch.{Stretch}
 use Rattle.pieces.specs.Limit.{Part, head, whole, records_to, fault_to, end_part, parts_of}
@@ -240,7 +243,7 @@ module _ (n : Noted) (octets : List ℕ) (high : 1 < get_or octets 0 0) where
       })
       ∙ ap (λ (w : Whole). part_noted n (whole w)) (sym none_there)
 
-pub past_header : (n : Noted) (held : List ℕ) {header : Header} {opened : Ready} → header ≡ header_of (take 3 held)
+pub past_header : (n : Noted) (held : List ℕ) {header : Header} {opened : Ready} → header ≡ record (header_of (take 3 held)) { refusal = 0 }
     → opened ≡ opened_of header.format header.channels header.order
     → record { state = opened.state; counts = n.counts } ≡ part_noted n (head (header_of (take 3 held)))
 unfolding part_noted
@@ -250,40 +253,33 @@ past_header n held {header} is opens =
 
 -- what was found, by its kind
 module _ (n : Noted) (f : Found) (held piece : List ℕ) (place : ℕ) where
-  found_one : {m : Noted} (p : Part) → found_parts f held piece place ≡ p ∷ [] → m ≡ part_noted n p
+  pub found_one : {m : Noted} (p : Part) → found_parts f held piece place ≡ p ∷ [] → m ≡ part_noted n p
       → m ≡ noted_by n (found_parts f held piece place)
   unfolding noted_by
   found_one p is e = e ∙ ap (noted_by n) (sym is)
-
-  pub notes_held : {m : Noted} → f.what ≡ 3 → m ≡ part_noted n (whole (front_of held)) → m ≡ noted_by n (found_parts f held piece place)
-  unfolding found_parts
-  notes_held three is =
-      let not-1 : eqb f.what 1 ≡ false = ne_eqb f.what 1 (λ e. omega (arith, e, three)) in
-      let not-2 : eqb f.what 2 ≡ false = ne_eqb f.what 2 (λ e. omega (arith, e, three)) in
-      found_one (whole (front_of held)) (rw (not-1, not-2, eq-eqb f.what 3 three)) is
-
-  pub notes_header : {m : Noted} → f.what ≡ 1 → m ≡ part_noted n (head (header_of (take 3 held)))
-      → m ≡ noted_by n (found_parts f held piece place)
-  unfolding found_parts
-  notes_header one is = found_one (head (header_of (take 3 held))) (rw (eq-eqb f.what 1 one)) is
-
-  pub notes_nothing : (f.what ≡ 1 → ⊥) → (f.what ≡ 2 → ⊥) → (f.what ≡ 3 → ⊥) → n ≡ noted_by n (found_parts f held piece place)
-  unfolding found_parts noted_by part_noted
-  notes_nothing not-1 not-2 not-3 =
-      let none_1 = ne_eqb f.what 1 not-1 in
-      let none_2 = ne_eqb f.what 2 not-2 in
-      let none-3 = ne_eqb f.what 3 not-3 in
-      split (eqb f.what 4)
-      (λ e.
-      split (eqb f.standing.stage 2)
-      (λ g. rw (none_1, none_2, none-3, e, g) refl)
-      (λ g. rw (none_1, none_2, none-3, e, g) refl))
-      (λ e. rw (none_1, none_2, none-3, e) refl)
 
   -- where no record is found in the piece, the piece isn't looked at
   found_elsewhere : (f.what ≡ 2 → ⊥) → found_parts f held [] 0 ≡ found_parts f held piece place
   unfolding found_parts
   found_elsewhere not-2 = rw (ne_eqb f.what 2 not-2)
+
+-- what is no record and no header counts nothing
+nothing_noted : (n : Noted) (what : What) (next : ℕ) (s : Standing) (held piece : List ℕ) (place : ℕ) → (what ≡ kind.Header → ⊥)
+    → (number_of what ≡ 2 → ⊥) → (what ≡ kind.Held → ⊥)
+    → n ≡ noted_by n (found_parts (record { what = number_of what; next = next; standing = s }) held piece place)
+unfolding found_parts noted_by part_noted
+nothing_noted n kind.Nothing next s held piece place not-header not-there not-held = refl
+nothing_noted n kind.Header next s held piece place not-header not-there not-held = absurd (not-header refl)
+nothing_noted n kind.InPiece next s held piece place not-header not-there not-held = absurd (not-there refl)
+nothing_noted n kind.Held next s held piece place not-header not-there not-held = absurd (not-held refl)
+nothing_noted n kind.Fault next s held piece place not-header not-there not-held =
+    split (eqb s.stage 2)
+    (λ e. rw e)
+    (λ e. rw e)
+
+pub notes_nothing : (n : Noted) (f : code.Found) (held piece : List ℕ) (place : ℕ) → (f.what ≡ kind.Header → ⊥)
+    → (number_of f.what ≡ 2 → ⊥) → (f.what ≡ kind.Held → ⊥) → n ≡ noted_by n (found_parts (numbered f) held piece place)
+notes_nothing n f held piece place = nothing_noted n f.what f.next f.standing held piece place
 
 -- along a piece: the parts so far, and what they count
 pub record Going (t : Tally) (lent piece : List ℕ) (s : Standing) (n : Noted) (held : List ℕ) (place : ℕ) : Type 0 where

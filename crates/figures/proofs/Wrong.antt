@@ -13,13 +13,12 @@ use Rattle.reading.proofs.Computed as reading
 use Rattle.reading.specs.Totals.{total_of}
 use Rattle.pieces.specs.Steps.{steps_from, stood_of}
 use Rattle.pieces.proofs.Wrong as pieces
-use Rattle.figures.specs.declared.Answer.{Answer}
 use Rattle.figures.specs.declared.Tally.{Tally}
 use Rattle.figures.specs.declared.Counts.{Counts}
 use Rattle.figures.specs.Adding.{rows_with, closed_of}
 use Rattle.figures.specs.Code.{cap_of, capped, held_row}
 use Rattle.figures.specs.Figures.{counts_of, per_million, row_of, too_many_of}
-use Rattle.figures.specs.Sheets.{logs_of, heard_over, rows_of, unlike, sheet_refusal, sheet_of}
+use Rattle.figures.specs.Sheets.{Answer, answered, logs_of, heard_over, rows_of, unlike, sheet_refusal, sheet_of}
 use Rattle.figures.specs.Taking.{part_noted, noted_by, start_tally}
 use Rattle.figures.proofs.add.Kinds as add-kinds
 use Rattle.figures.proofs.add.Reads as add_reads
@@ -80,7 +79,7 @@ module _ (κs : Lfts 3) (p q r : Place) where
   abbrev Sheet : List ℕ → List ℕ → ℕ → (Answer → List ℕ → Type 0) → Type 0
   Sheet octets lengths rows Wrong =
       Never sheet-kinds.ps sheet-kinds.r sheet-reads.Post κs (lent p octets, (lent q lengths, (lent_mut r (replicate rows 9), tt)))
-      (λ x v. Wrong x v.1.1.0)
+      (λ x v. Wrong (answered x) v.1.1.0)
 
   -- the repeat told as sound
   pub repeat_not_sound : Sheet twice (101 ∷ []) 10 (λ x rows. get_or rows 0 0 ≡ 2)
@@ -92,7 +91,7 @@ module _ (κs : Lfts 3) (p q r : Place) where
   pub cut_record_not_refused : Sheet (once ++ (0 ∷ [])) (53 ∷ []) 10 (λ x rows. get_or x.totals 3 0 ≡ 1)
   unfolding unfolded
   cut_record_not_refused x v wrong s =
-      let right : get_or x.totals 3 0 ≡ 0 = ap (λ (a : Answer). get_or a.totals 3 0) s.answered in omega arith
+      let right : get_or (answered x).totals 3 0 ≡ 0 = ap (λ (a : Answer). get_or a.totals 3 0) s.answered in omega arith
 
   -- a whole cell counted behind a header that is refused: 56 hex has no 13 channels
   pub refused_header_not_counted : Sheet refused_header (52 ∷ []) 10 (λ x rows. get_or rows 0 0 ≡ 1)
@@ -109,7 +108,7 @@ module _ (κs : Lfts 3) (p q r : Place) where
   -- lengths that add up only after wrapping taken
   pub wrapped_lengths_not_taken : Sheet [] (18446744073709551615 ∷ 1 ∷ []) 20 (λ x rows. x.refusal ≡ 0)
   unfolding unfolded
-  wrapped_lengths_not_taken x v wrong s = let right : x.refusal ≡ 5 = ap (λ (a : Answer). a.refusal) s.answered in omega
+  wrapped_lengths_not_taken x v wrong s = let right : (answered x).refusal ≡ 5 = ap (λ (a : Answer). a.refusal) s.answered in omega
       arith
 
 module _ (κs : Lfts 2) (p q : Place) where
@@ -144,16 +143,16 @@ module _ (κs : Lfts 0) where
       s in omega arith
 
   abbrev Closed : Counts → (Answer → Type 0) → Type 0
-  Closed totals Wrong = Never closed-kinds.ps closed-kinds.r closed-reads.Post κs (totals, tt) (λ x v. Wrong x)
+  Closed totals Wrong = Never closed-kinds.ps closed-kinds.r closed-reads.Post κs (totals, tt) (λ x v. Wrong (answered x))
 
   -- the first total that is too many taken, and the last that isn't refused
   pub too_many_not_taken : Closed (sounds 4294967296) (λ x. x.refusal ≡ 0)
   unfolding adding_unfolded
-  too_many_not_taken x v wrong s = let right : x.refusal ≡ 19 = ap (λ (a : Answer). a.refusal) s in omega arith
+  too_many_not_taken x v wrong s = let right : (answered x).refusal ≡ 19 = ap (λ (a : Answer). a.refusal) s in omega arith
 
   pub most_not_refused : Closed (sounds 4294967295) (λ x. x.refusal ≡ 19)
   unfolding adding_unfolded
-  most_not_refused x v wrong s = let right : x.refusal ≡ 0 = ap (λ (a : Answer). a.refusal) s in omega arith
+  most_not_refused x v wrong s = let right : (answered x).refusal ≡ 0 = ap (λ (a : Answer). a.refusal) s in omega arith
 
 module _ (κs : Lfts 1) (p : Place) where
   abbrev Added : (Counts → List ℕ → Type 0) → Type 0

@@ -2,11 +2,10 @@
 -- Assumes nothing.
 use Rattle.std.specs.Prelude.{cond, List, [], ◌∷◌, ◌≡◌, ℕ, ◌+◌, ◌*◌, ◌/◌, leb, length}
 use Rattle.runs.specs.Runs.{written}
-use Rattle.figures.specs.declared.Answer.{Answer}
 use Rattle.figures.specs.declared.Counts.{Counts}
 use Rattle.figures.specs.Code.{capped, held_row}
 use Rattle.figures.specs.Figures.{counts_of, plus_of, row_of, too_many_of}
-use Rattle.figures.specs.Sheets.{heard_in, refused_by}
+use Rattle.figures.specs.Sheets.{Answer, heard_in, refused_by}
 
 -- a row in its place, as far as there are rows
 unfoldable pub rows_with : List ℕ → ℕ → Counts → List ℕ

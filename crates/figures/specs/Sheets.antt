@@ -1,11 +1,12 @@
 -- One sheet over many logs, request 3: a row for each log and one for all together, and its refusals.
 -- Assumes nothing.
-use Rattle.std.specs.Prelude.{Bool, cond, not, ◌||◌, List, [], ◌∷◌, ◌++◌, ◌≡◌, ℕ, ◌+◌, ◌*◌, ◌<◌, eqb, ltb, length, get_or, take, drop, replicate}
+use Rattle.std.specs.Prelude.{Bool, cond, not, ◌||◌, List, [], ◌∷◌, ◌++◌, ◌≡◌, ℕ, ◌+◌, ◌*◌, ◌<◌, Result, Ok, Err, eqb, ltb, length, get_or, take, drop, replicate}
+use Rattle.refusals.specs.declared.Refusal.{Refusal}
+use Rattle.refusals.specs.Refusals.{number_of}
 use Rattle.reading.specs.Heard.{Heard}
 use Rattle.reading.specs.Reading.{reading_of}
 use Rattle.reading.specs.Totals.{total_of}
 use Rattle.figures.specs.declared.Counts.{Counts}
-use Rattle.figures.specs.declared.Answer.{Answer}
 use Rattle.figures.specs.Figures.{counts_of, row_of, too_many_of}
 
 -- "The logs lie end to end in one lent run, their lengths in another"
@@ -47,9 +48,19 @@ sheet_refusal octets lengths rows =
     (cond (unlike (length octets) lengths rows) 5
     (cond (too_many_of (totals_of (logs_of octets lengths))) 19 0))
 
+-- what a sheet answers: the refusal (0: none), and the row of all logs together
+pub record Answer : Type 0 where
+  pub refusal : ℕ
+  pub totals : List ℕ
+
 -- a refusal, and zeros
 abbrev pub refused_by : ℕ → Answer
 refused_by refusal = record { refusal = refusal; totals = replicate 10 0 }
+
+-- the code's answer
+abbrev pub answered : Result (List ℕ) Refusal → Answer
+answered (Ok totals) = record { refusal = 0; totals = totals }
+answered (Err refusal) = refused_by (number_of refusal)
 
 -- the row of all together has its own missing per million, worked out from the totals
 unfoldable pub sheet_of : List ℕ → List ℕ → ℕ → Answer

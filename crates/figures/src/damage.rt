@@ -38,7 +38,7 @@ fn mark_at(format: Format, cell: &[u8], slot: usize) -> u64
 {
     let at = slot * format.width;
     let second = cell[at + 1];
-    let bits = tables::marks_for_figures(key_of(format, cell[at], second));
+    let bits = tables::marks(key_of(format, cell[at], second));
     let low = low_of(format, second, cell[at + (format.width - 1)]);
     (bits >> low) % 2
 }
@@ -52,10 +52,8 @@ pub(crate) fn marked_1(format: Format, cell: &[u8], used: usize) -> u64
         return 0;
     }
     let mut count = 0;
-    let mut slot = 0;
-    while slot < used {
+    for slot in 0..used {
         count += mark_at(format, cell, slot);
-        slot += 1;
     }
     count
 }

@@ -4,11 +4,12 @@ ghost use Rattle.std.specs.Prelude.{◌≡◌, ◌*◌, ◌≤◌, eqb, length};
 ghost use Rattle.figures.specs.Adding.{Adds, closed_of};
 ghost use Rattle.figures.specs.Code.{capped, Fills};
 ghost use Rattle.figures.specs.Figures.{counts_of};
-ghost use Rattle.figures.specs.Sheets.{heard_in, sum_of, unlike, refused_by, Sheets};
+ghost use Rattle.figures.specs.Sheets.{heard_in, sum_of, unlike, answered, Sheets};
 ghost use Rattle.figures.specs.Taking.{start_tally, Takes};
 
 use pieces::Standing;
 use receiver::Receiver;
+use refusals::Refusal;
 
 mod damage; // damage.rt: how many samples of a cell are marked 1
 mod record; // record.rt: what the parts of a log count
@@ -18,7 +19,7 @@ mod sums; // sums.rt: counts added up
 mod told; // told.rt: what the receiver makes of a cell
 
 // What is counted of records, each number no further than 4,294,967,296, which is too many.
-#[derive(Clone, Copy)]
+#[derive(Clone, Copy, Debug, Default, PartialEq, Eq, Hash)]
 pub struct Counts {
     pub sound: u64,
     pub missing: u64,
@@ -32,34 +33,27 @@ pub struct Counts {
 }
 
 // The receiver's state, and what was counted so far.
-#[derive(Clone, Copy)]
+#[derive(Clone, Copy, Debug, PartialEq, Eq, Hash)]
 pub struct Noted {
     pub state: Receiver,
     pub counts: Counts,
 }
 
 // The figures of a log under way: where it stands, and what was counted.
-#[derive(Clone, Copy)]
+#[derive(Clone, Copy, Debug, PartialEq, Eq, Hash)]
 pub struct Tally {
     pub standing: Standing,
     pub noted: Noted,
-}
-
-// The refusal (0: none), and the row of all logs together, which is zeros where it is refused.
-#[derive(Clone, Copy)]
-pub struct Answer {
-    pub refusal: u8,
-    pub totals: [u32; 10],
 }
 
 // The figures of a log before its first octet.
 pub fn start() -> Tally
     ensures { result ≡ start_tally }
 {
-    let standing = pieces::start(18446744073709551615);
+    let standing = pieces::start(u64::MAX);
     let opened = receiver::opened(0, 0, 0);
     let state = opened.state;
-    let counts = sums::none();
+    let counts = Counts::default();
     let noted = Noted { state, counts };
     Tally { standing, noted }
 }
@@ -69,7 +63,6 @@ pub fn start() -> Tally
 pub fn take(tally: Tally, held: &mut [u8; 49], piece: &[u8]) -> Tally
     ensures { Takes tally held.old piece.now result held.new }
 {
-    pieces::sized(*held);
     let mut standing = tally.standing;
     let mut noted = tally.noted;
     let mut place = 0;
@@ -96,8 +89,7 @@ fn of_log(log: &[u8]) -> Counts
 {
     let mut held = [0u8; 49];
     let tally = take(start(), &mut held, log);
-    let noted = tally.noted;
-    noted.counts
+    tally.noted.counts
 }
 
 // Whether the lengths add up to so many octets. They are taken off what is left, so that no sum can wrap.
@@ -105,14 +97,11 @@ fn add_up(lengths: &[u64], octets: u64) -> bool
     ensures { result ≡ eqb (sum_of lengths.now) octets }
 {
     let mut left = octets;
-    let mut i = 0;
-    while i < lengths.len() {
-        let length = lengths[i];
-        if left < length {
+    for length in lengths {
+        if left < *length {
             return false;
         }
-        left -= length;
-        i += 1;
+        left -= *length;
     }
     left == 0
 }
@@ -122,10 +111,7 @@ fn differ(octets: usize, lengths: &[u64], numbers: usize) -> bool
     requires { length lengths.now ≤ 4096 }
     ensures { result ≡ unlike octets lengths.now numbers }
 {
-    if !add_up(lengths, octets as u64) {
-        return true;
-    }
-    numbers != 10 * lengths.len()
+    !add_up(lengths, octets as u64) || numbers != 10 * lengths.len()
 }
 
 // Counts log after log and writes each one's row.
@@ -133,48 +119,37 @@ fn fill(octets: &[u8], lengths: &[u64], rows: &mut [u32]) -> Counts
     requires { (sum_of lengths.now ≡ length octets.now) × (10 * length lengths.now ≤ length rows.old) }
     ensures { Fills octets.now lengths.now rows.old result rows.new }
 {
-    let mut totals = sums::none();
+    let mut totals = Counts::default();
     let mut at = 0;
-    let mut i = 0;
-    while i < lengths.len() {
-        let end = at + lengths[i] as usize;
+    for (i, length) in lengths.iter().enumerate() {
+        let end = at + *length as usize;
         let one = of_log(&octets[at..end]);
         totals = sums::plus(totals, one);
         rows::put(rows, 10 * i, rows::row_of(one));
         at = end;
-        i += 1;
     }
     totals
 }
 
-fn refused(refusal: u8) -> Answer
-    ensures { result ≡ refused_by refusal }
-{
-    Answer {
-        refusal,
-        totals: [0u32; 10],
-    }
-}
-
 // One sheet over the logs that lie end to end in `octets`: a row of ten numbers for each, and one for all together. The rows are
-// held until 19 is ruled out, so that a refusal writes nothing.
-pub fn sheet(octets: &[u8], lengths: &[u64], rows: &mut [u32]) -> Answer
-    ensures { Sheets octets.now lengths.now rows.old result rows.new }
+// held until 19 is ruled out, so that a refusal writes nothing. The answer is the row of all logs together.
+#[tactic(auto, unfolding(refusals::specs::Refusals::number_of))]
+pub fn sheet(octets: &[u8], lengths: &[u64], rows: &mut [u32]) -> Result<[u32; 10], Refusal>
+    ensures { Sheets octets.now lengths.now rows.old (answered result) rows.new }
 {
     if 4096 < lengths.len() {
-        return refused(18);
+        return Err(Refusal::Logs);
     }
     if differ(octets.len(), lengths, rows.len()) {
-        return refused(5);
+        return Err(Refusal::Length);
     }
     let mut held = [0u32; 40960];
     let counts = fill(octets, lengths, &mut held);
     if sums::too_many(counts) {
-        return refused(19);
+        return Err(Refusal::Total);
     }
     rows::copy(rows, &held);
-    let totals = rows::row_of(counts);
-    Answer { refusal: 0, totals }
+    Ok(rows::row_of(counts))
 }
 
 // Adds a log that is counted to a sheet under way: its row is written at its place, where the rows go so far, and its counts are
@@ -182,24 +157,19 @@ pub fn sheet(octets: &[u8], lengths: &[u64], rows: &mut [u32]) -> Answer
 pub fn add(rows: &mut [u32], index: usize, totals: Counts, one: Counts) -> Counts
     ensures { Adds rows.old index totals one result rows.new }
 {
-    let counted = sums::plus(sums::none(), one);
-    if rows.len() / 10 <= index {
-        return sums::plus(totals, one);
+    if index < rows.len() / 10 {
+        let counted = sums::plus(Counts::default(), one);
+        rows::put(rows, 10 * index, rows::row_of(counted));
     }
-    rows::put(rows, 10 * index, rows::row_of(counted));
     sums::plus(totals, one)
 }
 
 // The row of all logs together, when the last one is added; or 19.
-pub fn closed(totals: Counts) -> Answer
-    ensures { result ≡ closed_of totals }
+pub fn closed(totals: Counts) -> Result<[u32; 10], Refusal>
+    ensures { answered result ≡ closed_of totals }
 {
     if sums::too_many(totals) {
-        return refused(19);
+        return Err(Refusal::Total);
     }
-    let row = rows::row_of(totals);
-    Answer {
-        refusal: 0,
-        totals: row,
-    }
+    Ok(rows::row_of(totals))
 }

@@ -1,24 +1,24 @@
 // What the parts of a log count that are held in a lent array: its header, and a record that doesn't lie whole in a piece.
 ghost use Rattle.std.specs.Prelude.{[], ◌≡◌, take};
-ghost use Rattle.cell_log.specs.Records.{header_of};
+ghost use Rattle.cell_log.specs.Records.{header_answered, header_of};
 ghost use Rattle.reading.specs.Records.{front_of};
 ghost use Rattle.pieces.specs.Limit.{head, whole};
+ghost use Rattle.pieces.specs.Found.{number_of, numbered};
 ghost use Rattle.pieces.specs.Steps.{found_parts};
 ghost use Rattle.figures.specs.Code.{no_counts, capped};
 ghost use Rattle.figures.specs.Figures.{plus_of};
 ghost use Rattle.figures.specs.Taking.{part_noted, noted_by};
 
-use crate::{Noted, stretch, sums};
+use crate::{Counts, Noted, stretch, sums};
 use cell_log::Header;
-use pieces::Found;
+use pieces::{Found, What};
 
 // Past octets that begin with no record: nothing counts.
 fn passed_over(noted: Noted) -> Noted
     ensures { result ≡ record { state = noted.state; counts = capped (plus_of noted.counts no_counts) } }
 {
-    let state = noted.state;
-    let counts = sums::plus(noted.counts, sums::none());
-    Noted { state, counts }
+    let counts = sums::plus(noted.counts, Counts::default());
+    Noted { counts, ..noted }
 }
 
 // Past the record that octets begin with. None begins with an octet above 1.
@@ -32,9 +32,9 @@ fn counted(noted: Noted, octets: [u8; 49]) -> Noted
 }
 
 fn header_of(held: [u8; 49]) -> Header
-    ensures { result ≡ header_of (take 3 held) }
+    ensures { header_answered (Ok result) ≡ record (header_of (take 3 held)) { refusal = 0 } }
 {
-    cell_log::read_header(&held[..3])
+    cell_log::header_numbers(&held[..3])
 }
 
 // Past the header that is held.
@@ -43,21 +43,20 @@ fn begun(noted: Noted, held: [u8; 49]) -> Noted
 {
     let header = header_of(held);
     let opened = receiver::opened(header.format, header.channels, header.order);
-    let state = opened.state;
-    let counts = noted.counts;
-    Noted { state, counts }
+    Noted {
+        state: opened.state,
+        ..noted
+    }
 }
 
 // Past what was found in a piece that begins with no stretch of records: a record is found then only in what is held.
 pub(crate) fn step(noted: Noted, found: Found, held: &[u8; 49]) -> Noted
-    requires { found.what ≡ 2 → ⊥ }
-    ensures { result ≡ noted_by noted (found_parts found held.now [] 0) }
+    requires { number_of found.what ≡ 2 → ⊥ }
+    ensures { result ≡ noted_by noted (found_parts (numbered found) held.now [] 0) }
 {
-    if found.what == 3 {
-        return counted(noted, *held);
+    match found.what {
+        What::Held => counted(noted, *held),
+        What::Header => begun(noted, *held),
+        _ => noted,
     }
-    if found.what == 1 {
-        return begun(noted, *held);
-    }
-    noted
 }

@@ -29,21 +29,19 @@ pub(crate) fn row_of(c: Counts) -> [u32; 10]
     requires { (c.sound ≤ 4294967296) × (c.missing ≤ 4294967296) }
     ensures { result ≡ held_row c }
 {
-    let per = per_million(c.sound, c.missing);
-    let sound = low(c.sound);
-    let missing = low(c.missing);
-    let refused_8 = low(c.refused_8);
-    let refused_9 = low(c.refused_9);
-    let refused_15 = low(c.refused_15);
-    let refused_20 = low(c.refused_20);
-    let marked_0 = low(c.marked_0);
-    let marked_1 = low(c.marked_1);
-    let marked_2 = low(c.marked_2);
-    let part = low(per);
     [
-        sound, missing, refused_8, refused_9, refused_15, refused_20, marked_0, marked_1, marked_2,
-        part,
+        c.sound,
+        c.missing,
+        c.refused_8,
+        c.refused_9,
+        c.refused_15,
+        c.refused_20,
+        c.marked_0,
+        c.marked_1,
+        c.marked_2,
+        per_million(c.sound, c.missing),
     ]
+    .map(low)
 }
 
 // Writes a row from a place on.
@@ -51,11 +49,7 @@ pub(crate) fn put(rows: &mut [u32], at: usize, row: [u32; 10])
     requires { (at + 10 ≤ length rows.old) × (length row ≡ 10) }
     ensures { rows.new ≡ written rows.old at row }
 {
-    let mut i = 0;
-    while i < 10 {
-        rows[at + i] = row[i];
-        i += 1;
-    }
+    rows[at..at + 10].copy_from_slice(&row);
 }
 
 // Fills a run from the start of another.
@@ -63,9 +57,6 @@ pub(crate) fn copy(rows: &mut [u32], held: &[u32])
     requires { length rows.old ≤ length held.now }
     ensures { rows.new ≡ take (length rows.old) held.now }
 {
-    let mut i = 0;
-    while i < rows.len() {
-        rows[i] = held[i];
-        i += 1;
-    }
+    let end = rows.len();
+    rows.copy_from_slice(&held[..end]);
 }

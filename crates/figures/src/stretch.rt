@@ -1,7 +1,7 @@
 // Whole records that lie one behind the other, counted. What a gap holds isn't written out: of a cell that is taken only its own
 // marks are looked at.
 ghost use Rattle.std.specs.Prelude.{true, cond, map, ◌≡◌, ◌≤◌, eqb, length, drop};
-ghost use Rattle.formats.specs.Settings.{settings_of};
+ghost use Rattle.formats.specs.Settings.{settled_as, settings_of};
 ghost use Rattle.reading.specs.Records.{is_whole, front_of};
 ghost use Rattle.receiver.specs.Unpacking.{used_in};
 ghost use Rattle.pieces.specs.Limit.{whole};
@@ -11,17 +11,14 @@ ghost use Rattle.figures.specs.Stretch.{taken_one, refused_one, noted_past, reco
 ghost use Rattle.figures.specs.Taking.{noted_by};
 
 use crate::{Counts, Noted, damage, sums, told};
-use formats::Settled;
+use formats::Layout;
 use receiver::Receiver;
 
 // 1 where the two are the same.
 fn one_if(number: u8, wanted: u8) -> u64
     ensures { (result ≡ cond (eqb number wanted) 1 0) × (result ≤ 1) }
 {
-    if number == wanted {
-        return 1;
-    }
-    0
+    u64::from(number == wanted)
 }
 
 // With a cell more that is refused.
@@ -29,20 +26,12 @@ fn with_refused(c: Counts, refusal: u8) -> Counts
     requires { Under 1000000 c }
     ensures { result ≡ plus_of c (refused_one refusal) }
 {
-    let refused_8 = c.refused_8 + one_if(refusal, 8);
-    let refused_9 = c.refused_9 + one_if(refusal, 9);
-    let refused_15 = c.refused_15 + one_if(refusal, 15);
-    let refused_20 = c.refused_20 + one_if(refusal, 20);
     Counts {
-        sound: c.sound,
-        missing: c.missing,
-        refused_8,
-        refused_9,
-        refused_15,
-        refused_20,
-        marked_0: c.marked_0,
-        marked_1: c.marked_1,
-        marked_2: c.marked_2,
+        refused_8: c.refused_8 + one_if(refusal, 8),
+        refused_9: c.refused_9 + one_if(refusal, 9),
+        refused_15: c.refused_15 + one_if(refusal, 15),
+        refused_20: c.refused_20 + one_if(refusal, 20),
+        ..c
     }
 }
 
@@ -51,27 +40,19 @@ fn with_taken(c: Counts, used: u64, missing: u64, ones: u64) -> Counts
     requires { Under 1000000 c × (used ≤ 48) × (missing ≤ 255) × (ones ≤ used) }
     ensures { result ≡ plus_of c (taken_one used missing ones) }
 {
-    let sound = c.sound + 1;
-    let gaps = c.missing + missing;
-    let marked_0 = c.marked_0 + (used - ones);
-    let marked_1 = c.marked_1 + ones;
-    let marked_2 = c.marked_2 + missing * used;
     Counts {
-        sound,
-        missing: gaps,
-        refused_8: c.refused_8,
-        refused_9: c.refused_9,
-        refused_15: c.refused_15,
-        refused_20: c.refused_20,
-        marked_0,
-        marked_1,
-        marked_2,
+        sound: c.sound + 1,
+        missing: c.missing + missing,
+        marked_0: c.marked_0 + (used - ones),
+        marked_1: c.marked_1 + ones,
+        marked_2: c.marked_2 + missing * used,
+        ..c
     }
 }
 
 // Past the record at a place.
-fn past(set: Settled, noted: Noted, octets: &[u8], at: usize) -> Noted
-    requires { (set ≡ settings_of noted.state.format noted.state.channels noted.state.order)
+fn past(set: Layout, noted: Noted, octets: &[u8], at: usize) -> Noted
+    requires { (settled_as set ≡ settings_of noted.state.format noted.state.channels noted.state.order)
         × Under 1000000 noted.counts × (is_whole (drop at octets.now) ≡ true) }
     ensures { result ≡ noted_past noted (front_of (drop at octets.now)) }
 {
@@ -90,81 +71,66 @@ fn past(set: Settled, noted: Noted, octets: &[u8], at: usize) -> Noted
 }
 
 // Counts the records one by one.
-fn each(set: Settled, state: Receiver, octets: &[u8], place: usize, records: usize) -> Noted
-    requires { (set ≡ settings_of state.format state.channels state.order)
+fn each(set: Layout, state: Receiver, octets: &[u8], place: usize, records: usize) -> Noted
+    requires { (settled_as set ≡ settings_of state.format state.channels state.order)
         × (length (records_at octets.now place records) ≡ records) × (records ≤ 512) }
     ensures { result ≡ noted_over state (records_at octets.now place records) }
 {
-    let counts = sums::none();
+    let counts = Counts::default();
     let mut noted = Noted { state, counts };
-    let mut at = place;
-    let mut left = records;
-    while left != 0 {
-        noted = past(set, noted, octets, at);
-        at += 49;
-        left -= 1;
+    for i in 0..records {
+        noted = past(set, noted, octets, place + 49 * i);
     }
     noted
 }
 
 // Whether all of so many cells are taken, whatever they hold, with no gap before them and no sample marked 1: the format has no
 // overhead, the state waits for the next cell, and the count goes so far.
-fn is_bare(set: Settled, state: Receiver, records: usize) -> bool
-    ensures { result ≡ true → Bare set state records }
+fn is_bare(set: Layout, state: Receiver, records: usize) -> bool
+    ensures { result ≡ true → Bare (settled_as set) state records }
 {
-    if set.refusal != 0 {
-        return false;
-    }
-    if set.format.overhead_bits != 0 {
-        return false;
-    }
-    if !state.started {
-        return false;
-    }
-    if state.last != 0 {
-        return false;
-    }
-    records as u64 <= 4294967295 - state.count as u64
+    set.format.overhead_bits == 0
+        && state.started
+        && state.last == 0
+        && records as u64 <= 4294967295 - state.count as u64
 }
 
 // What such cells count.
-fn bare(set: Settled, state: Receiver, records: usize) -> Noted
-    requires { Bare set state records × (used_in set ≤ 48) × (records ≤ 512) }
-    ensures { result ≡ bare_noted state (used_in set) records }
+fn bare(set: Layout, state: Receiver, records: usize) -> Noted
+    requires { Bare (settled_as set) state records × (used_in (settled_as set) ≤ 48) × (records ≤ 512) }
+    ensures { result ≡ bare_noted state (used_in (settled_as set)) records }
 {
-    let count = state.count + records as u32;
     let used = set.channels * set.times;
-    let marked_0 = (records * used) as u64;
-    let sound = records as u64;
     Noted {
         state: Receiver {
-            format: state.format,
-            channels: state.channels,
-            order: state.order,
             started: true,
             last: 0,
-            count,
+            count: state.count + records as u32,
+            ..state
         },
         counts: Counts {
-            sound,
-            missing: 0,
-            refused_8: 0,
-            refused_9: 0,
-            refused_15: 0,
-            refused_20: 0,
-            marked_0,
-            marked_1: 0,
-            marked_2: 0,
+            sound: records as u64,
+            marked_0: (records * used) as u64,
+            ..Counts::default()
         },
     }
 }
 
-// Counts the records from a state on.
-fn over(set: Settled, state: Receiver, octets: &[u8], place: usize, records: usize) -> Noted
-    requires { (set ≡ settings_of state.format state.channels state.order)
-        × (length (records_at octets.now place records) ≡ records) × (records ≤ 512) }
+// Counts the records from a state on. Where its settings are refused, all records are, by numbers that aren't counted.
+fn over(state: Receiver, octets: &[u8], place: usize, records: usize) -> Noted
+    requires { (length (records_at octets.now place records) ≡ records) × (records ≤ 512) }
     ensures { result ≡ noted_over state (records_at octets.now place records) }
 {
+    let Ok(set) = formats::settings(
+        state.format as u32,
+        state.channels as u32,
+        state.order as u32,
+    ) else {
+        return Noted {
+            state,
+            counts: Counts::default(),
+        };
+    };
     if is_bare(set, state, records) {
         return bare(set, state, records);
     }
@@ -176,10 +142,7 @@ fn over(set: Settled, state: Receiver, octets: &[u8], place: usize, records: usi
 pub(crate) fn at_once(state: Receiver) -> usize
     ensures { (1 ≤ result) × (result ≤ 512) }
 {
-    if state.started {
-        return 512;
-    }
-    1
+    if state.started { 512 } else { 1 }
 }
 
 // Counts the whole records that lie one behind the other from a place on.
@@ -187,9 +150,7 @@ pub(crate) fn counted(noted: Noted, octets: &[u8], place: usize, records: usize)
     requires { (length (records_at octets.now place records) ≡ records) × (1 ≤ records) × (records ≤ 512) }
     ensures { result ≡ noted_by noted (map whole (records_at octets.now place records)) }
 {
-    let from = noted.state;
-    let set = formats::settings(from.format as u32, from.channels as u32, from.order as u32);
-    let found = over(set, from, octets, place, records);
+    let found = over(noted.state, octets, place, records);
     let state = found.state;
     let counts = sums::plus(noted.counts, found.counts);
     Noted { state, counts }

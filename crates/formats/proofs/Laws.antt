@@ -4,6 +4,7 @@ use mathlib.Core.Bool.{Bool, true, false, false≢true, cond, not, ◌&&◌, ◌
 use mathlib.Core.List.{List, [], ◌∷◌}
 use mathlib.Core.Logic.{◌⊎◌, inl, inr, ⊎_elim}
 use mathlib.Core.Path.{◌≡◌, refl, sym, ◌∙◌, ap, ap₂, subst}
+use Rattle.std.specs.Prelude.{Some, None, Result, Ok, Err, IsOk}
 use Prim.Native.Nat.{ℕ, ◌+◌, ◌*◌, ◌/◌, ◌%◌, ◌≤◌, ◌<◌}
 use native.Mathlib.Decide.{dec_lt}
 use native.Mathlib.Nat.{mod-lt, lt_of_not-le, le_of_suc-le-suc, pos_of_ne-zero, mul-div-le, le-div_iff_mul-le}
@@ -16,27 +17,15 @@ use lib.Dec.{T, eqb, leb, ltb, ltb→lt, leb→le, eqb→eq}
 use Rattle.runs.specs.Refusals.{or_else}
 use Rattle.runs.specs.Test.{every}
 use Rattle.runs.proofs.Laws.{every_at, both_left, both_right, past, neither, split, both_true, first_refuses, then_later}
+use Rattle.refusals.specs.declared.Refusal.{Refusal}
+use Rattle.refusals.proofs.Laws.{number_injective, number_not_0}
 use Rattle.formats.specs.declared.Format.{Format}
-use Rattle.formats.specs.declared.Settled.{Settled}
+use Rattle.formats.specs.declared.Layout.{Layout}
+use Rattle.formats.specs.Settled.{Settled}
 use Rattle.formats.specs.Sound.{Sound, Limits}
-use Rattle.formats.specs.Formats.{
-  length_of,
-  sample_bits,
-  ancillary_bits,
-  overhead_bits,
-  is_reserved,
-  wholes,
-  width_of,
-  slots_of,
-  listed_octets,
-  is_among,
-  is_listed,
-  no_format,
-  format_of,
-  settings_refusal,
-}
-use Rattle.formats.specs.Settings.{settings_of, settled, unsettled_by}
-use Rattle.formats.specs.Code.{refusal_by, is_usual, usual_with}
+use Rattle.formats.specs.Formats.{length_of, sample_bits, ancillary_bits, overhead_bits, is_reserved, wholes, width_of, slots_of, listed_octets, is_among, is_listed, format_of, settings_refusal}
+use Rattle.formats.specs.Settings.{settings_of, settled, unsettled_by, settled_as, answered}
+use Rattle.formats.specs.Code.{found_format, refusal_by, is_usual, usual_with}
 
 pub length_low : {code : ℕ} → code < 2 → length_of code ≡ 0
 unfolding length_of
@@ -220,33 +209,43 @@ pub not_listed : (octet : ℕ) → (format_of octet).slots ≡ 0 → is_listed o
 not_listed octet e =
     ⊎_elim (λ h. absurd (let l = (sound_format octet h).slots_from in omega arith)) (λ h. h) (listed_or_not octet)
 
-pub no_format_lem : (octet : ℕ) → (format_of octet).slots ≡ 0 → no_format ≡ format_of octet
-unfolding format_of
-no_format_lem octet e = rw (not_listed octet e)
-
-pub is_listed_lem : (octet : ℕ) → ((format_of octet).slots ≡ 0 → ⊥) → is_listed octet ≡ true
+is_listed_lem : (octet : ℕ) → ((format_of octet).slots ≡ 0 → ⊥) → is_listed octet ≡ true
 unfolding format_of
 is_listed_lem octet some = ⊎_elim (λ h. h) (λ h. absurd (some (rw h))) (listed_or_not octet)
 
--- checks 1 to 3 by S, one after the other
-module _ (slots channels order : ℕ) where
-  pub by_1 : slots ≡ 0 → 1 ≡ refusal_by slots channels order
-  by_1 none = rw (eq-eqb slots 0 none)
+-- the format that is found where S is 0, and where it isn't
+pub finds_none : (octet : ℕ) → (format_of octet).slots ≡ 0 → None ≡ found_format octet
+finds_none octet e = rw (not_listed octet e)
 
-  module _ (some : slots ≡ 0 → ⊥) where
-    pub by_2 : channels ≡ 0 → 2 ≡ refusal_by slots channels order
-    by_2 none = rw (ne_eqb slots 0 some, eq-eqb channels 0 none)
+pub finds : (octet : ℕ) → ((format_of octet).slots ≡ 0 → ⊥) → {sample slots : ℕ} → sample ≡ sample_bits octet
+    → slots ≡ (format_of octet).slots → Some (made sample slots octet) ≡ found_format octet
+finds octet some e n = rw (is_listed_lem octet some) (ap Some (made_format octet e n (is_listed_lem octet some)))
 
-    module _ (any : channels ≡ 0 → ⊥) where
-      pub by_2_above : slots < channels → 2 ≡ refusal_by slots channels order
-      by_2_above many = rw (ne_eqb slots 0 some, ne_eqb channels 0 any, lt-ltb slots channels many)
+-- and what is known of what is found
+pub found_none : (octet : ℕ) → None ≡ found_format octet → (format_of octet).slots ≡ 0
+found_none octet found =
+    ⊎_elim
+    (λ h. let false_here : None ≡ Some (format_of octet) = rw h at found in cc)
+    (λ h. sym (no_slots octet h))
+    (listed_or_not octet)
 
-      module _ (fit : channels ≤ slots) where
-        pub by_3 : 1 < order → 3 ≡ refusal_by slots channels order
-        by_3 above = rw (ne_eqb slots 0 some, ne_eqb channels 0 any, le-ltb slots channels fit, lt-ltb 1 order above)
+pub record Finds (f : Format) (octet : ℕ) : Type 0 where
+  pub is : f ≡ format_of octet
+  pub some : f.slots ≡ 0 → ⊥
 
-        pub by_no : order ≤ 1 → 0 ≡ refusal_by slots channels order
-        by_no within = rw (ne_eqb slots 0 some, ne_eqb channels 0 any, le-ltb slots channels fit, le-ltb 1 order within)
+pub found_some : {f : Format} (octet : ℕ) → Some f ≡ found_format octet → Finds f octet
+found_some {f} octet found = go (listed_or_not octet)
+  where
+    go : (is_listed octet ≡ true) ⊎ (is_listed octet ≡ false) → Finds f octet
+    go (inl h) =
+        let same : Some f ≡ Some (format_of octet) = rw h at found in
+        let is : f ≡ format_of octet = cc in
+        record { is = is; some = λ e. omega (arith, rw is at e, (sound_format octet h).slots_from) }
+    go (inr h) = let none : Some f ≡ None = rw h at found in cc
+
+-- check 1 by S
+pub by_1 : (slots channels order : ℕ) → slots ≡ 0 → 1 ≡ refusal_by slots channels order
+by_1 slots channels order none = rw (eq-eqb slots 0 none)
 
 -- and by the octet
 by_listed : (octet channels order : ℕ) → is_listed octet ≡ true
@@ -366,6 +365,19 @@ settled_limits octet channels order is none = rw is limits
           ancillary_to = sound.ancillary_to;
         }
 
+-- the layout of settings that nothing refuses; and no two answers settle the same
+abbrev pub layout_of : Settled → Layout
+layout_of set = record { format = set.format; channels = set.channels; times = set.times; by_channel = set.by_channel }
+
+pub settled_injective : {x y : Layout} → settled_as x ≡ settled_as y → x ≡ y
+settled_injective same = ap layout_of same
+
+pub answered_injective : {x y : Result Layout Refusal} → answered x ≡ answered y → x ≡ y
+answered_injective {x = Ok x} {y = Ok y} same = ap Ok (settled_injective same)
+answered_injective {x = Ok x} {y = Err r} same = absurd (number_not_0 r (sym (ap (λ (s : Settled). s.refusal) same)))
+answered_injective {x = Err r} {y = Ok y} same = absurd (number_not_0 r (ap (λ (s : Settled). s.refusal) same))
+answered_injective {x = Err q} {y = Err r} same = ap Err (number_injective (ap (λ (s : Settled). s.refusal) same))
+
 -- what later checks add to checks 1 to 3, by the settings
 module _ {set : Settled} (octet channels order later : ℕ) (given : set ≡ settings_of octet channels order) where
   pub given_refusal : set.refusal ≡ settings_refusal octet channels order
@@ -383,6 +395,13 @@ module _ {set : Settled} (octet channels order later : ℕ) (given : set ≡ set
 
     pub given_later : or_else (settings_refusal octet channels order) later ≡ later
     given_later = then_later later given_none
+
+-- settings that nothing refuses are answered
+pub answered_ok : (octet channels order : ℕ) (answer : Result Layout Refusal) → answered answer ≡ settings_of octet channels order
+    → settings_refusal octet channels order ≡ 0 → IsOk answer
+answered_ok octet channels order (Ok set) given none = refl
+answered_ok octet channels order (Err refusal) given none =
+    absurd (number_not_0 refusal (given_refusal octet channels order 0 given ∙ none))
 
 -- the limits of settings that nothing refuses
 pub limits_of : (octet channels order : ℕ) {set : Settled} → set ≡ settings_of octet channels order → set.refusal ≡ 0 → Limits set

@@ -1,7 +1,13 @@
 -- Words of the code, which document 01 doesn't have: checks 1 to 3 by S, and the settings that have a way of their own.
 -- Assumes nothing.
-use Rattle.std.specs.Prelude.{Bool, false, cond, not, ◌&&◌, ◌||◌, ℕ, eqb, ltb}
-use Rattle.formats.specs.declared.Settled.{Settled}
+use Rattle.std.specs.Prelude.{Bool, false, cond, not, ◌&&◌, ◌||◌, ℕ, eqb, ltb, Option, Some, None}
+use Rattle.formats.specs.declared.Format.{Format}
+use Rattle.formats.specs.Settled.{Settled}
+use Rattle.formats.specs.Formats.{is_listed, format_of}
+
+-- the format of an octet of the fourteen, and none for any other
+abbrev pub found_format : ℕ → Option Format
+found_format octet = cond (is_listed octet) (Some (format_of octet)) None
 
 -- checks 1 to 3 by S, which is 0 where there is no format
 abbrev pub refusal_by : ℕ → ℕ → ℕ → ℕ

@@ -1,4 +1,5 @@
 pub mod Code
 pub mod Formats
 pub mod Settings
+pub mod Settled
 pub mod Sound

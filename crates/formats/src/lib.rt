@@ -1,12 +1,15 @@
 #![tactic(auto)]
 // Subframe formats, document 01: what the subframe octet says, and checks 1 to 3 (octet, C, order) in the paper's order.
-ghost use Rattle.std.specs.Prelude.{cond, ◌≡◌, ◌/◌, ◌≤◌};
+ghost use Rattle.std.specs.Prelude.{cond, ◌≡◌, ◌≢◌, ◌/◌, ◌≤◌};
+ghost use Rattle.refusals.specs.Refusals.{refused_by};
 ghost use Rattle.formats.specs.Formats.{sample_bits, format_of};
-ghost use Rattle.formats.specs.Settings.{settings_of, unsettled_by};
-ghost use Rattle.formats.specs.Code.{refusal_by, is_usual, usual_with};
+ghost use Rattle.formats.specs.Settings.{settled_as, answered, settings_of};
+ghost use Rattle.formats.specs.Code.{found_format, refusal_by, is_usual, usual_with};
 
-// One subframe in bits, and how many octets wide it is; S, the slots in a cell. All zeros stand for no format.
-#[derive(Clone, Copy)]
+use refusals::Refusal;
+
+// One subframe in bits, and how many octets wide it is; S, the slots in a cell.
+#[derive(Clone, Copy, Debug, PartialEq, Eq, Hash)]
 pub struct Format {
     pub sample_bits: u64,
     pub ancillary_bits: u64,
@@ -15,11 +18,9 @@ pub struct Format {
     pub slots: usize,
 }
 
-// What an octet, C and an order settle: the refusal (0: none), the format, C, T, and whether the order is 1. All else is zero
-// where they are refused.
-#[derive(Clone, Copy)]
-pub struct Settled {
-    pub refusal: u8,
+// What an octet, C and an order settle: the format, C, T, and whether the order is 1.
+#[derive(Clone, Copy, Debug, PartialEq, Eq, Hash)]
+pub struct Layout {
     pub format: Format,
     pub channels: usize,
     pub times: usize,
@@ -69,31 +70,25 @@ fn slots_of(octet: u32, sample: u32) -> usize
     }
 }
 
-// The format of one of the fourteen octets, and all zeros for any other number.
-fn format_of(octet: u32) -> Format
-    ensures { result ≡ format_of octet }
+// The format of one of the fourteen octets, and none for any other number.
+fn format_of(octet: u32) -> Option<Format>
+    ensures { result ≡ found_format octet }
 {
     let sample = sample_bits(octet);
     let slots = slots_of(octet, sample);
     if slots == 0 {
-        return Format {
-            sample_bits: 0,
-            ancillary_bits: 0,
-            overhead_bits: 0,
-            width: 0,
-            slots: 0,
-        };
+        return None;
     }
     let ancillary = octet / 64 * 4;
     let overhead = octet / 16 % 4 * 4;
     let width = (sample + ancillary + overhead) / 8;
-    Format {
+    Some(Format {
         sample_bits: sample as u64,
         ancillary_bits: ancillary as u64,
         overhead_bits: overhead as u64,
         width: width as usize,
         slots,
-    }
+    })
 }
 
 // T; no division, the dearest step of all, for one channel or two.
@@ -110,65 +105,51 @@ fn times_of(slots: usize, channels: usize) -> usize
     slots / channels
 }
 
-// Checks 1 to 3 on numbers as they stand, never cut before, by the slots of the octet's format: the refusal, 0 where there is none.
-fn refusal_of(slots: usize, channels: u32, order: u32) -> u8
-    ensures { result ≡ refusal_by slots channels order }
+// Checks 2 and 3 on numbers as they stand, never cut before, by the slots of the octet's format.
+#[tactic(auto, unfolding(refusals::specs::Refusals::refused_by, refusals::specs::Refusals::number_of))]
+fn checked(slots: usize, channels: u32, order: u32) -> Result<(), Refusal>
+    requires { slots ≢ 0 }
+    ensures { refused_by result ≡ refusal_by slots channels order }
 {
-    if slots == 0 {
-        return 1;
-    }
-    if channels == 0 {
-        return 2;
-    }
-    if slots < channels as usize {
-        return 2;
+    if channels == 0 || slots < channels as usize {
+        return Err(Refusal::Channels);
     }
     if 1 < order {
-        return 3;
+        return Err(Refusal::Order);
     }
-    0
+    Ok(())
 }
 
 // Checks 1 to 3: the refusal, or what they settle.
-pub fn settings(octet: u32, channels: u32, order: u32) -> Settled
-    ensures { result ≡ settings_of octet channels order }
+#[inline(always)]
+pub fn settings(octet: u32, channels: u32, order: u32) -> Result<Layout, Refusal>
+    ensures { answered result ≡ settings_of octet channels order }
 {
-    let format = format_of(octet);
-    let slots = format.slots;
-    let refusal = refusal_of(slots, channels, order);
-    if refusal != 0 {
-        return unsettled(refusal);
-    }
+    let Some(format) = format_of(octet) else {
+        return Err(Refusal::Format);
+    };
+    checked(format.slots, channels, order)?;
     let wanted = channels as usize;
-    let times = times_of(slots, wanted);
-    Settled {
-        refusal: 0,
+    let times = times_of(format.slots, wanted);
+    Ok(Layout {
         format,
         channels: wanted,
         times,
         by_channel: order == 1,
-    }
+    })
 }
 
 // Whether these are the usual settings: 56 hex in order 0 with one channel or two, as most readings are sent.
+#[tactic(auto, unfolding(crate::specs::Code::is_usual))]
 pub fn is_usual(octet: u8, channels: u8, order: u8) -> bool
     ensures { result ≡ is_usual octet channels order }
 {
-    if octet != 0x56 {
-        return false;
-    }
-    if order != 0 {
-        return false;
-    }
-    if channels < 1 {
-        return false;
-    }
-    channels < 3
+    octet == 0x56 && order == 0 && (1..3).contains(&channels)
 }
 
 // What the usual settings settle, at once.
-pub fn usual(stereo: bool) -> Settled
-    ensures { result ≡ settings_of 0x56 (cond stereo 2 1) 0 }
+pub fn usual(stereo: bool) -> Layout
+    ensures { settled_as result ≡ settings_of 0x56 (cond stereo 2 1) 0 }
 {
     if stereo {
         return usual_with(2, 6);
@@ -176,11 +157,10 @@ pub fn usual(stereo: bool) -> Settled
     usual_with(1, 12)
 }
 
-fn usual_with(channels: usize, times: usize) -> Settled
-    ensures { result ≡ usual_with channels times }
+fn usual_with(channels: usize, times: usize) -> Layout
+    ensures { settled_as result ≡ usual_with channels times }
 {
-    Settled {
-        refusal: 0,
+    Layout {
         format: Format {
             sample_bits: 24,
             ancillary_bits: 4,
@@ -190,24 +170,6 @@ fn usual_with(channels: usize, times: usize) -> Settled
         },
         channels,
         times,
-        by_channel: false,
-    }
-}
-
-fn unsettled(refusal: u8) -> Settled
-    ensures { result ≡ unsettled_by refusal }
-{
-    Settled {
-        refusal,
-        format: Format {
-            sample_bits: 0,
-            ancillary_bits: 0,
-            overhead_bits: 0,
-            width: 0,
-            slots: 0,
-        },
-        channels: 0,
-        times: 0,
         by_channel: false,
     }
 }

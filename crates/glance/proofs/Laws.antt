@@ -14,7 +14,7 @@ use lib.ListN.{length, get_or}
 use lib.Pow.{pow-add, pow_mono, pow_pos}
 use Rattle.runs.specs.Runs.{read_on}
 use Rattle.formats.specs.declared.Format.{Format}
-use Rattle.formats.specs.declared.Settled.{Settled}
+use Rattle.formats.specs.Settled.{Settled}
 use Rattle.formats.specs.Formats.{settings_refusal}
 use Rattle.formats.specs.Settings.{settled, settings_of}
 use Rattle.formats.specs.Sound.{Sound, Limits}

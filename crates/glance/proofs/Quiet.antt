@@ -17,7 +17,7 @@ use lib.Pow.{pow-add, pow_pos, shl_exact, shl-shr, shr_le, shr_lt}
 use Rattle.runs.specs.Runs.{read_on}
 use Rattle.runs.proofs.Laws.{split}
 use Rattle.formats.specs.declared.Format.{Format}
-use Rattle.formats.specs.declared.Settled.{Settled}
+use Rattle.formats.specs.Settled.{Settled}
 use Rattle.formats.specs.Formats.{format_of, settings_refusal}
 use Rattle.formats.specs.Settings.{settings_of}
 use Rattle.formats.specs.Sound.{Sound, Limits}

@@ -19,10 +19,8 @@ fn number_in(cell: &[u8], at: usize, width: usize) -> u64
     ensures { (result ≡ number_of (take width (drop at cell.now))) × (result < 2 ^ 48) }
 {
     let mut number: u64 = 0;
-    let mut i = 0;
-    while i < width {
-        number = number * 256 + cell[at + i] as u64;
-        i += 1;
+    for i in 0..width {
+        number = number * 256 + u64::from(cell[at + i]);
     }
     number
 }
@@ -32,11 +30,10 @@ fn subframe_in(format: Format, cell: &[u8], slot: usize) -> u64
     requires { Sound format × (length cell.now ≡ 48) × (slot < format.slots) }
     ensures { (result ≡ subframe_at format cell.now slot) × (result < 2 ^ 48) }
 {
-    if format.width == 4 {
-        return number_in(cell, slot * 4, 4);
+    match format.width {
+        4 => number_in(cell, slot * 4, 4),
+        width => number_in(cell, slot * width, width),
     }
-    let width = format.width;
-    number_in(cell, slot * width, width)
 }
 
 // What is protected in a subframe, as one number: its nine top sample bits, and V after them where there is one.
@@ -48,9 +45,10 @@ fn protected(format: Format, subframe: u64) -> u64
     let sample = subframe >> (format.ancillary_bits + format.overhead_bits);
     let nine = ((sample * 2) >> (format.sample_bits - 8)) % 512;
     if format.ancillary_bits == 0 {
-        return nine;
+        nine
+    } else {
+        nine * 2 + subframe / 16 % 2
     }
-    nine * 2 + subframe / 16 % 2
 }
 
 // The mark of a subframe, by the table of `guards::sevens`.
@@ -63,10 +61,7 @@ fn mark_in(format: Format, table: &[u8; 128], subframe: u64) -> usize
     }
     let ten = protected(format, subframe);
     let place = ((ten ^ (ten >> 7)) % 128) as usize;
-    if table[place] as u64 == subframe % 8 {
-        return 0;
-    }
-    1
+    usize::from(u64::from(table[place]) != subframe % 8)
 }
 
 // The sample of a slot is marked 0 and isn't zero. The table is fetched only where it isn't zero: so silence is read faster.
@@ -88,19 +83,17 @@ fn among(format: Format, cell: &[u8], used: usize) -> bool
     requires { Sound format × (length cell.now ≡ 48) × (used ≤ format.slots) }
     ensures { result ≡ some (sound_in format cell.now) used }
 {
-    let mut slot = 0;
-    while slot < used {
+    for slot in 0..used {
         if sounds_at(format, cell, slot) {
             return true;
         }
-        slot += 1;
     }
     false
 }
 
 // The bits of a cell's octets that are a sample's, in three words of eight octets each, the first octet lowest. The other half of
 // the cell has the same.
-#[derive(Clone, Copy)]
+#[derive(Clone, Copy, Debug, PartialEq, Eq, Hash)]
 struct Masks {
     first: u64,
     second: u64,
@@ -139,10 +132,8 @@ fn eight(cell: &[u8], at: usize) -> u64
     ensures { Eight cell.now at 8 result }
 {
     let mut number: u64 = 0;
-    let mut i = 0;
-    while i < 8 {
-        number |= (cell[at + i] as u64) << (8 * i);
-        i += 1;
+    for i in 0..8 {
+        number |= u64::from(cell[at + i]) << (8 * i);
     }
     number
 }
@@ -172,20 +163,16 @@ fn hushed(octet: u8, cell: &[u8]) -> bool
 pub fn sounds(state: Receiver, cell: &[u8]) -> bool
     ensures { result ≡ sounds_of state cell.now }
 {
-    if cell.len() != 48 {
+    if cell.len() != 48 || hushed(state.format, cell) {
         return false;
     }
-    if hushed(state.format, cell) {
-        return false;
-    }
-    let set = formats::settings(
+    let Ok(set) = formats::settings(
         state.format as u32,
         state.channels as u32,
         state.order as u32,
-    );
-    if set.refusal != 0 {
+    ) else {
         return false;
-    }
+    };
     let used = set.channels * set.times;
     among(set.format, cell, used)
 }

@@ -11,6 +11,8 @@ use Rattle.guards.proofs.Laws.{seven_alone}
 use Rattle.runs.proofs.Wrong.{Never}
 use Rattle.guards.specs.Guards.{v_of, nine_of, protected_bits, ten_guard, guard_of}
 use Rattle.guards.specs.Code.{seven_guards}
+use Rattle.guards.proofs.of_ten.Kinds as of_ten-kinds
+use Rattle.guards.proofs.of_ten.Reads as of_ten-reads
 use Rattle.guards.proofs.sevens.Kinds as sevens-kinds
 use Rattle.guards.proofs.sevens.Reads as sevens-reads
 
@@ -20,6 +22,15 @@ unfolding coefficients divided taken_down v_of nine_of protected_bits ten_guard 
 unfolded = tt
 
 module _ (κs : Lfts 0) where
+  -- the remainder and not its complement; and V alone divided by x^3 + x^2 + 1
+  pub of_ten_not_the_remainder : Never of_ten-kinds.ps of_ten-kinds.r of_ten-reads.Post κs (0, tt) (λ x v. x ≡ 0)
+  unfolding unfolded
+  of_ten_not_the_remainder x v wrong p = omega arith
+
+  pub of_ten_not_by_another_polynomial : Never of_ten-kinds.ps of_ten-kinds.r of_ten-reads.Post κs (1, tt) (λ x v. x ≡ 2)
+  unfolding unfolded
+  of_ten_not_by_another_polynomial x v wrong p = omega arith
+
   -- remainders and not their complements: nothing is protected by 000
   pub sevens_not_the_remainders_themselves : Never sevens-kinds.ps sevens-kinds.r sevens-reads.Post κs tt (λ x v. get_or x 0 0 ≡ 0)
   unfolding unfolded

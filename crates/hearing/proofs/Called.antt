@@ -10,7 +10,7 @@ use lib.Dec.{eqb}
 use lib.ListN.{length}
 use Rattle.runs.specs.Runs.{over}
 use Rattle.runs.proofs.Laws.{first_refuses, then_later, past_both}
-use Rattle.formats.specs.declared.Settled.{Settled}
+use Rattle.formats.specs.Settled.{Settled}
 use Rattle.formats.specs.Formats.{settings_refusal}
 use Rattle.formats.specs.Settings.{settings_of}
 use Rattle.formats.proofs.Laws.{settled_of_lem}
@@ -20,12 +20,16 @@ use Rattle.receiver.specs.Unpacking.{used_in}
 use Rattle.hearing.specs.declared.receiving.Batch.{Batch}
 use Rattle.hearing.specs.Receiving.{begun_as, call_refusal, ReceivesOn, ReceivesLog}
 
--- C×T by the settings of a state that nothing is wrong with
+-- the settings of a state that nothing is wrong with
+pub settings_none : (st : Receiver) → state_refusal st ≡ 0 → settings_refusal st.format st.channels st.order ≡ 0
+unfolding state_refusal
+settings_none st none = (past_both (settings_refusal st.format st.channels st.order) _ none).0
+
+-- C×T by them
 pub settings_used : (st : Receiver) → state_refusal st ≡ 0 → {set : Settled} → set ≡ settings_of st.format st.channels st.order
     → used_in set ≡ used_now st
-unfolding state_refusal
 settings_used st none e =
-    ap used_in (e ∙ settled_of_lem st.format st.channels st.order (past_both (settings_refusal st.format st.channels st.order) _ none).0)
+    ap used_in (e ∙ settled_of_lem st.format st.channels st.order (settings_none st none))
 
 -- a call that is refused, and one that isn't
 module _ (st : Receiver) (log : List ℕ) (place : ℕ) (samples ancillary marks : List ℕ) where

@@ -11,7 +11,7 @@ use borrow.Author.Tests.{eq-eqb, le-leb, eqb-true, eqb-false}
 use lib.Dec.{eqb, leb}
 use lib.ListN.{length, take}
 use Rattle.runs.proofs.Laws.{split}
-use Rattle.cell_log.specs.declared.Record.{Record}
+use Rattle.cell_log.specs.Answers.{Record}
 use Rattle.cell_log.specs.Records.{record_at, cell_at}
 use Rattle.cell_log.proofs.Places.{record_cases}
 use Rattle.receiver.specs.declared.Receiver.{Receiver}

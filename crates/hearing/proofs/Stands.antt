@@ -8,7 +8,7 @@ use native.Mathlib.Omega.{arith}
 use borrow.Author.Tests.{eq-eqb, ne_eqb}
 use lib.ListN.{length, length-append}
 use Rattle.runs.specs.Runs.{over, written}
-use Rattle.cell_log.specs.declared.Record.{Record}
+use Rattle.cell_log.specs.Answers.{Record}
 use Rattle.cell_log.specs.Records.{record_at}
 use Rattle.receiver.specs.declared.Receiver.{Receiver}
 use Rattle.receiver.specs.Receiver.{state_refusal, used_now}

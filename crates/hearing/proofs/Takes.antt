@@ -16,7 +16,7 @@ use Rattle.runs.proofs.Laws.{split, length_tab, past_both}
 use Rattle.cell_log.specs.Records.{record_at, cell_at}
 use Rattle.cell_log.proofs.Places.{record_cases, cell_facts}
 use Rattle.formats.specs.declared.Format.{Format}
-use Rattle.formats.specs.declared.Settled.{Settled}
+use Rattle.formats.specs.Settled.{Settled}
 use Rattle.formats.specs.Formats.{format_of, settings_refusal}
 use Rattle.formats.specs.Settings.{settled}
 use Rattle.formats.proofs.Laws.{settled_of_lem}

@@ -2,13 +2,12 @@
 -- Assumes nothing.
 use mathlib.Core.List.{List, [], ◌∷◌, ◌++◌, append_assoc, append-nil, flat_map}
 use mathlib.Core.Path.{◌≡◌, refl, sym, ◌∙◌, ap, ap₂}
-use Prim.Native.Nat.{ℕ, suc, ◌+◌, ◌*◌, ◌/◌, ◌-◌, ◌≤◌, ◌<◌}
+use Prim.Native.Nat.{ℕ, ◌+◌, ◌*◌, ◌/◌, ◌≤◌, ◌<◌}
 use native.Mathlib.Omega.{arith}
-use lib.ListN.{length, take, drop, set, length-append}
+use lib.ListN.{length, take, drop, length-append}
 use lib.Seq.{take_at, take_all, drop-append-add, drop-drop}
 use Rattle.runs.specs.Runs.{over, written}
-use Rattle.runs.proofs.Filling.{stored}
-use Rattle.cell_log.specs.declared.Record.{Record}
+use Rattle.cell_log.specs.Answers.{Record}
 use Rattle.cell_log.specs.Records.{record_at, cell_at}
 use Rattle.cell_log.proofs.Places.{record_cases}
 use Rattle.receiver.specs.declared.Receiver.{Receiver}
@@ -31,22 +30,16 @@ over_on a b run =
     drop-append-add a behind (length b) ∙ drop-drop (length b) (length a) run ∙ ap (λ (n : ℕ). drop n run) (sym (length-append a b)) in
     ap₂ (λ (x y : List ℕ). x ++ b ++ y) (take_at a behind (length a) refl) past
 
--- five entries stored, one after the other
-pub five_stored : (run : List ℕ) (at a b c d e : ℕ) → at + 5 ≤ length run
-    → set (set (set (set (set run at a) (at + 1) b) (at + 2) c) (at + 3) d) (at + 4) e ≡ written run at (a ∷ b ∷ c ∷ d ∷ e ∷ [])
-five_stored run at a b c d e room =
-    let one : at + 1 ≡ suc at = omega arith in
-    let two : at + 2 ≡ suc (suc at) = omega arith in
-    let three : at + 3 ≡ suc (suc (suc at)) = omega arith in
-    let four : at + 4 ≡ suc (suc (suc (suc at))) = omega arith in
-    (λ i. set (set (set (set (set run at a) (one i) b) (two i) c) (three i) d) (four i) e) ∙ stored (a ∷ b ∷ c ∷ d ∷ e ∷ []) run at room
+-- entries copied into a part of a run
+pub copied : (run : List ℕ) (at : ℕ) (vs : List ℕ) {n : ℕ} {part : List ℕ} → n ≡ length vs → part ≡ vs
+    → take at run ++ (part ++ drop n (drop at run)) ≡ written run at vs
+copied run at vs {n} {part} is e =
+    sym (append_assoc (take at run) part (drop n (drop at run)))
+    ∙ ap₂ (λ (p rest : List ℕ). take at run ++ p ++ rest) e (drop-drop n at run ∙ ap (λ (k : ℕ). drop (at + k) run) is)
 
--- room for one record more, and one record fewer to come
+-- room for one record more
 pub room_for_five : (run run₀ : List ℕ) {n : ℕ} → length run ≡ length run₀ → n < length run₀ / 5 → 5 * n + 5 ≤ length run
 room_for_five run run₀ same h = omega (arith, same)
-
-pub one_fewer : {n most : ℕ} → n < most → most - (n + 1) < most - n
-one_fewer h = omega arith
 
 -- the octets of one record more
 pub reports_more : (done : List Heard) (h : Heard) → reports_of (done ++ (h ∷ [])) ≡ reports_of done ++ report_of h.answer
@@ -92,6 +85,21 @@ module _ (st : Receiver) (log : List ℕ) (place : ℕ) (reports₀ : List ℕ) 
       }
 
   module _ {now : Receiver} {at records : ℕ} {reports : List ℕ} {found : Record} (s : Standing now at records reports found) where
+    -- what is read there is one answer, however it is had
+    pub seen : {found' : Record} → found' ≡ record_at log at → Standing now at records reports found'
+    seen f =
+        record {
+          done = s.done;
+          all = s.all;
+          state = s.state;
+          count = s.count;
+          place_is = s.place_is;
+          within = s.within;
+          out = s.out;
+          same = s.same;
+          read = f;
+        }
+
     there : found.what ≡ 1 → (record_at log at).what ≡ 1
     there one = ap (λ (r : Record). r.what) (sym s.read) ∙ one
 

@@ -1,7 +1,7 @@
 -- Words of the code.
 -- Assumes nothing.
 use Rattle.std.specs.Prelude.{Bool, not, ◌&&◌, ℕ, eqb, ltb}
-use Rattle.cell_log.specs.declared.Record.{Record}
+use Rattle.cell_log.specs.Answers.{Record}
 use Rattle.receiver.specs.declared.Receiver.{Receiver}
 use Rattle.hearing.specs.declared.judging.Judged.{Judged}
 use Rattle.hearing.specs.Judging.{stop_of}

@@ -1,15 +1,14 @@
 // A log's records judged in a row, from a place on: what the receiver says to each, with nothing unpacked.
 ghost use Rattle.std.specs.Prelude.{◌≡◌, ◌+◌, ◌≤◌, length};
 ghost use Rattle.runs.specs.Runs.{written};
-ghost use Rattle.hearing.specs.Judging.{yes_no, report_of, stop_of, judged_not, Judges, JudgesOn};
-ghost use Rattle.hearing.specs.Code.{ended_as};
+ghost use Rattle.cell_log.specs.Records.{record_at};
+ghost use Rattle.hearing.specs.Judging.{report_of, stop_of, judged_not, Judges, JudgesOn};
 
 use crate::states;
-use cell_log::Record;
 use receiver::{Received, Receiver};
 
 // The refusal of the call (0: none); the state to go on with, the next place, the records judged, and why it stopped.
-#[derive(Clone, Copy)]
+#[derive(Clone, Copy, Debug, PartialEq, Eq, Hash)]
 pub struct Judged {
     pub refusal: u8,
     pub state: Receiver,
@@ -18,33 +17,30 @@ pub struct Judged {
     pub stop: u8,
 }
 
-fn yes_no(said: bool) -> u8
-    ensures { result ≡ yes_no said }
-{
-    if said { 1 } else { 0 }
-}
-
 // Puts the five octets of a record's answer at a place of the run.
 fn put(reports: &mut [u8], place: usize, got: Received)
     requires { place + 5 ≤ length reports.old }
     ensures { reports.new ≡ written reports.old place (report_of got) }
 {
-    let told = yes_no(got.indication);
-    reports[place] = got.refusal;
-    reports[place + 1] = got.missing;
-    reports[place + 2] = got.number;
-    reports[place + 3] = got.second;
-    reports[place + 4] = told;
+    let told = u8::from(got.indication);
+    reports[place..place + 5].copy_from_slice(&[
+        got.refusal,
+        got.missing,
+        got.number,
+        got.second,
+        told,
+    ]);
 }
 
 // Why a walk stops where this was found: no room for a record that is there, or what a single call would answer.
-pub(crate) fn stop_of(found: Record) -> u8
-    ensures { result ≡ stop_of found }
+fn stop_at(log: &[u8], place: usize) -> u8
+    ensures { result ≡ stop_of (record_at log.now place) }
 {
-    if found.what == 1 {
-        return 10;
+    match cell_log::read_record(log, place) {
+        Ok(Some(_)) => 10,
+        Ok(None) => 0,
+        Err(refusal) => refusal.into(),
     }
-    found.refusal
 }
 
 fn refused(refusal: u8, state: Receiver) -> Judged
@@ -59,10 +55,9 @@ fn refused(refusal: u8, state: Receiver) -> Judged
     }
 }
 
-fn ended(state: Receiver, next: usize, records: usize, found: Record) -> Judged
-    ensures { result ≡ ended_as state next records found }
+fn ended(state: Receiver, next: usize, records: usize, stop: u8) -> Judged
+    ensures { result ≡ record { refusal = 0; state = state; next = next; records = records; stop = stop } }
 {
-    let stop = stop_of(found);
     Judged {
         refusal: 0,
         state,
@@ -79,20 +74,19 @@ fn walk(state: Receiver, log: &[u8], place: usize, reports: &mut [u8]) -> Judged
     let most = reports.len() / 5;
     let mut now = state;
     let mut at = place;
-    let mut records = 0;
-    let mut found = cell_log::read_record(log, at);
-    while records < most {
-        if found.what != 1 {
-            return ended(now, at, records, found);
+    for records in 0..most {
+        match cell_log::read_record(log, at) {
+            Ok(Some(record)) => {
+                let got = receiver::judged(now, cell_log::read_cell(log, at), record.indication);
+                put(reports, 5 * records, got);
+                now = got.state;
+                at = record.next;
+            }
+            Ok(None) => return ended(now, at, records, 0),
+            Err(refusal) => return ended(now, at, records, refusal.into()),
         }
-        let got = receiver::judged(now, cell_log::read_cell(log, at), found.indication);
-        put(reports, 5 * records, got);
-        now = got.state;
-        at = found.next;
-        records += 1;
-        found = cell_log::read_record(log, at);
     }
-    ended(now, at, records, found)
+    ended(now, at, most, stop_at(log, at))
 }
 
 // Judges a log's records from a place on, in the order in which they stand, and writes five octets a record into `reports`, as

@@ -10,7 +10,7 @@ use receiver::{Received, Receiver};
 
 // The refusal of the call (0: none); the state to go on with, the next place, the entries written, and why it stopped; cells taken,
 // missing before them, and refused by 8, 9, 15 and 20.
-#[derive(Clone, Copy)]
+#[derive(Clone, Copy, Debug, PartialEq, Eq, Hash)]
 pub struct Batch {
     pub refusal: u8,
     pub state: Receiver,
@@ -47,26 +47,13 @@ fn begun(refusal: u8, state: Receiver, place: usize) -> Batch
 fn stopped(b: Batch, stop: u8) -> Batch
     ensures { result ≡ stopped_as b stop }
 {
-    let state = b.state;
-    Batch {
-        refusal: b.refusal,
-        state,
-        next: b.next,
-        entries: b.entries,
-        stop,
-        taken: b.taken,
-        missing: b.missing,
-        refused_8: b.refused_8,
-        refused_9: b.refused_9,
-        refused_15: b.refused_15,
-        refused_20: b.refused_20,
-    }
+    Batch { stop, ..b }
 }
 
 fn one_if(number: u8, wanted: u8) -> usize
     ensures { (result ≡ one_if number wanted) × (result ≤ 1) }
 {
-    if number == wanted { 1 } else { 0 }
+    usize::from(number == wanted)
 }
 
 // The entries of a record that was answered so: none where it is refused.
@@ -75,9 +62,10 @@ fn needed(got: Received, used: usize) -> usize
     ensures { result ≡ needed_of got used }
 {
     if got.refusal != 0 {
-        return 0;
+        0
+    } else {
+        (usize::from(got.missing) + 1) * used
     }
-    (got.missing as usize + 1) * used
 }
 
 // Past a record that was answered so, with so many entries.
@@ -85,27 +73,17 @@ fn past_one(b: Batch, got: Received, entries: usize) -> Batch
     requires { Counted b × (b.next + 49 < 2 ^ 63) × (b.entries + entries < 2 ^ 64) }
     ensures { result ≡ past_one b got entries }
 {
-    let taken = b.taken + one_if(got.refusal, 0);
-    let refused_8 = b.refused_8 + one_if(got.refusal, 8);
-    let refused_9 = b.refused_9 + one_if(got.refusal, 9);
-    let refused_15 = b.refused_15 + one_if(got.refusal, 15);
-    let refused_20 = b.refused_20 + one_if(got.refusal, 20);
-    let next = b.next + 49;
-    let written = b.entries + entries;
-    let missing = b.missing + got.missing as usize;
-    let state = got.state;
     Batch {
-        refusal: b.refusal,
-        state,
-        next,
-        entries: written,
-        stop: b.stop,
-        taken,
-        missing,
-        refused_8,
-        refused_9,
-        refused_15,
-        refused_20,
+        state: got.state,
+        next: b.next + 49,
+        entries: b.entries + entries,
+        taken: b.taken + one_if(got.refusal, 0),
+        missing: b.missing + usize::from(got.missing),
+        refused_8: b.refused_8 + one_if(got.refusal, 8),
+        refused_9: b.refused_9 + one_if(got.refusal, 9),
+        refused_15: b.refused_15 + one_if(got.refusal, 15),
+        refused_20: b.refused_20 + one_if(got.refusal, 20),
+        ..b
     }
 }
 
@@ -183,15 +161,18 @@ fn walk(
         samples.new ancillary.new marks.new }
 {
     let mut b = begun(0, state, place);
-    let mut found = cell_log::read_record(log, place);
-    while found.what == 1 {
-        b = one(b, used, found.indication, log, samples, ancillary, marks);
-        if b.stop != 0 {
-            return b;
+    loop {
+        match cell_log::read_record(log, b.next) {
+            Ok(Some(record)) => {
+                b = one(b, used, record.indication, log, samples, ancillary, marks);
+                if b.stop != 0 {
+                    return b;
+                }
+            }
+            Ok(None) => return stopped(b, 0),
+            Err(refusal) => return stopped(b, refusal.into()),
         }
-        found = cell_log::read_record(log, b.next);
     }
-    stopped(b, found.refusal)
 }
 
 // Receives a log's records from a place on, in the order in which they stand, and writes their entries into the three runs, as many
@@ -212,17 +193,15 @@ pub fn receive(
     if refusal != 0 {
         return begun(refusal, state, 0);
     }
-    if ancillary.len() != samples.len() {
-        return begun(5, state, 0);
-    }
-    if marks.len() != samples.len() {
+    if ancillary.len() != samples.len() || marks.len() != samples.len() {
         return begun(5, state, 0);
     }
     let set = formats::settings(
         state.format as u32,
         state.channels as u32,
         state.order as u32,
-    );
+    )
+    .unwrap();
     let used = set.channels * set.times;
     walk(state, used, log, place, samples, ancillary, marks)
 }

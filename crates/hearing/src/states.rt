@@ -9,10 +9,7 @@ use receiver::Receiver;
 fn is_of_state(refusal: u8) -> bool
     ensures { result ≡ is_of_state refusal }
 {
-    if refusal == 0 {
-        return false;
-    }
-    refusal < 5
+    (1..5).contains(&refusal)
 }
 
 // What a state is refused by, 0 where nothing is wrong with it. It is refused where a call on it is: it is asked with a cell of zeros.
@@ -22,7 +19,8 @@ pub(crate) fn refusal_of(state: Receiver) -> u8
     let zeros = [0u8; 48];
     let asked = receiver::judged(state, &zeros, false);
     if is_of_state(asked.refusal) {
-        return asked.refusal;
+        asked.refusal
+    } else {
+        0
     }
-    0
 }

@@ -9,11 +9,11 @@ use native.Mathlib.Omega.{arith}
 use borrow.Author.Tests.{ne_eqb, eqb-true}
 use lib.Dec.{eqb}
 use lib.ListN.{length, replicate}
+use Rattle.std.specs.Prelude.{Some}
 use Rattle.runs.proofs.Laws.{split, past, past_both}
 use Rattle.formats.specs.declared.Format.{Format}
 use Rattle.formats.specs.Formats.{format_of, times_of, settings_refusal}
 use Rattle.formats.specs.Settings.{settled}
-use Rattle.numbers.specs.declared.Found.TheVariants.{Number}
 use Rattle.numbers.specs.Numbers.{entry_of, found_of, value_of, indication_refused}
 use Rattle.numbers.proofs.Laws.{entry_lt, entry_found}
 use Rattle.cells.specs.Cells.{sample_in, ancillary_in, mark_in, eight_in, second_in, entries_of}
@@ -128,11 +128,11 @@ module _ (s : SendCall) (meets : MeetsSend s) (sent : s.answer.refusal ≡ 0) wh
 
     -- the numbers that a receiver in the sender's settings finds there
     module _ (r : ReceiveCall) (same : InSettings s.state r.state) (arrived : r.cell ≡ s.written) where
-      pub found_there : R.found_now r.state r.cell ≡ Number s.state.number
+      pub found_there : R.found_now r.state r.cell ≡ Some s.state.number
       unfolding R.found_now
       found_there =
           (λ i.
-          cond (eqb (format_of (same.format i)).overhead_bits 0) (Number 0) (found_of (eight_in (format_of (same.format i)) (arrived i))))
+          cond (eqb (format_of (same.format i)).overhead_bits 0) (Some 0) (found_of (eight_in (format_of (same.format i)) (arrived i))))
           ∙ rw (ne_eqb _ 0 with_overhead) (ap found_of eight_sent ∙ entry_found number_lt)
 
       pub rightly_there : r.indication ≡ s.indication → indication_refused (R.number_now r.state r.cell) r.indication ≡ false

@@ -10,8 +10,7 @@ use lib.Seq.{take_at, take_all, length-take-le}
 use Rattle.runs.specs.Runs.{written}
 use Rattle.formats.specs.Formats.{settings_refusal}
 use Rattle.sender.specs.declared.Sender.{Sender}
-use Rattle.cell_log.specs.declared.Header.{Header}
-use Rattle.cell_log.specs.declared.keep.Kept.{Kept}
+use Rattle.cell_log.specs.Answers.{Header, Kept}
 use Rattle.cell_log.specs.Records.{header_of, record_at}
 use Rattle.cell_log.specs.Written.{Keeps, record_octets}
 use Rattle.cell_log.proofs.Headers.{header_octets_lem, header_fits}

@@ -16,13 +16,9 @@ use Rattle.receiver.specs.declared.Receiver.{Receiver}
 use Rattle.receiver.specs.declared.Received.{Received}
 use Rattle.receiver.specs.Receiver as R
 use Rattle.status.specs.declared.step.Block.{Block}
-use Rattle.status.specs.declared.step.Stepped.{Stepped}
-use Rattle.status.specs.Step.{is_refused}
+use Rattle.status.specs.Step.{Stepped, is_refused}
 use Rattle.status.proofs.Refused.{step_refusal_lem, refused_step}
-use Rattle.cell_log.specs.declared.Number.{Number}
-use Rattle.cell_log.specs.declared.Header.{Header}
-use Rattle.cell_log.specs.declared.Record.{Record}
-use Rattle.cell_log.specs.declared.keep.Kept.{Kept}
+use Rattle.cell_log.specs.Answers.{Number, Header, Record, Kept}
 use Rattle.cell_log.specs.Numbers.{is_cut, is_long, is_padded, number_at}
 use Rattle.cell_log.specs.Records.{header_refusal, header_of_numbers, header_of, second_number, third_number, record_at}
 use Rattle.cell_log.specs.Written.{Keeps}
@@ -32,17 +28,13 @@ use Rattle.presence.proofs.Theorems.{presence_refusal, presence_nothing}
 use Rattle.saving.specs.declared.Salvaged.{Salvaged}
 use Rattle.saving.specs.Salvage.{salvage_refusal}
 use Rattle.saving.proofs.Refusals as saving
-use Rattle.cable.specs.declared.Imported.{Imported}
-use Rattle.cable.specs.declared.Exported.{Exported}
-use Rattle.cable.specs.Frames.{import_refusal, export_refusal}
+use Rattle.cable.specs.Frames.{Imported, Exported, import_refusal, export_refusal}
 use Rattle.cable.proofs.Demand1 as cable
 use Rattle.units.specs.Back.{ExportCall, export_table, ExportedNothing, ReadCall, read_table, EnteredNothing}
 use Rattle.units.proofs.Demand1 as units
-use Rattle.circuits.specs.declared.Verdict.{Verdict}
-use Rattle.circuits.specs.Circuits.{refusal_of, answer_of, circuit_of, octet_refusal, check_refusal, plan_refusal_of}
+use Rattle.circuits.specs.Circuits.{Verdict, refusal_of, answer_of, circuit_of, octet_refusal, check_refusal, plan_refusal_of}
 use Rattle.circuits.proofs.Demand1 as circuits
-use Rattle.figures.specs.declared.Answer.{Answer}
-use Rattle.figures.specs.Sheets.{sheet_refusal}
+use Rattle.figures.specs.Sheets.{Answer, sheet_refusal}
 use Rattle.figures.proofs.Demand1 as figures
 use Rattle.line.specs.Calls.{
   MeetsOpenSender,

@@ -9,10 +9,9 @@ use native.Mathlib.Omega.{arith}
 use borrow.Author.Tests.{eq-eqb, ne_eqb, le-ltb, eqb-true, eqb-false}
 use lib.Dec.{eqb}
 use lib.ListN.{length, replicate}
+use Rattle.std.specs.Prelude.{Option, Some}
 use Rattle.runs.proofs.Laws.{split}
 use Rattle.formats.specs.Formats.{format_of}
-use Rattle.numbers.specs.declared.Found.{Found}
-use Rattle.numbers.specs.declared.Found.TheVariants.{Number}
 use Rattle.numbers.specs.Numbers.{value_of}
 use Rattle.sender.specs.declared.Sender.{Sender}
 use Rattle.sender.specs.Sender as S
@@ -164,13 +163,13 @@ fourth_passes {rc = rc} (after k) beside =
     rw (le-ltb _ _ beside.stands.1, beside.stands.0, ne_eqb _ 0 (overhead_there beside))
     (ap (λ (b : Bool). b || false) (and_false (not (eqb rc.last 0))))
 
-number_of : {found : Found} {n : ℕ} → found ≡ Number n → value_of found ≡ n
+number_of : {found : Option ℕ} {n : ℕ} → found ≡ Some n → value_of found ≡ n
 unfolding value_of
 number_of e = ap value_of e
 
 -- the number of the next cell, k cells being lost since the last one: its difference
 gap_is : {st : Sender} {rc : Receiver} (since : Since) (cell : List ℕ) → Beside st rc since
-    → R.found_now rc cell ≡ Number st.number → R.gap_of rc cell ≡ (lost_since since + 1) % 16
+    → R.found_now rc cell ≡ Some st.number → R.gap_of rc cell ≡ (lost_since since + 1) % 16
 unfolding R.gap_of
 gap_is never cell beside found = rw beside.stands.0
 gap_is {rc = rc} (after k) cell beside found =

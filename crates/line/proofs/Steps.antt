@@ -13,11 +13,11 @@ use lib.Count.{ones, ones_in}
 use lib.Dec.{eqb, ltb}
 use lib.ListN.{length, take, replicate, length-append, length-replicate}
 use lib.Seq.{take_at}
+use Rattle.std.specs.Prelude.{Some}
 use Rattle.runs.specs.Runs.{over}
 use Rattle.runs.specs.Refusals.{or_else}
 use Rattle.runs.proofs.Laws.{split, first_refuses, then_later}
 use Rattle.formats.specs.Formats.{format_of, settings_refusal}
-use Rattle.numbers.specs.declared.Found.TheVariants.{Number}
 use Rattle.numbers.specs.Numbers.{entry_of, found_of, refusal_of, value_of, difference_of}
 use Rattle.numbers.proofs.Laws.{table_apart, no_entry_refused}
 use Rattle.cells.specs.Cells.{eight_in}
@@ -144,7 +144,7 @@ module _ (s : SendCall) (sends : MeetsSend s) (sent : s.answer.refusal ≡ 0) (w
       no_number =
           (λ i.
           refusal_of
-          (cond (eqb (format_of (same.format i)).overhead_bits 0) (Number 0) (found_of (eight_in (format_of (same.format i)) (arrived i)))))
+          (cond (eqb (format_of (same.format i)).overhead_bits 0) (Some 0) (found_of (eight_in (format_of (same.format i)) (arrived i)))))
           ∙ (rw (ne_eqb (S.format_now s.state).overhead_bits 0 with_overhead))
           ∙ off_table came some few
 
@@ -174,7 +174,7 @@ module _ (s : SendCall) (sends : MeetsSend s) (sent : s.answer.refusal ≡ 0) (w
         (fourth_passes : R.last_refused c.state || R.count_refused c.state ≡ false)
         {gap : ℕ} (gap_is : R.gap_of c.state c.cell ≡ suc gap) (within : R.count_after c.state c.cell ≤ 4294967295)
       where
-        found_here : R.found_now c.state c.cell ≡ Number s.state.number
+        found_here : R.found_now c.state c.cell ≡ Some s.state.number
         found_here = found_there s sends sent with_overhead c same arrived
 
         pub unaltered_taken : c.answer.refusal ≡ 0

@@ -14,12 +14,8 @@ use Rattle.receiver.specs.declared.Ready.{Ready}
 use Rattle.receiver.specs.declared.Received.{Received}
 use Rattle.receiver.specs.Receiver as R
 use Rattle.status.specs.declared.step.Block.{Block}
-use Rattle.status.specs.declared.step.Stepped.{Stepped}
-use Rattle.status.specs.Step.{step_of}
-use Rattle.cell_log.specs.declared.Number.{Number}
-use Rattle.cell_log.specs.declared.Header.{Header}
-use Rattle.cell_log.specs.declared.Record.{Record}
-use Rattle.cell_log.specs.declared.keep.Kept.{Kept}
+use Rattle.status.specs.Step.{Stepped, step_of}
+use Rattle.cell_log.specs.Answers.{Number, Header, Record, Kept}
 use Rattle.cell_log.specs.Numbers.{number_at, groups_of}
 use Rattle.cell_log.specs.Records.{header_of, record_at, cell_at, place_after}
 use Rattle.cell_log.specs.Written.{Keeps, number_refusal, header_octets, header_refused_of, record_octets, record_refusal}
@@ -27,15 +23,11 @@ use Rattle.presence.specs.declared.Presence.{Presence}
 use Rattle.presence.specs.Presence.{presence_of}
 use Rattle.saving.specs.declared.Salvaged.{Salvaged}
 use Rattle.saving.specs.Salvage.{Salvages}
-use Rattle.cable.specs.declared.Imported.{Imported}
-use Rattle.cable.specs.declared.Exported.{Exported}
-use Rattle.cable.specs.Frames.{import_of, export_of}
+use Rattle.cable.specs.Frames.{Imported, Exported, import_of, export_of}
 use Rattle.units.specs.Back as U
 use Rattle.units.specs.Back.{ExportCall, ReadCall}
-use Rattle.circuits.specs.declared.Verdict.{Verdict}
-use Rattle.circuits.specs.Circuits.{checked_of, Plans}
-use Rattle.figures.specs.declared.Answer.{Answer}
-use Rattle.figures.specs.Sheets.{Sheets}
+use Rattle.circuits.specs.Circuits.{Verdict, checked_of, Plans}
+use Rattle.figures.specs.Sheets.{Answer, Sheets}
 
 -- a call of `send` and what it left
 pub record SendCall : Type 0 where

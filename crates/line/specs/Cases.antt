@@ -7,8 +7,7 @@ use Rattle.numbers.specs.Numbers.{entry_of, divided_entry}
 use Rattle.guards.specs.Guards.{no_v, v_in, guard_of}
 use Rattle.cells.specs.Placement.{slot_of}
 use Rattle.sender.specs.Sender.{open_state, cell_now}
-use Rattle.status.specs.declared.step.Stepped.{Stepped}
-use Rattle.status.specs.Step.{step_of}
+use Rattle.status.specs.Step.{Stepped, step_of}
 
 six_numbers : List ℕ
 six_numbers = 0 ∷ 1 ∷ 2 ∷ 3 ∷ 4 ∷ 8 ∷ []

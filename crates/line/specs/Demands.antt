@@ -9,8 +9,8 @@ use Rattle.receiver.specs.declared.Receiver.{Receiver}
 use Rattle.receiver.specs.declared.Received.{Received}
 use Rattle.receiver.specs.Receiver as R
 use Rattle.status.specs.declared.step.Block.{Block}
-use Rattle.status.specs.declared.step.Stepped.{Stepped}
-use Rattle.cell_log.specs.declared.Record.{Record}
+use Rattle.status.specs.Step.{Stepped}
+use Rattle.cell_log.specs.Answers.{Record}
 use Rattle.line.specs.Calls.{SendCall, ReceiveCall}
 
 -- "It refuses exactly where document 01's table says so, under that number"; where it refuses, nothing was changed and nothing else

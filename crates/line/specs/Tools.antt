@@ -4,7 +4,7 @@ use Rattle.std.specs.Prelude.{Bool, not, ◌&&◌, ◌≡◌, ℕ, suc, ◌+◌,
 use mathlib.Core.List.{List, [], ◌∷◌, ◌++◌, map, flat_map}
 use Rattle.formats.specs.Formats.{format_of}
 use Rattle.sender.specs.declared.Sender.{Sender}
-use Rattle.cell_log.specs.declared.keep.Kept.{Kept}
+use Rattle.cell_log.specs.Answers.{Kept}
 use Rattle.reading.specs.Heard.{Heard, sound_in, missing_in, refused_in, refused_with, marked_with, kept_of}
 use Rattle.reading.specs.Reading.{reading_of}
 use Rattle.reading.specs.Records.{Whole as Arrival, octets_in}

@@ -41,8 +41,7 @@ fn take_read(
         text.old result held.new text.new
         × (result.listed.whole ≡ true) × (result.listed.octets ≤ length text.new) }
 {
-    let n = turn.octets;
-    listing::take(listing, held, &buffer[..n], text)
+    listing::take(listing, held, &buffer[..turn.octets], text)
 }
 
 // Writes what ends the list.
@@ -50,8 +49,7 @@ fn finish(rt: &HostRuntime, listing: Listing, held: [u8; 49], text: &mut [u8])
     requires { 131072 ≤ length text.old }
 {
     let listed = listing::end(listing, held, text);
-    let octets = listed.octets;
-    print(rt, &text[..octets], listed.whole);
+    print(rt, &text[..listed.octets], listed.whole);
 }
 
 // Reads a log piece by piece, and writes its lines as it goes. `name` is what a failed read is told of.
@@ -71,8 +69,7 @@ fn list(
         turn = source::read(rt, b"linelist", name, from, buffer, turn.left);
         let printed = take_read(listing, held, buffer, turn, text);
         let listed = printed.listed;
-        let length = listed.octets;
-        if !print(rt, &text[..length], listed.whole) {
+        if !print(rt, &text[..listed.octets], listed.whole) {
             return;
         }
         listing = printed.listing;

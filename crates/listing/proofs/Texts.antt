@@ -1,38 +1,23 @@
 -- Laws of the text of a log's parts, and of the counts behind them.
 -- Assumes nothing.
-use Rattle.std.proofs.Common.{◌≡◌, ℕ, ◌+◌, ◌%◌, ◌^◌, ◌<◌, ◌≤◌, true, false, cond, eqb, ltb, List, [], ◌∷◌, ◌++◌, length, take, sym, refl, ap, ◌∙◌, append_assoc, append-nil, eq-eqb, ne_eqb, eqb-true}
+use Rattle.std.proofs.Common.{◌≡◌, ℕ, ◌<◌, ◌≤◌, true, cond, eqb, ltb, List, [], ◌∷◌, ◌++◌, length, sym, refl, ap, ◌∙◌, append_assoc, append-nil, eq-eqb, ne_eqb, eqb-true}
 use Rattle.runs.proofs.Laws.{split}
-use Rattle.cell_log.specs.declared.Header.{Header}
 use Rattle.cell_log.specs.Records.{header_of}
 use Rattle.receiver.specs.declared.Received.{Received}
-use Rattle.reading.specs.Records.{front_of}
-use Rattle.pieces.specs.declared.Found.{Found}
+use Rattle.pieces.specs.Found.{Found}
 use Rattle.pieces.specs.declared.Standing.{Standing}
-use Rattle.pieces.specs.Limit.{Part, head, whole, refused, broken, end_part}
-use Rattle.pieces.specs.Steps.{taking_of, Steps, found_parts, is_record, found_octets}
-use Rattle.pieces.specs.Taken.{Taking, end_fault, end_parts}
-use Rattle.pieces.proofs.Walks.{Along, along_start, along_turn, along_end, turn_on, found_record, no_record}
+use Rattle.pieces.specs.Limit.{Part, refused, end_part}
+use Rattle.pieces.specs.Steps.{taking_of, Steps, found_parts}
+use Rattle.pieces.specs.Taken.{fault_part, Taking, end_fault, end_parts}
+use Rattle.pieces.proofs.Walks.{Along, along_start, along_turn, along_end, turn_on}
 pub use Rattle.pieces.proofs.Walks.{found_room}
 use Rattle.text.specs.declared.Put.{Put}
 use Rattle.listing.specs.declared.Listing.{Listing}
 use Rattle.listing.specs.declared.Tally.{Tally}
 use Rattle.text.specs.Put.{Puts}
-use Rattle.listing.specs.Lines.{format_line, sound_line, refused_line, broken_line, end_line, log_refused_line}
+use Rattle.listing.specs.Lines.{sound_line, refused_line, broken_line, end_line, log_refused_line}
 use Rattle.listing.specs.List.{line_of}
-use Rattle.listing.specs.Taking.{
-  fresh_tally,
-  judged_front,
-  after_of,
-  end_text,
-  part_text,
-  part_tally,
-  text_of,
-  tally_of,
-  piece_text,
-  end_of_text,
-  Takes,
-  Ends,
-}
+use Rattle.listing.specs.Taking.{end_text, part_text, part_tally, text_of, tally_of, piece_text, end_of_text, Takes, Ends}
 use Rattle.text.proofs.Laws.{puts_then, puts_same, puts_none, said_from_start, wrote_from_start}
 
 -- parts one after the other
@@ -75,80 +60,34 @@ pub end_broken : (t : Tally) (fault : ℕ) → (fault ≡ 0 → ⊥)
 unfolding end_text
 end_broken t fault some = rw (ne_eqb fault 0 some)
 
-module _ (t : Tally) (got : Received) where
-  pub after_sound : {records sound missing : ℕ} → got.refusal ≡ 0 → records ≡ (t.records + 1) % 2 ^ 64 → sound ≡ (t.sound + 1) % 2 ^ 64
-      → missing ≡ (t.missing + got.missing) % 2 ^ 64
-      → record { state = got.state; records = records; sound = sound; missing = missing; refused = t.refused } ≡ after_of t got
-  unfolding after_of
-  after_sound ok a b c = rw (a, b, c, eq-eqb got.refusal 0 ok)
+-- what was put and the counts are those of parts
+abbrev pub Tells : Tally → List Part → List ℕ → Put → List ℕ → Put → Tally → Type 0
+Tells t parts before at now past tally = Puts before at now past (text_of t parts) × (tally ≡ tally_of t parts)
 
-  pub after_refused : {records refused : ℕ} → (got.refusal ≡ 0 → ⊥) → records ≡ (t.records + 1) % 2 ^ 64 → refused ≡ (t.refused + 1) % 2 ^ 64
-      → record { state = got.state; records = records; sound = t.sound; missing = t.missing; refused = refused } ≡ after_of t got
-  unfolding after_of
-  after_refused some a b = rw (a, b, ne_eqb got.refusal 0 some)
-
--- what was found, by its kind
-module _ (t : Tally) (f : Found) (held piece : List ℕ) (place : ℕ) where
-  -- what was put and the counts are those of what was found
-  abbrev pub Tells : List ℕ → Put → List ℕ → Put → Tally → Type 0
-  Tells before at now past tally =
-      Puts before at now past (text_of t (found_parts f held piece place)) × (tally ≡ tally_of t (found_parts f held piece place))
-
-  tells : {before now : List ℕ} {at past : Put} {tally : Tally} {p : Part} {text : List ℕ} → found_parts f held piece place ≡ p ∷ []
-      → text ≡ part_text t p → Puts before at now past text → tally ≡ part_tally t p → Tells before at now past tally
+-- one part, and none
+module _ (t : Tally) {parts : List Part} where
+  pub tells : {before now : List ℕ} {at past : Put} {tally : Tally} {p : Part} {text : List ℕ} → parts ≡ p ∷ []
+      → text ≡ part_text t p → Puts before at now past text → tally ≡ part_tally t p → Tells t parts before at now past tally
   tells {p = p} is same puts counts =
       (puts_same (same ∙ sym (one_text t p) ∙ ap (text_of t) (sym is)) puts, counts ∙ sym (one_tally t p) ∙ ap (tally_of t) (sym is))
 
-  -- a record, in the piece or held
-  pub tells_record : {before now : List ℕ} {at past : Put} {tally : Tally} {got : Received}
-      → (f.what ≡ 2 → place + 49 ≤ length piece) → is_record f.what ≡ true
-      → got ≡ judged_front t.state (found_octets f.what held piece place)
-      → Puts before at now past (line_of t.records got) → tally ≡ after_of t got → Tells before at now past tally
-  unfolding part_text part_tally
-  tells_record room is_one is puts counts =
-      tells {p = whole (front_of (found_octets f.what held piece place))} (found_record f held piece place room is_one)
-      (ap (line_of t.records) is) puts (counts ∙ ap (after_of t) is)
+  pub tells_none : (before : List ℕ) (at : Put) → parts ≡ [] → Tells t parts before at before at t
+  unfolding text_of tally_of
+  tells_none before at is = (puts_same (ap (text_of t) (sym is)) (puts_none before at), ap (tally_of t) (sym is))
 
-  pub tells_header : {before now : List ℕ} {at past : Put} {tally : Tally} {h : Header} → f.what ≡ 1 → h ≡ header_of (take 3 held)
-      → Puts before at now past (format_line h.format h.channels h.order) → tally ≡ fresh_tally h → Tells before at now past tally
-  unfolding found_parts part_text part_tally
-  tells_header one is puts counts =
-      tells {p = head (header_of (take 3 held))} (rw (eq-eqb f.what 1 one)) (ap (λ (h : Header). format_line h.format h.channels h.order) is) puts (counts ∙ ap fresh_tally is)
+-- a fault
+module _ (t : Tally) (stage fault : ℕ) where
+  pub fault_refused : stage ≡ 2 → log_refused_line fault ≡ part_text t (fault_part stage fault)
+  unfolding part_text
+  fault_refused two = rw (eq-eqb stage 2 two)
 
-  -- what is no record
-  not_two : is_record f.what ≡ false → eqb f.what 2 ≡ false
-  not_two none = (no_record f.what none).0
+  pub fault_broken : (stage ≡ 2 → ⊥) → end_text t fault ≡ part_text t (fault_part stage fault)
+  unfolding part_text
+  fault_broken other = rw (ne_eqb stage 2 other)
 
-  not_three : is_record f.what ≡ false → eqb f.what 3 ≡ false
-  not_three none = (no_record f.what none).1
-
-  module _ (none : is_record f.what ≡ false) (not-1 : f.what ≡ 1 → ⊥) where
-    pub tells_nothing : {before : List ℕ} {at : Put} → (f.what ≡ 4 → ⊥) → Tells before at before at t
-    unfolding found_parts text_of tally_of
-    tells_nothing {before} {at} not-4 =
-        let nothing : found_parts f held piece place ≡ [] =
-        rw (ne_eqb f.what 1 not-1, not_two none, not_three none, ne_eqb f.what 4 not-4) in
-        (puts_same (ap (text_of t) (sym nothing)) (puts_none before at), ap (tally_of t) (sym nothing))
-
-    module _ (four : f.what ≡ 4) where
-      found_fault : {p : Part} → cond (eqb f.standing.stage 2) (refused f.standing.fault) (broken f.standing.fault) ≡ p
-          → found_parts f held piece place ≡ p ∷ []
-      unfolding found_parts
-      found_fault is =
-          rw (ne_eqb f.what 1 not-1, not_two none, not_three none, eq-eqb f.what 4 four)
-          (ap (λ (p : Part). p ∷ []) is)
-
-      pub tells_refused : {before now : List ℕ} {at past : Put} → f.standing.stage ≡ 2
-          → Puts before at now past (log_refused_line f.standing.fault) → Tells before at now past t
-      unfolding part_text part_tally
-      tells_refused two puts =
-          tells {p = refused f.standing.fault} (found_fault {p = refused f.standing.fault} (rw (eq-eqb f.standing.stage 2 two))) refl puts refl
-
-      pub tells_broken : {before now : List ℕ} {at past : Put} → (f.standing.stage ≡ 2 → ⊥)
-          → Puts before at now past (end_text t f.standing.fault) → Tells before at now past t
-      unfolding part_text part_tally
-      tells_broken other puts =
-          tells {p = broken f.standing.fault} (found_fault {p = broken f.standing.fault} (rw (ne_eqb f.standing.stage 2 other))) refl puts refl
+  pub fault_counts : t ≡ part_tally t (fault_part stage fault)
+  unfolding part_tally
+  fault_counts = split (eqb stage 2) (λ e. rw e) (λ e. rw e)
 
 -- along a piece: the parts so far, their lines written, and the counts behind them
 pub record Going (l : Listing) (lent piece first : List ℕ) (at : Put) (s : Standing) (t : Tally) (held run : List ℕ) (past : Put) (place : ℕ)
@@ -174,7 +113,7 @@ module _ {l : Listing} {lent piece first : List ℕ} {at : Put} where
 
   pub going_turn : {s : Standing} {t tally : Tally} {held run now wrote : List ℕ} {past next : Put} {place : ℕ} {f : Found}
       → Going l lent piece first at s t held run past place → place < length piece → Steps s held piece place f now
-      → Tells t f now piece place run past wrote next tally → length wrote ≡ length run
+      → Tells t (found_parts f now piece place) run past wrote next tally → length wrote ≡ length run
       → Going l lent piece first at f.standing tally now wrote next f.next
   going_turn {t = t} {now = now} {place = place} {f = f} g here step told same =
       let found : List Part = found_parts f now piece place in

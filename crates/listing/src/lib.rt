@@ -8,11 +8,11 @@ use pieces::Standing;
 use receiver::Receiver;
 use text::Put;
 
-mod lines; // lines.rt: the lines of a list
+pub mod lines; // lines.rt: the lines of a list
 mod parts; // parts.rt: the lines of a log's parts, and the counts
 
 // The receiver's state and the counts so far: whole records, and the three of the end line.
-#[derive(Clone, Copy)]
+#[derive(Clone, Copy, Debug, PartialEq, Eq, Hash)]
 pub struct Tally {
     pub state: Receiver,
     pub records: usize,
@@ -22,14 +22,14 @@ pub struct Tally {
 }
 
 // A list under way: where its log stands, and the counts.
-#[derive(Clone, Copy)]
+#[derive(Clone, Copy, Debug, PartialEq, Eq, Hash)]
 pub struct Listing {
     pub standing: Standing,
     pub tally: Tally,
 }
 
 // What was written for a piece, and the list to go on with.
-#[derive(Clone, Copy)]
+#[derive(Clone, Copy, Debug, PartialEq, Eq, Hash)]
 pub struct Printed {
     pub listed: Put,
     pub listing: Listing,
@@ -40,10 +40,8 @@ pub fn start(limit: u64) -> Listing
     ensures { result ≡ start_of limit }
 {
     let standing = pieces::start(limit);
-    let opened = receiver::opened(0, 0, 0);
-    let state = opened.state;
     let tally = Tally {
-        state,
+        state: receiver::opened(0, 0, 0).state,
         records: 0,
         sound: 0,
         missing: 0,
@@ -63,8 +61,7 @@ pub fn start_longest() -> Listing
 pub fn reads_on(listing: Listing) -> bool
     ensures { result ≡ nat_lt listing.standing.stage 2 }
 {
-    let standing = listing.standing;
-    standing.stage < 2
+    listing.standing.stage < 2
 }
 
 // Takes a piece of the log and writes the lines that it makes whole into the run, from its start, as far as it goes: what is past
@@ -72,9 +69,10 @@ pub fn reads_on(listing: Listing) -> bool
 pub fn take(listing: Listing, held: &mut [u8; 49], piece: &[u8], run: &mut [u8]) -> Printed
     ensures { Takes listing held.old piece.now run.old result held.new run.new }
 {
-    pieces::sized(*held);
-    let mut standing = listing.standing;
-    let mut tally = listing.tally;
+    let Listing {
+        mut standing,
+        mut tally,
+    } = listing;
     let mut past = Put {
         octets: 0,
         whole: true,
@@ -107,14 +105,13 @@ pub fn end(listing: Listing, held: [u8; 49], run: &mut [u8]) -> Put
         octets: 0,
         whole: true,
     };
-    let standing = listing.standing;
-    let tally = listing.tally;
+    let Listing { standing, tally } = listing;
     let refusal = pieces::end(standing, held);
     if standing.stage == 0 {
-        return lines::log_refused_line(run, start, refusal as usize);
+        lines::log_refused_line(run, start, refusal as usize)
+    } else if standing.stage == 1 {
+        parts::end_lines(run, start, tally, refusal)
+    } else {
+        start
     }
-    if standing.stage != 1 {
-        return start;
-    }
-    parts::end_lines(run, start, tally, refusal)
 }

@@ -5,7 +5,7 @@ ghost use Rattle.text.specs.Text.{item};
 ghost use Rattle.text.specs.Words.{words};
 ghost use Rattle.listing.specs.Lines.{format_line, sound_line, refused_line, broken_line, end_line, log_refused_line};
 
-use text::{Put, put_all, put_item, put_number};
+use text::{Put, put_all, put_item, put_line, put_number};
 
 // A line of three numbers, with words before each and behind the last.
 fn three(
@@ -34,8 +34,7 @@ fn fault(run: &mut [u8], at: Put, index: usize, between: &[u8], refusal: usize) 
         (item (words "") index ++ item between.now refusal ++ words "\n") }
 {
     let past_index = put_item(run, at, b"", index);
-    let past_refusal = put_item(run, past_index, between, refusal);
-    put_all(run, past_refusal, b"\n")
+    put_line(run, past_index, between, refusal)
 }
 
 pub(crate) fn format_line(
@@ -86,7 +85,7 @@ pub(crate) fn end_line(run: &mut [u8], at: Put, sound: usize, missing: usize, re
     )
 }
 
-pub(crate) fn refused_line(run: &mut [u8], at: Put, index: usize, refusal: usize) -> Put
+pub fn refused_line(run: &mut [u8], at: Put, index: usize, refusal: usize) -> Put
     ensures { Puts run.old at run.new result (refused_line index refusal) }
 {
     fault(run, at, index, b" refused ", refusal)
@@ -98,9 +97,8 @@ pub(crate) fn broken_line(run: &mut [u8], at: Put, index: usize, refusal: usize)
     fault(run, at, index, b" broken ", refusal)
 }
 
-pub(crate) fn log_refused_line(run: &mut [u8], at: Put, refusal: usize) -> Put
+pub fn log_refused_line(run: &mut [u8], at: Put, refusal: usize) -> Put
     ensures { Puts run.old at run.new result (log_refused_line refusal) }
 {
-    let past = put_item(run, at, b"log refused ", refusal);
-    put_all(run, past, b"\n")
+    put_line(run, at, b"log refused ", refusal)
 }

@@ -2,22 +2,19 @@
 -- Assumes nothing.
 use mathlib.Core.Bool.{Bool, true, false}
 use mathlib.Core.List.{List}
-use mathlib.Core.Path.{◌≡◌, refl, ◌∙◌, ap}
+use mathlib.Core.Path.{◌≡◌, refl}
 use Prim.Native.Nat.{ℕ, zero, suc, ◌+◌, ◌-◌, ◌≤◌, ◌<◌}
 use native.Mathlib.Numerals.{add-one}
 use native.Mathlib.Omega.{arith}
-use borrow.Author.Tests.{lt-ltb, le-ltb, eq-eqb, ne_eqb}
-use lib.Dec.{eqb, ltb}
+use borrow.Author.Tests.{lt-ltb, le-ltb}
+use lib.Dec.{ltb}
 use Rattle.runs.proofs.Laws.{split}
 use Rattle.management.specs.declared.ports.Enquiry.{Enquiry}
 use Rattle.management.specs.declared.ports.Fit.{Fit}
-use Rattle.management.specs.Ports.{status_of, first_reference, misfits, fewest, serves, first_from}
+use Rattle.management.specs.Ports.{misfits, fewest, first_from}
 
 abbrev pub fit : ℕ → ℕ → Fit
 fit m k = record { misfits = m; port = k }
-
-pub same_fit : {m m' k k' : ℕ} → m ≡ m' → k ≡ k' → fit m k ≡ fit m' k'
-same_fit p q = λ i. fit (p i) (q i)
 
 module _ (ports : List ℕ) (asked : Enquiry) where
   -- a port that fits better than those before it
@@ -47,12 +44,6 @@ module _ (ports : List ℕ) (asked : Enquiry) where
       (λ t. rw t (omega arith))
       (λ t. rw t (omega (arith, fit_inside n (rw t at some))))
 
-  pub fit_within : (n : ℕ) {least best : ℕ} → fit least best ≡ fewest ports asked n → (least ≡ 4 → ⊥) → best < n
-  fit_within n {least} {best} e some =
-      let m : least ≡ (fewest ports asked n).misfits = ap (λ (f : Fit). f.misfits) e in
-      let p : best ≡ (fewest ports asked n).port = ap (λ (f : Fit). f.port) e in
-      omega (arith, fit_inside n (λ z. some (m ∙ z)))
-
 module _ (test : ℕ → Bool) where
   pub first_here : (k n : ℕ) → k < n → test k ≡ true → first_from test k (n - k) ≡ k
   unfolding first_from
@@ -65,29 +56,3 @@ module _ (test : ℕ → Bool) where
   pub first_none : (k n : ℕ) → n ≤ k → first_from test k (n - k) ≡ k
   unfolding first_from
   first_none k n past = let over : n - k ≡ 0 = omega arith in rw over
-
--- a port that serves, by each test in turn
-module _ (ports : List ℕ) (asked : Enquiry) (port : ℕ) {m : ℕ} (is : m ≡ misfits ports asked port) where
-  pub serves_not : (can_be_of : Bool) → (m ≡ 0 → ⊥) → false ≡ serves ports asked can_be_of port
-  unfolding serves
-  serves_not can_be_of some = rw (← is, ne_eqb m 0 some)
-
-  module _ {r : ℕ} (reference : r ≡ first_reference ports port) (none : m ≡ 0) where
-    pub serves_source : (can_be_of : Bool) → (r ≡ 0 → ⊥) → true ≡ serves ports asked can_be_of port
-    unfolding serves
-    serves_source can_be_of some = rw (← is, eq-eqb m 0 none, ← reference, ne_eqb r 0 some)
-
-    pub serves_idle : {can_be_of : Bool} → r ≡ 0 → can_be_of ≡ false → false ≡ serves ports asked can_be_of port
-    unfolding serves
-    serves_idle {can_be_of} idle never = rw (← is, eq-eqb m 0 none, ← reference, eq-eqb r 0 idle, never)
-
-    pub serves_enabled : {can_be_of : Bool} → r ≡ 0 → can_be_of ≡ true → status_of ports port ≡ 0xC0 → true ≡ serves ports asked can_be_of port
-    unfolding serves
-    serves_enabled {can_be_of} idle can enabled =
-        rw (← is, eq-eqb m 0 none, ← reference, eq-eqb r 0 idle, can, eq-eqb (status_of ports port) 0xC0 enabled)
-
-    pub serves_signal : {can_be_of : Bool} → r ≡ 0 → can_be_of ≡ true → (status_of ports port ≡ 0xC0 → ⊥)
-        → eqb (status_of ports port) 0xE0 ≡ serves ports asked can_be_of port
-    unfolding serves
-    serves_signal {can_be_of} idle can other =
-        rw (← is, eq-eqb m 0 none, ← reference, eq-eqb r 0 idle, can, ne_eqb (status_of ports port) 0xC0 other)

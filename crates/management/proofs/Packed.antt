@@ -11,7 +11,7 @@ use lib.Arith.{digits_div}
 use lib.Dec.{eqb, leb, ltb}
 use Rattle.runs.proofs.Laws.{split}
 use Rattle.formats.specs.declared.Format.{Format}
-use Rattle.formats.specs.declared.Settled.{Settled}
+use Rattle.formats.specs.Settled.{Settled}
 use Rattle.formats.specs.Formats.{slots_of, times_of, settings_refusal}
 use Rattle.formats.specs.Settings.{settings_of}
 use Rattle.formats.proofs.Laws.{Settles, settles_all, listed_format, slots_listed, given_refusal, given_none, given_settled}

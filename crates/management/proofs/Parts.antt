@@ -1,8 +1,8 @@
 -- Laws of parts of runs, of a message brought to its length, and of octets written behind others.
 -- Assumes nothing.
-use mathlib.Core.List.{List, ◌++◌, append_assoc}
+use mathlib.Core.List.{List, [], ◌∷◌, ◌++◌, append_assoc, append-nil}
 use mathlib.Core.Path.{◌≡◌, sym, ◌∙◌, ap}
-use Prim.Native.Nat.{ℕ, ◌+◌, ◌*◌, ◌-◌, ◌≤◌, ◌<◌}
+use Prim.Native.Nat.{ℕ, min, ◌+◌, ◌*◌, ◌-◌, ◌≤◌, ◌<◌}
 use native.Mathlib.Nat.{zero-add, add_assoc}
 use native.Mathlib.Omega.{arith}
 use borrow.Author.Tests.{ltb-true, ltb-false}
@@ -21,9 +21,11 @@ use lib.ListN.{
   get_or-append,
   get_or-eq_default,
 }
-use lib.Seq.{ext_get_or, take_at, drop_at, take-append_seam, take-add, drop-drop, drop-append-add, get_or-append-add, get_or-take, get_or-drop, length-take-le}
+use Rattle.std.specs.Int.{w16, from_be_bytes}
+use Rattle.std.proofs.lemmas.List.{take-append-le, drop-replicate, take-replicate}
+use lib.Seq.{take-length, take-append-add, ext_get_or, take_at, drop_at, take-append_seam, take-add, drop-drop, drop-append-add, get_or-append-add, get_or-take, get_or-drop, length-take-le}
 use Rattle.runs.proofs.Laws.{split, tab_is}
-use Rattle.runs.specs.Runs.{tab, over, written}
+use Rattle.runs.specs.Runs.{tab, over, written, read_on, number_of}
 use Rattle.management.specs.Ports.{octet_of, octets_from}
 use Rattle.management.specs.Tables.{brought_to}
 
@@ -70,6 +72,36 @@ get_or_zeros message n k =
 pub get_or_brought : (n : ℕ) (message : List ℕ) {k : ℕ} → k < n → get_or (brought_to n message) k 0 ≡ get_or message k 0
 unfolding brought_to
 get_or_brought n message {k} less = get_or-take n (message ++ replicate n 0) k 0 less ∙ get_or_zeros message n k
+
+-- as many octets as there are, and zeros behind them
+pub brought_is : (n : ℕ) (message : List ℕ) → take (min (length message) n) message ++ drop (min (length message) n) (replicate n 0) ≡ brought_to n message
+unfolding brought_to
+brought_is n message =
+    let zeros = replicate n 0 in
+    split (ltb (length message) n)
+    (λ t.
+    let less : length message < n = ltb-true (length message) n t in
+    let least : min (length message) n ≡ length message = omega arith in
+    let all : n ≡ length message + (n - length message) = omega arith in
+    let few : n - length message ≤ n = omega arith in
+    rw (least, take-length message, drop-replicate {X = ℕ} (length message) n 0)
+    (sym (ap (λ (k : ℕ). take k (message ++ zeros)) all
+    ∙ take-append-add message zeros (n - length message)
+    ∙ ap (λ (rest : List ℕ). message ++ rest) (take-replicate {X = ℕ} (n - length message) n 0 few))))
+    (λ t.
+    let more : n ≤ length message = ltb-false (length message) n t in
+    let least : min (length message) n ≡ n = omega arith in
+    let none : n - n ≡ 0 = omega arith in
+    rw (least, drop-replicate {X = ℕ} n n 0, none)
+    (append-nil (take n message) ∙ sym (take-append-le n message zeros more)))
+
+-- the number that two octets make
+pub pair_number : (octets : List ℕ) → length octets ≡ 2 → from_be_bytes w16 octets ≡ number_of octets
+unfolding read_on
+pair_number [] long = absurd (omega (arith, long))
+pair_number (x ∷ []) long = absurd (omega (arith, long))
+pair_number (x ∷ (y ∷ [])) long = omega arith
+pair_number (x ∷ (y ∷ (z ∷ rest))) long = absurd (omega (arith, long))
 
 -- a part of a message brought to its length, octet by octet
 pub part_brought : (n : ℕ) (message : List ℕ) (k c : ℕ) → k + c ≤ n

@@ -1,13 +1,13 @@
 -- Laws of a reply: what is written where the answer has room, and what the call then leaves.
 -- Assumes nothing.
 use mathlib.Core.Bool.{Bool}
-use mathlib.Core.List.{List, [], ◌∷◌}
-use mathlib.Core.Path.{◌≡◌, refl, ap}
+use mathlib.Core.List.{List}
+use mathlib.Core.Path.{◌≡◌, refl}
 use Prim.Native.Nat.{ℕ, ◌≤◌, ◌<◌}
 use native.Mathlib.Omega.{arith}
 use borrow.Author.Tests.{lt-ltb, le-ltb}
 use lib.Dec.{eqb, ltb}
-use lib.ListN.{length}
+use lib.ListN.{length, replicate}
 use Rattle.runs.proofs.Laws.{split}
 use Rattle.runs.specs.Runs.{over}
 use Rattle.management.specs.declared.ports.Enquiry.{Enquiry}
@@ -37,23 +37,9 @@ module _ (ports : List ℕ) (asked : Enquiry) (answer : List ℕ) {octets : ℕ}
   abbrev too_short : Bool
   too_short = ltb (length answer) (length (status_message ports asked))
 
-  pub left_short : octets ≡ 0 → Leaves (replied ports asked (length answer)) answer 25 ports answer₁ (octets ∷ 0 ∷ 0 ∷ 0 ∷ [])
+  pub left_short : octets ≡ 0 → Leaves (replied ports asked (length answer)) answer 25 ports answer₁ (replicate 4 0)
   unfolding replied over
   left_short none =
       split too_short
-      (λ t. rw (t, none) (record { refused = refl; leaves = refl; writes = rw t at replies.left; reports = refl }))
+      (λ t. rw t (record { refused = refl; leaves = refl; writes = rw t at replies.left; reports = refl }))
       (λ t. absurd (let all = rw t at replies.counted in omega (arith, all, some_octets ports asked)))
-
-  pub left_replied : (octets ≡ 0 → ⊥) → Leaves (replied ports asked (length answer)) answer 0 ports answer₁ (octets ∷ 0 ∷ 0 ∷ 0 ∷ [])
-  unfolding replied
-  left_replied some =
-      split too_short
-      (λ t. absurd (some (rw t at replies.counted)))
-      (λ t.
-      rw t
-      (record {
-        refused = refl;
-        leaves = refl;
-        writes = rw t at replies.left;
-        reports = ap (λ (n : ℕ). n ∷ 0 ∷ 0 ∷ 0 ∷ []) (rw t at replies.counted);
-      }))

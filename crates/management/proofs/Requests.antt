@@ -3,13 +3,13 @@
 use mathlib.Core.Bool.{true, false}
 use mathlib.Core.List.{List, [], ◌∷◌}
 use mathlib.Core.Path.{◌≡◌, refl, sym}
-use Prim.Native.Nat.{ℕ, ◌+◌, ◌*◌, ◌≤◌, ◌<◌}
+use Prim.Native.Nat.{ℕ, ◌<◌}
 use native.Mathlib.Omega.{arith}
-use borrow.Author.Tests.{eq-eqb, ne_eqb, le-leb, lt-leb}
+use borrow.Author.Tests.{eq-eqb, ne_eqb, lt-leb}
 use lib.Dec.{eqb}
-use lib.ListN.{length, get_or, replicate}
+use lib.ListN.{length, get_or}
 use Rattle.runs.proofs.Laws.{split}
-use Rattle.runs.specs.Runs.{tab, over, written, number_of}
+use Rattle.runs.specs.Runs.{tab, over, number_of}
 use Rattle.management.specs.declared.ports.Enquiry.{Enquiry}
 use Rattle.management.specs.Code.{Asks, asked_at}
 use Rattle.management.specs.Equipment.{
@@ -26,37 +26,6 @@ use Rattle.management.specs.Equipment.{
 use Rattle.management.specs.Ports.{port_count, first_reference, identified}
 use Rattle.management.specs.Tables.{status_enquiry, audio_connection_request, audio_disconnection_request}
 use Rattle.management.proofs.Parts.{get_or_brought, part_brought}
-
-pub sets_up : (ports reference : List ℕ) (port : ℕ) {r : ℕ} → r ≡ first_reference ports port → r ≡ 0
-    → {ports₁ : List ℕ} → ports₁ ≡ written ports (port * 28 + 6) reference
-    → Asks (connected_to ports reference port) ports₁ (0 ∷ 1 ∷ port ∷ 0 ∷ [])
-unfolding connected_to
-sets_up ports reference port {r} first none {ports₁} left =
-    rw (← first, eq-eqb r 0 none) (record { leaves = left; reports = refl })
-
-module _ (ports reference : List ℕ) (port : ℕ) {n : ℕ} (number : n ≡ number_of reference) where
-  pub adds_party : {r : ℕ} → r ≡ first_reference ports port → (r ≡ 0 → ⊥)
-      → Asks (connected_to ports reference port) ports (0 ∷ 2 ∷ port ∷ n ∷ [])
-  unfolding connected_to
-  adds_party {r} first some =
-      rw (← first, ne_eqb r 0 some, number) (record { leaves = refl; reports = refl })
-
-  pub releases : n ≡ 0xFFFF → {ports₁ : List ℕ} → ports₁ ≡ written ports (port * 28 + 6) (replicate 2 0)
-      → Asks (disconnected_from ports reference port) ports₁ (0 ∷ 3 ∷ port ∷ 0 ∷ [])
-  unfolding disconnected_from
-  releases all {ports₁} left = rw (← number, eq-eqb n 0xFFFF all) (record { leaves = left; reports = refl })
-
-  pub drops_first : {r : ℕ} → (n ≡ 0xFFFF → ⊥) → r ≡ first_reference ports port → n ≡ r
-      → Asks (disconnected_from ports reference port) ports (0 ∷ 4 ∷ port ∷ 0 ∷ [])
-  unfolding disconnected_from
-  drops_first {r} one first same =
-      rw (← number, ne_eqb n 0xFFFF one, ← first, eq-eqb n r same) (record { leaves = refl; reports = refl })
-
-  pub drops_party : {r : ℕ} → (n ≡ 0xFFFF → ⊥) → r ≡ first_reference ports port → (n ≡ r → ⊥)
-      → Asks (disconnected_from ports reference port) ports (0 ∷ 4 ∷ port ∷ n ∷ [])
-  unfolding disconnected_from
-  drops_party {r} one first other =
-      rw (← number, ne_eqb n 0xFFFF one, ← first, ne_eqb n r other) (record { leaves = refl; reports = refl })
 
 module _ (ports message : List ℕ) (room : ℕ) where
   pub no_octets : length message ≡ 0 → equipment_of ports message room ≡ nothing ports 24
@@ -148,16 +117,6 @@ module _ (ports : List ℕ) (asked : Enquiry) (reference : List ℕ) where
       → connected ports asked reference room ≡ replied ports asked room
   unfolding connected
   connected_zero {n} number zero room = rw (← number, eq-eqb n 0 zero)
-
-  pub connected_nowhere : {n port : ℕ} → n ≡ number_of reference → (n ≡ 0 → ⊥) → port ≡ identified ports asked true → port_count ports ≤ port
-      → (room : ℕ) → connected ports asked reference room ≡ replied ports asked room
-  unfolding connected
-  connected_nowhere {n} {port} number some is none room = rw (← number, ne_eqb n 0 some, ← is, le-leb (port_count ports) port none)
-
-  pub disconnected_nowhere : {port : ℕ} → port ≡ identified ports asked false → port_count ports ≤ port → (room : ℕ)
-      → disconnected ports asked reference room ≡ replied ports asked room
-  unfolding disconnected
-  disconnected_nowhere {port} is none room = rw (← is, le-leb (port_count ports) port none)
 
   pub connected_port : {n port : ℕ} {ports₁ report₁ : List ℕ} → n ≡ number_of reference → (n ≡ 0 → ⊥) → port ≡ identified ports asked true
       → port < port_count ports → Asks (connected_to ports reference port) ports₁ report₁ → (answer : List ℕ)

@@ -20,15 +20,7 @@ use Rattle.management.specs.Tables.{brought_to, input_port_status, output_port_s
 use Rattle.management.proofs.Parts.{get_or_brought, part_brought, parts_join}
 
 module _ (ports : List ℕ) (told : Enquiry) (status : ℕ) (rest : List ℕ) where
-  pub taken_not : recognised told.subsystem_code status ≡ false → ports ≡ status_taken ports told status rest
-  unfolding status_taken
-  taken_not unknown = rw unknown
-
   module _ (known : recognised told.subsystem_code status ≡ true) {fit : Fit} (best : fit ≡ best_fit ports told) where
-    pub taken_nowhere : fit.misfits ≡ 4 → ports ≡ status_taken ports told status rest
-    unfolding status_taken noted
-    taken_nowhere none = rw (known, ← best, eq-eqb fit.misfits 4 none)
-
     pub taken_noted : {head ports₁ : List ℕ} → (fit.misfits ≡ 4 → ⊥) → head ≡ status ∷ configuration ports told status fit.port
         → ports₁ ≡ written ports (fit.port * 28 + 2) (head ++ rest) → ports₁ ≡ status_taken ports told status rest
     unfolding status_taken noted

@@ -4,11 +4,13 @@ ghost use Rattle.management.specs.Ports.{port_count};
 ghost use Rattle.management.specs.Controller.{configuration, status_taken, Takes};
 ghost use Rattle.management.specs.Code.{told_by, taken_to};
 
+use crate::equipment::Refused;
 use crate::octets::{brought, put_both};
 use crate::ports::{Enquiry, best_fit};
 use crate::status::{configured, recognised};
 
 // A port's status and its format, as octets 2 to 5 of its record take them.
+#[tactic(auto, unfolding(crate::specs::Controller::configuration))]
 fn status_and_format(ports: &[u8], told: Enquiry, status: u8, port: usize) -> [u8; 4]
     requires { port < port_count ports.now }
     ensures { result ≡ status ∷ configuration ports.now told status port }
@@ -26,6 +28,7 @@ fn status_and_format(ports: &[u8], told: Enquiry, status: u8, port: usize) -> [u
 }
 
 // Notes what a status message tells of a port in that port's record.
+#[tactic(auto, unfolding(crate::specs::Controller::status_taken, crate::specs::Controller::noted))]
 fn note(ports: &mut [u8], told: Enquiry, status: u8, rest: &[u8])
     requires { length rest.now ≤ 22 }
     ensures { ports.new ≡ status_taken ports.old told status rest.now }
@@ -33,16 +36,15 @@ fn note(ports: &mut [u8], told: Enquiry, status: u8, rest: &[u8])
     if !recognised(told.subsystem_code, status) {
         return;
     }
-    let fit = best_fit(ports, told);
-    if fit.misfits == 4 {
+    let Some(fit) = best_fit(ports, told) else {
         return;
-    }
-    let place = fit.port * 28 + 2;
+    };
     let head = status_and_format(ports, told, status, fit.port);
-    put_both(ports, place, &head, rest);
+    put_both(ports, fit.port * 28 + 2, &head, rest);
 }
 
 // The port that a status message is about.
+#[tactic(auto, unfolding(crate::specs::Code::told_by))]
 fn told_by(message: [u8; 29]) -> Enquiry
     ensures { result ≡ told_by message }
 {
@@ -62,31 +64,27 @@ fn taken_to(subsystem_code: u8, status: u8) -> usize
     ensures { (result ≡ taken_to subsystem_code status) × (7 ≤ result) × (result ≤ 29) }
 {
     if subsystem_code == 0 {
-        return 9;
+        9
+    } else if status == 0xE0 {
+        29
+    } else {
+        7
     }
-    if status == 0xE0 {
-        return 29;
-    }
-    7
 }
 
+// A number is the C interface.
 // Takes a message as the controlling entity: the refusal (0 or 24, and then nothing is written).
 pub fn rime_controller(ports: &mut [u8], message: &[u8]) -> u8
     ensures { Takes ports.old message.now result ports.new }
 {
-    if message.len() == 0 {
-        return 24;
+    if message.is_empty() {
+        return Refused::Empty.into();
     }
     let octets = brought(message);
-    if octets[0] != 129 {
-        return 0;
+    if octets[0] == 129 && octets[1] <= 1 {
+        let status = octets[3];
+        let to = taken_to(octets[1], status);
+        note(ports, told_by(octets), status, &octets[7..to]);
     }
-    if 1 < octets[1] {
-        return 0;
-    }
-    let told = told_by(octets);
-    let status = octets[3];
-    let to = taken_to(octets[1], status);
-    note(ports, told, status, &octets[7..to]);
     0
 }

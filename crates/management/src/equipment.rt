@@ -10,121 +10,206 @@ ghost use Rattle.management.specs.Equipment.{
   disconnected,
   equipment_of,
 };
-ghost use Rattle.management.specs.Code.{Asks, asked_at};
+ghost use Rattle.management.specs.Code.{
+  Asks,
+  Answers,
+  asked_at,
+  number_of_network,
+  number_of_refused,
+  report_octets,
+};
 
 use crate::octets::{number, octet, put};
 use crate::ports::{Enquiry, first_reference, identified};
 use crate::status::write_status;
 
-// What is asked for answered by its status message: a status enquiry, or a request whose port isn't there.
-fn reply(ports: &[u8], asked: Enquiry, answer: &mut [u8], report: &mut [u64; 4]) -> u8
-    ensures { Leaves (replied ports.now asked (length answer.old)) answer.old result
-        ports.now answer.new report.new }
-{
-    let octets = write_status(ports, asked, answer);
-    *report = [octets, 0, 0, 0];
-    if octets == 0 {
-        return 25;
+// What the network is to be sent.
+#[derive(Clone, Copy, Debug, PartialEq, Eq, Hash)]
+pub(crate) enum Network {
+    Nothing = 0,
+    Setup = 1,
+    AddParty = 2,
+    Release = 3,
+    DropParty = 4,
+}
+
+// What a message comes to: how many octets the answer has, and what the network is to be sent, for which port, with which endpoint
+// reference.
+#[derive(Clone, Copy, Debug, PartialEq, Eq, Hash)]
+pub(crate) struct Report {
+    pub octets: u64,
+    pub network: Network,
+    pub port: usize,
+    pub reference: u64,
+}
+
+const NOTHING: Report = Report {
+    octets: 0,
+    network: Network::Nothing,
+    port: 0,
+    reference: 0,
+};
+
+impl From<Report> for [u64; 4] {
+    ghost from_gives = { λ report numbers. numbers ≡ report_octets report };
+
+    fn from(report: Report) -> [u64; 4] {
+        [
+            report.octets,
+            report.network as u64,
+            report.port as u64,
+            report.reference,
+        ]
     }
-    0
+}
+
+// Why a message comes to nothing.
+#[derive(Clone, Copy, Debug, PartialEq, Eq, Hash)]
+pub(crate) enum Refused {
+    // a message of no octets
+    Empty = 24,
+    // an answer buffer too short
+    Room = 25,
+}
+
+impl From<Refused> for u8 {
+    ghost from_gives = { λ refused number. number ≡ number_of_refused refused };
+
+    fn from(refused: Refused) -> u8 {
+        refused as u8
+    }
+}
+
+// What is asked for answered by its status message: a status enquiry, or a request whose port isn't there.
+#[tactic(auto, unfolding(crate::specs::Equipment::replied))]
+fn reply(ports: &[u8], asked: Enquiry, answer: &mut [u8]) -> Result<Report, Refused>
+    ensures { Answers (replied ports.now asked (length answer.old)) answer.old result ports.now answer.new }
+{
+    match write_status(ports, asked, answer) {
+        Some(octets) => Ok(Report { octets, ..NOTHING }),
+        None => Err(Refused::Room),
+    }
 }
 
 // Steps b and c of an audio connection request (8.4.1.2.3): an ADD PARTY or a SETUP is asked for.
-fn connect_to(ports: &mut [u8], port: usize, high: u8, low: u8, report: &mut [u64; 4])
+#[tactic(auto, unfolding(crate::specs::Equipment::connected_to))]
+fn connect_to(ports: &mut [u8], port: usize, reference: [u8; 2]) -> Report
     requires { port < port_count ports.old }
-    ensures { Asks (connected_to ports.old (high ∷ low ∷ []) port) ports.new report.new }
+    ensures { Asks (connected_to ports.old reference port) ports.new (report_octets result) }
 {
-    let reference = number(high, low);
     if first_reference(ports, port) != 0 {
-        *report = [0, 2, port as u64, reference];
-        return;
+        return Report {
+            network: Network::AddParty,
+            port,
+            reference: number(reference),
+            ..NOTHING
+        };
     }
-    let place = port * 28 + 6;
-    let octets = [high, low];
-    put(ports, place, &octets);
-    *report = [0, 1, port as u64, 0];
+    put(ports, port * 28 + 6, &reference);
+    Report {
+        network: Network::Setup,
+        port,
+        ..NOTHING
+    }
 }
 
 // An audio connection request.
+#[tactic(auto, unfolding(crate::specs::Equipment::connected))]
 fn connect(
     ports: &mut [u8],
     asked: Enquiry,
-    high: u8,
-    low: u8,
+    reference: [u8; 2],
     answer: &mut [u8],
-    report: &mut [u64; 4],
-) -> u8
-    ensures { Leaves (connected ports.old asked (high ∷ low ∷ []) (length answer.old)) answer.old result
-        ports.new answer.new report.new }
+) -> Result<Report, Refused>
+    ensures { Answers (connected ports.old asked reference (length answer.old)) answer.old result ports.new answer.new }
 {
-    if number(high, low) == 0 {
-        return reply(ports, asked, answer, report);
+    if number(reference) == 0 {
+        return reply(ports, asked, answer);
     }
-    let port = identified(ports, asked, true);
-    if ports.len() / 28 <= port {
-        return reply(ports, asked, answer, report);
-    }
-    connect_to(ports, port, high, low, report);
-    0
+    let Some(port) = identified(ports, asked, true) else {
+        return reply(ports, asked, answer);
+    };
+    Ok(connect_to(ports, port, reference))
 }
 
 // Step b of an audio disconnection request (8.4.1.3.2): a RELEASE or a DROP PARTY is asked for.
-fn disconnect_from(ports: &mut [u8], port: usize, high: u8, low: u8, report: &mut [u64; 4])
+#[tactic(auto, unfolding(crate::specs::Equipment::disconnected_from))]
+fn disconnect_from(ports: &mut [u8], port: usize, reference: [u8; 2]) -> Report
     requires { port < port_count ports.old }
-    ensures { Asks (disconnected_from ports.old (high ∷ low ∷ []) port) ports.new report.new }
+    ensures { Asks (disconnected_from ports.old reference port) ports.new (report_octets result) }
 {
-    let reference = number(high, low);
+    let reference = number(reference);
     if reference == 0xFFFF {
-        let place = port * 28 + 6;
-        put(ports, place, &[0u8; 2]);
-        *report = [0, 3, port as u64, 0];
-        return;
+        put(ports, port * 28 + 6, &[0; 2]);
+        return Report {
+            network: Network::Release,
+            port,
+            ..NOTHING
+        };
     }
-    if reference == first_reference(ports, port) {
-        *report = [0, 4, port as u64, 0];
-        return;
+    let is_first = reference == first_reference(ports, port);
+    Report {
+        network: Network::DropParty,
+        port,
+        reference: if is_first { 0 } else { reference },
+        ..NOTHING
     }
-    *report = [0, 4, port as u64, reference];
 }
 
 // An audio disconnection request.
+#[tactic(auto, unfolding(crate::specs::Equipment::disconnected))]
 fn disconnect(
     ports: &mut [u8],
     asked: Enquiry,
-    high: u8,
-    low: u8,
+    reference: [u8; 2],
     answer: &mut [u8],
-    report: &mut [u64; 4],
-) -> u8
-    ensures { Leaves (disconnected ports.old asked (high ∷ low ∷ []) (length answer.old)) answer.old result
-        ports.new answer.new report.new }
+) -> Result<Report, Refused>
+    ensures { Answers (disconnected ports.old asked reference (length answer.old)) answer.old result ports.new answer.new }
 {
-    let port = identified(ports, asked, false);
-    if ports.len() / 28 <= port {
-        return reply(ports, asked, answer, report);
-    }
-    disconnect_from(ports, port, high, low, report);
-    0
+    let Some(port) = identified(ports, asked, false) else {
+        return reply(ports, asked, answer);
+    };
+    Ok(disconnect_from(ports, port, reference))
 }
 
 // What four octets of a message ask for: a selector and a format.
+#[tactic(auto, unfolding(crate::specs::Code::asked_at))]
 fn asked_at(message: &[u8], subsystem_code: u8, from: usize) -> Enquiry
     requires { from ≤ 2 }
     ensures { result ≡ asked_at message.now subsystem_code from }
 {
-    let selector = octet(message, from);
-    let subframe_format = octet(message, from + 1);
-    let packing = octet(message, from + 2);
-    let sampling_frequency = octet(message, from + 3);
     Enquiry {
         subsystem_code,
-        selector,
-        subframe_format,
-        packing,
-        sampling_frequency,
+        selector: octet(message, from),
+        subframe_format: octet(message, from + 1),
+        packing: octet(message, from + 2),
+        sampling_frequency: octet(message, from + 3),
     }
 }
 
+// What the equipment does with a message.
+fn answered(ports: &mut [u8], message: &[u8], answer: &mut [u8]) -> Result<Report, Refused>
+    ensures { Answers (equipment_of ports.old message.now (length answer.old)) answer.old result ports.new answer.new }
+{
+    if message.is_empty() {
+        return Err(Refused::Empty);
+    }
+    let message_type = message[0];
+    if message_type == 1 {
+        return reply(ports, asked_at(message, octet(message, 1), 2), answer);
+    }
+    let asked = asked_at(message, 0, 1);
+    let reference = [octet(message, 5), octet(message, 6)];
+    if message_type == 2 {
+        return connect(ports, asked, reference, answer);
+    }
+    if message_type == 3 {
+        return disconnect(ports, asked, reference, answer);
+    }
+    Ok(NOTHING)
+}
+
+// Numbers and lent arrays are the C interface.
 // Takes a message as the equipment: the refusal (0, 24 or 25, and then nothing is written but zeros to the report).
 pub fn rime_equipment(
     ports: &mut [u8],
@@ -135,23 +220,14 @@ pub fn rime_equipment(
     ensures { Leaves (equipment_of ports.old message.now (length answer.old)) answer.old result
         ports.new answer.new report.new }
 {
-    *report = [0, 0, 0, 0];
-    if message.len() == 0 {
-        return 24;
+    match answered(ports, message, answer) {
+        Ok(told) => {
+            *report = told.into();
+            0
+        }
+        Err(refused) => {
+            *report = [0; 4];
+            refused.into()
+        }
     }
-    let message_type = message[0];
-    if message_type == 1 {
-        let asked = asked_at(message, octet(message, 1), 2);
-        return reply(ports, asked, answer, report);
-    }
-    let asked = asked_at(message, 0, 1);
-    let high = octet(message, 5);
-    let low = octet(message, 6);
-    if message_type == 2 {
-        return connect(ports, asked, high, low, answer, report);
-    }
-    if message_type == 3 {
-        return disconnect(ports, asked, high, low, answer, report);
-    }
-    0
 }

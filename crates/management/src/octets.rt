@@ -7,33 +7,25 @@ ghost use Rattle.management.specs.Tables.{brought_to};
 pub(crate) fn octet(message: &[u8], at: usize) -> u8
     ensures { result ≡ get_or message.now at 0 }
 {
-    if at < message.len() { message[at] } else { 0 }
+    message.get(at).copied().unwrap_or(0)
 }
 
 // The first 29 octets of a message, zeros added where it is shorter. No table has more.
 pub(crate) fn brought(message: &[u8]) -> [u8; 29]
     ensures { result ≡ brought_to 29 message.now }
 {
-    let mut octets = [0u8; 29];
-    let mut i: usize = 0;
-    while i < 29 {
-        octets[i] = octet(message, i);
-        i += 1;
-    }
+    let mut octets = [0; 29];
+    let length = message.len().min(29);
+    octets[..length].copy_from_slice(&message[..length]);
     octets
 }
 
-fn wide(x: u8) -> u64
-    ensures { (result ≡ x) × (result < 256) }
-{
-    x as u64
-}
-
 // The number that two octets make, the highest first.
-pub(crate) fn number(high: u8, low: u8) -> u64
-    ensures { result ≡ number_of (high ∷ low ∷ []) }
+#[tactic(auto, unfolding(runs::specs::Runs::read_on))]
+pub(crate) fn number(octets: [u8; 2]) -> u64
+    ensures { result ≡ number_of octets }
 {
-    wide(high) * 256 + wide(low)
+    u64::from(u16::from_be_bytes(octets))
 }
 
 // Writes octets into a lent run from a place on.
@@ -41,11 +33,7 @@ pub(crate) fn put(run: &mut [u8], place: usize, octets: &[u8])
     requires { place + length octets.now ≤ length run.old }
     ensures { run.new ≡ written run.old place octets.now }
 {
-    let mut i = 0;
-    while i < octets.len() {
-        run[place + i] = octets[i];
-        i += 1;
-    }
+    run[place..place + octets.len()].copy_from_slice(octets);
 }
 
 // Writes octets, and others behind them.
@@ -54,6 +42,5 @@ pub(crate) fn put_both(run: &mut [u8], place: usize, head: &[u8], tail: &[u8])
     ensures { run.new ≡ written run.old place (head.now ++ tail.now) }
 {
     put(run, place, head);
-    let behind = place + head.len();
-    put(run, behind, tail);
+    put(run, place + head.len(), tail);
 }

@@ -1,25 +1,18 @@
 // What a box is opened with, by a port's record, and the packing octet that stands for it (6.2, 6.3).
-ghost use Rattle.std.specs.Prelude.{◌≡◌, ◌<◌};
+ghost use Rattle.std.specs.Prelude.{◌≡◌};
 ghost use Rattle.management.specs.Packing.{order_coded, Sets, Packs};
-
-fn wide(x: u8) -> u32
-    ensures { (result ≡ x) × (result < 256) }
-{
-    x as u32
-}
 
 // Takes a port's record: the refusal (0, or 1, 2 or 3 as an opening has them, and then zeros are left), and the format, C and order.
 pub fn rime_port_settings(port: &[u8; 28], settings: &mut [u32; 3]) -> u8
     ensures { Sets port.now result settings.new }
 {
-    let format = wide(port[3]);
-    let packing = wide(port[4]);
+    let format = u32::from(port[3]);
+    let packing = u32::from(port[4]);
     let channels = packing % 64;
     let order = packing / 64;
-    let settled = formats::settings(format, channels, order);
-    if settled.refusal != 0 {
-        *settings = [0, 0, 0];
-        return settled.refusal;
+    if let Err(refusal) = formats::settings(format, channels, order) {
+        *settings = [0; 3];
+        return refusal.into();
     }
     *settings = [format, channels, order];
     0
@@ -30,25 +23,25 @@ pub fn rime_port_settings(port: &[u8; 28], settings: &mut [u32; 3]) -> u8
 fn order_coded(slots: usize, channels: u32, order: u32) -> u32
     ensures { result ≡ order_coded slots channels order }
 {
-    if channels == 1 {
-        return 0;
+    if channels == 1 || channels as usize == slots {
+        0
+    } else {
+        order
     }
-    if channels as usize == slots {
-        return 0;
-    }
-    order
 }
 
 // Takes a format, C and order: the refusal (0, or 1, 2 or 3 as an opening has them, and then 0 is left), and the packing octet.
 pub fn rime_port_packing(format: u32, channels: u32, order: u32, packing: &mut u8) -> u8
     ensures { Packs format channels order result packing.new }
 {
-    let settled = formats::settings(format, channels, order);
-    if settled.refusal != 0 {
-        *packing = 0;
-        return settled.refusal;
-    }
-    let coded = order_coded(settled.format.slots, channels, order);
+    let set = match formats::settings(format, channels, order) {
+        Ok(set) => set,
+        Err(refusal) => {
+            *packing = 0;
+            return refusal.into();
+        }
+    };
+    let coded = order_coded(set.format.slots, channels, order);
     *packing = (coded * 64 + channels) as u8;
     0
 }

@@ -1,5 +1,5 @@
 // The records of the ports, 28 octets each, end to end, and which port a message is about.
-ghost use Rattle.std.specs.Prelude.{◌≡◌, ◌+◌, ◌*◌, ◌≤◌, ◌<◌};
+ghost use Rattle.std.specs.Prelude.{◌≡◌, ◌+◌, ◌*◌, ◌≤◌, ◌<◌, ltb, IfSome, unwrap_or};
 ghost use Rattle.management.specs.Ports.{
   port_count,
   differs,
@@ -12,12 +12,12 @@ ghost use Rattle.management.specs.Ports.{
   serves,
   identified,
 };
-ghost use Rattle.management.specs.Code.{Inside};
+ghost use Rattle.management.specs.Code.{found_fit, Inside};
 
 use crate::octets::number;
 
 // What a status enquiry asks for, and so each message: a port by its subsystem code and its selector, in a format.
-#[derive(Clone, Copy)]
+#[derive(Clone, Copy, Debug, PartialEq, Eq, Hash)]
 pub(crate) struct Enquiry {
     pub subsystem_code: u8,
     pub selector: u8,
@@ -26,9 +26,8 @@ pub(crate) struct Enquiry {
     pub sampling_frequency: u8,
 }
 
-// The port that fits best: how many aspects of the format asked for it doesn't support, and its place among the ports. 4 and 0 where
-// no port has that subsystem code and selector.
-#[derive(Clone, Copy)]
+// The port that fits best: how many aspects of the format asked for it doesn't support, and its place among the ports.
+#[derive(Clone, Copy, Debug, PartialEq, Eq, Hash)]
 pub(crate) struct Fit {
     pub misfits: u8,
     pub port: usize,
@@ -37,7 +36,7 @@ pub(crate) struct Fit {
 fn differs(here: u8, asked: u8) -> u8
     ensures { (result ≡ differs here asked) × (result ≤ 1) }
 {
-    if here == asked { 0 } else { 1 }
+    u8::from(here != asked)
 }
 
 // F, P and R of 8.4.2.1.1 as one number, 4F + 2P + R.
@@ -53,42 +52,47 @@ pub(crate) fn unsupported(ports: &[u8], port: usize, asked: Enquiry) -> u8
     format * 4 + packing * 2 + frequency
 }
 
-fn misfits(ports: &[u8], port: usize, asked: Enquiry) -> u8
+#[tactic(auto, unfolding(crate::specs::Ports::misfits))]
+// How many of the three a port of that subsystem code and selector doesn't support; none for any other port.
+fn misfits(ports: &[u8], port: usize, asked: Enquiry) -> Option<u8>
     requires { port < port_count ports.now }
-    ensures { result ≡ misfits ports.now asked port }
+    ensures number { unwrap_or result 4 ≡ misfits ports.now asked port }
+    ensures few { IfSome result (λ misfits. misfits ≤ 3) }
 {
     let at = port * 28;
-    if ports[at] != asked.subsystem_code {
-        return 4;
-    }
-    if ports[at + 1] != asked.selector {
-        return 4;
+    if ports[at] != asked.subsystem_code || ports[at + 1] != asked.selector {
+        return None;
     }
     let format = differs(ports[at + 3], asked.subframe_format);
     let packing = differs(ports[at + 4], asked.packing);
     let frequency = differs(ports[at + 5], asked.sampling_frequency);
-    format + packing + frequency
+    Some(format + packing + frequency)
 }
 
-// The port that best fits what is asked: of several the first.
-pub(crate) fn best_fit(ports: &[u8], asked: Enquiry) -> Fit
-    ensures { (result ≡ best_fit ports.now asked) × Inside ports.now result }
+// The port that best fits what is asked, of several the first; none where no port has that subsystem code and selector.
+pub(crate) fn best_fit(ports: &[u8], asked: Enquiry) -> Option<Fit>
+    ensures fits { found_fit result ≡ best_fit ports.now asked }
+    ensures inside { IfSome result (Inside ports.now) }
 {
-    let count = ports.len() / 28;
-    let mut fewest: u8 = 4;
-    let mut best: usize = 0;
-    let mut port: usize = 0;
-    while port < count {
-        let here = misfits(ports, port, asked);
-        if here < fewest {
-            fewest = here;
-            best = port;
+    let mut best = None;
+    for port in 0..ports.len() / 28 {
+        if let Some(misfits) = misfits(ports, port, asked) {
+            if fits_better(misfits, best) {
+                best = Some(Fit { misfits, port });
+            }
         }
-        port += 1;
     }
-    Fit {
-        misfits: fewest,
-        port: best,
+    best
+}
+
+// Whether a port with so many misfits fits better than the best one before it.
+fn fits_better(misfits: u8, best: Option<Fit>) -> bool
+    requires { misfits ≤ 3 }
+    ensures { result ≡ ltb misfits (found_fit best).misfits }
+{
+    match best {
+        None => true,
+        Some(best) => misfits < best.misfits,
     }
 }
 
@@ -98,41 +102,29 @@ pub(crate) fn first_reference(ports: &[u8], port: usize) -> u64
     ensures { result ≡ first_reference ports.now port }
 {
     let at = port * 28;
-    number(ports[at + 6], ports[at + 7])
+    number([ports[at + 6], ports[at + 7]])
 }
 
 // A port in the format asked for that is the source of a call or, where `can_be` says so, can be.
+#[tactic(auto, unfolding(crate::specs::Ports::serves))]
 fn serves(ports: &[u8], port: usize, asked: Enquiry, can_be: bool) -> bool
     requires { port < port_count ports.now }
     ensures { result ≡ serves ports.now asked can_be port }
 {
-    if misfits(ports, port, asked) != 0 {
-        return false;
-    }
-    if first_reference(ports, port) != 0 {
-        return true;
-    }
-    if !can_be {
-        return false;
-    }
-    let at = port * 28 + 2;
-    if ports[at] == 0xC0 {
-        return true;
-    }
-    ports[at] == 0xE0
+    misfits(ports, port, asked) == Some(0)
+        && (first_reference(ports, port) != 0
+            || can_be && matches!(ports[port * 28 + 2], 0xC0 | 0xE0))
 }
 
-// The first port that serves; where none does, as many as there are ports.
-pub(crate) fn identified(ports: &[u8], asked: Enquiry, can_be: bool) -> usize
-    ensures { result ≡ identified ports.now asked can_be }
+// The first port that serves.
+pub(crate) fn identified(ports: &[u8], asked: Enquiry, can_be: bool) -> Option<usize>
+    ensures first { unwrap_or result (port_count ports.now) ≡ identified ports.now asked can_be }
+    ensures inside { IfSome result (λ port. port < port_count ports.now) }
 {
-    let count = ports.len() / 28;
-    let mut port: usize = 0;
-    while port < count {
+    for port in 0..ports.len() / 28 {
         if serves(ports, port, asked, can_be) {
-            return port;
+            return Some(port);
         }
-        port += 1;
     }
-    count
+    None
 }

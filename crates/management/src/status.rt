@@ -1,5 +1,5 @@
 // The codes of a port's status, and the status message for what is asked.
-ghost use Rattle.std.specs.Prelude.{◌≡◌, ◌≤◌, length};
+ghost use Rattle.std.specs.Prelude.{◌≡◌, ◌≤◌, ◌≢◌, length, IfSome, unwrap_or};
 ghost use Rattle.runs.specs.Runs.{over};
 ghost use Rattle.management.specs.Status.{
   configured,
@@ -7,7 +7,7 @@ ghost use Rattle.management.specs.Status.{
   status_for,
   status_message,
 };
-ghost use Rattle.management.specs.Code.{Inside, Replies, status_head, status_length};
+ghost use Rattle.management.specs.Code.{found_fit, Inside, Replies, status_head, status_length};
 
 use crate::octets::{put, put_both};
 use crate::ports::{Enquiry, Fit, best_fit, unsupported};
@@ -17,19 +17,7 @@ use crate::ports::{Enquiry, Fit, best_fit, unsupported};
 pub(crate) fn configured(subsystem_code: u8, status: u8) -> bool
     ensures { result ≡ configured subsystem_code status }
 {
-    if status == 0x40 {
-        return true;
-    }
-    if status == 0xC0 {
-        return true;
-    }
-    if status == 0xE0 {
-        return true;
-    }
-    if subsystem_code != 1 {
-        return false;
-    }
-    status == 0x60
+    matches!(status, 0x40 | 0xC0 | 0xE0) || subsystem_code == 1 && status == 0x60
 }
 
 // A code of the table: those, 00, and 81 to 87.
@@ -37,32 +25,20 @@ pub(crate) fn configured(subsystem_code: u8, status: u8) -> bool
 pub(crate) fn recognised(subsystem_code: u8, status: u8) -> bool
     ensures { result ≡ recognised subsystem_code status }
 {
-    if configured(subsystem_code, status) {
-        return true;
-    }
-    if status == 0 {
-        return true;
-    }
-    if status < 0x81 {
-        return false;
-    }
-    status <= 0x87
+    configured(subsystem_code, status) || matches!(status, 0 | 0x81..=0x87)
 }
 
 // Octet 3 of the status message for what is asked, by the port that fits best.
-fn status_for(ports: &[u8], asked: Enquiry, fit: Fit) -> u8
-    requires { Inside ports.now fit }
-    ensures { result ≡ status_for ports.now asked fit }
+#[tactic(auto, unfolding(crate::specs::Status::status_for, crate::specs::Status::unsupported))]
+fn status_for(ports: &[u8], asked: Enquiry, fit: Option<Fit>) -> u8
+    requires { IfSome fit (Inside ports.now) }
+    ensures { result ≡ status_for ports.now asked (found_fit fit) }
 {
-    let port = fit.port;
-    if fit.misfits == 4 {
-        return 0;
+    match fit {
+        None => 0,
+        Some(Fit { misfits: 0, port }) => ports[port * 28 + 2],
+        Some(Fit { port, .. }) => 0x80 + unsupported(ports, port, asked),
     }
-    if fit.misfits == 0 {
-        let at = port * 28 + 2;
-        return ports[at];
-    }
-    0x80 + unsupported(ports, port, asked)
 }
 
 // Octets 0 to 6 of a status message for what is asked.
@@ -88,13 +64,13 @@ fn write_input_status(ports: &[u8], asked: Enquiry, answer: &mut [u8])
     let fit = best_fit(ports, asked);
     let status = status_for(ports, asked, fit);
     let head = status_head(asked, status);
-    if fit.misfits == 4 {
-        put_both(answer, 0, &head, &[0u8; 2]);
-        return;
+    match fit {
+        None => put_both(answer, 0, &head, &[0; 2]),
+        Some(fit) => {
+            let from = fit.port * 28 + 6;
+            put_both(answer, 0, &head, &ports[from..from + 2]);
+        }
     }
-    let from = fit.port * 28 + 6;
-    let to = from + 2;
-    put_both(answer, 0, &head, &ports[from..to]);
 }
 
 // Writes the output port status message for what is asked.
@@ -105,46 +81,43 @@ fn write_output_status(ports: &[u8], asked: Enquiry, answer: &mut [u8])
     let fit = best_fit(ports, asked);
     let status = status_for(ports, asked, fit);
     let head = status_head(asked, status);
-    if status != 0xE0 {
-        put_both(answer, 0, &head, &[0u8; 22]);
-        return;
+    match fit {
+        Some(fit) if status == 0xE0 => {
+            let from = fit.port * 28 + 6;
+            put_both(answer, 0, &head, &ports[from..from + 22]);
+        }
+        _ => put_both(answer, 0, &head, &[0; 22]),
     }
-    let from = fit.port * 28 + 6;
-    let to = from + 22;
-    put_both(answer, 0, &head, &ports[from..to]);
 }
 
 #[tactic(auto, unfolding(crate::specs::Code::status_length))]
 fn status_length(subsystem_code: u8) -> usize
-    ensures { result ≡ status_length subsystem_code }
+    ensures { (result ≡ status_length subsystem_code) × (2 ≤ result) }
 {
-    if subsystem_code == 0 {
-        return 9;
+    match subsystem_code {
+        0 => 9,
+        1 => 29,
+        _ => 2,
     }
-    if subsystem_code == 1 {
-        return 29;
-    }
-    2
 }
 
-// Writes the status message for what is asked, and gives its length; 0 where the answer has no room for it, and then nothing is
+// Writes the status message for what is asked, and gives its length; none where the answer has no room for it, and then nothing is
 // written.
-pub(crate) fn write_status(ports: &[u8], asked: Enquiry, answer: &mut [u8]) -> u64
-    ensures { Replies (status_message ports.now asked) answer.old result answer.new }
+pub(crate) fn write_status(ports: &[u8], asked: Enquiry, answer: &mut [u8]) -> Option<u64>
+    ensures replies { Replies (status_message ports.now asked) answer.old (unwrap_or result 0) answer.new }
+    ensures some { IfSome result (λ octets. octets ≢ 0) }
 {
     let length = status_length(asked.subsystem_code);
     if answer.len() < length {
-        return 0;
+        return None;
     }
+    // No `match`: tried, and the proof of its last arm didn't close.
     if asked.subsystem_code == 0 {
         write_input_status(ports, asked, answer);
-        return 9;
-    }
-    if asked.subsystem_code == 1 {
+    } else if asked.subsystem_code == 1 {
         write_output_status(ports, asked, answer);
-        return 29;
+    } else {
+        put(answer, 0, &[129, asked.subsystem_code]);
     }
-    let head = [129, asked.subsystem_code];
-    put(answer, 0, &head);
-    2
+    Some(length as u64)
 }

@@ -1,6 +1,7 @@
 -- Laws of the sequencing word: Table A.1's division rule and its distance, each by one test over the table; which eight bits are
 -- a number; and that a word read back gives its number and second number.
 -- Assumes nothing.
+use Rattle.std.specs.Prelude.{Option, Some, None}
 use Rattle.std.proofs.Common.{◌≡◌, ℕ, zero, suc, ◌+◌, ◌-◌, ◌*◌, ◌/◌, ◌%◌, ◌^◌, ◌<◌, ◌≤◌, Bool, true, false, cond, ◌||◌, T, eqb, ltb, leb, List, [], ◌∷◌, length, get_or, sym, refl, ap, ◌∙◌, ap₂, le_refl, le_of_suc-le-suc, not-suc-le-zero, mod-lt, div-add-mod', arith, eqb→eq, leb→le, pow_mono, ltb-false, ltb-true, le-ltb, lt-ltb, eq-eqb, ne_eqb, eqb-true}
 use native.Mathlib.Nat.{le_step, div-eq_of_lt, add-mul-mod_self_right, mod-add-mod}
 use lib.Arith.{digits_div, digits_mod, digits_lt}
@@ -9,27 +10,7 @@ use lib.Count.{ones, ones_in}
 use Rattle.runs.specs.Division.{coefficients, divided, taken_down, remainder}
 use Rattle.runs.specs.Test.{every}
 use Rattle.runs.proofs.Laws.{every_at, split, or_right}
-use Rattle.numbers.specs.declared.Found.{Found}
-use Rattle.numbers.specs.declared.Found.TheVariants.{Number, Nothing}
-use Rattle.numbers.specs.Numbers.{
-  table_a1,
-  entry_of,
-  turned,
-  protection_of,
-  seven_of,
-  divided_entry,
-  place_in,
-  number_in,
-  found_of,
-  refusal_of,
-  value_of,
-  Finds,
-  word_bit,
-  gathered,
-  eight_of,
-  second_of,
-  difference_of,
-}
+use Rattle.numbers.specs.Numbers.{difference_of, table_a1, entry_of, turned, protection_of, seven_of, divided_entry, place_in, number_in, found_of, refusal_of, value_of, Finds, word_bit, gathered, eight_of, second_of}
 use Rattle.numbers.specs.Code.{sequence_of}
 
 -- each entry is what the division and the parity make of its number
@@ -124,11 +105,11 @@ unfolding every looked table_a1 turned place_in sequence_of
 looked_right {word} h =
     eqb→eq (looked word) (number_in word) (every_at (λ w. eqb (looked w) (number_in w)) 256 tt word h)
 
-found_none : (word : ℕ) → number_in word ≡ 16 → Nothing ≡ found_of word
+found_none : (word : ℕ) → number_in word ≡ 16 → None ≡ found_of word
 unfolding found_of
 found_none word e = rw e
 
-found_number : (word : ℕ) {n : ℕ} → number_in word ≡ n → n < 16 → Number n ≡ found_of word
+found_number : (word : ℕ) {n : ℕ} → number_in word ≡ n → n < 16 → Some n ≡ found_of word
 unfolding found_of
 found_number word e h = rw (e, lt-ltb _ _ h)
 
@@ -137,11 +118,11 @@ abbrev pub other_four : ℕ → ℕ
 other_four word = sequence_of (entry_of (turned (word / 16) % 16)) 0 / 16
 
 module _ {word : ℕ} (h : word < 256) where
-  pub four_number : other_four word ≡ turned word → Number (turned (word / 16)) ≡ found_of word
+  pub four_number : other_four word ≡ turned word → Some (turned (word / 16)) ≡ found_of word
   unfolding looked
   four_number e = found_number word (sym (looked_right h) ∙ rw (eq-eqb _ _ e)) (turned_lt (word / 16))
 
-  pub four_nothing : (other_four word ≡ turned word → ⊥) → Nothing ≡ found_of word
+  pub four_nothing : (other_four word ≡ turned word → ⊥) → None ≡ found_of word
   unfolding looked
   four_nothing e = found_none word (sym (looked_right h) ∙ rw (ne_eqb _ _ e))
 
@@ -284,34 +265,34 @@ pub finds : (word : ℕ) → Finds word (found_of word)
 unfolding found_of refusal_of value_of
 finds word = split (ltb (number_in word) 16) (λ t. record { refused = rw t; number = rw t }) (λ t. record { refused = rw t; number = rw t })
 
-pub found_as : (word : ℕ) (found : Found) → Finds word found → found ≡ found_of word
+pub found_as : (word : ℕ) (found : Option ℕ) → Finds word found → found ≡ found_of word
 unfolding found_of refusal_of value_of
-found_as word (Number n) p =
+found_as word (Some n) p =
     split (ltb (number_in word) 16)
-    (λ t. let is : n ≡ number_in word = rw t at p.number in rw t (ap Number is))
+    (λ t. let is : n ≡ number_in word = rw t at p.number in rw t (ap Some is))
     (λ t. absurd (let other : ◌≡◌ {A = ℕ} 0 8 = rw t at p.refused in omega (arith, other)))
-found_as word Nothing p =
+found_as word None p =
     split (ltb (number_in word) 16)
     (λ t. absurd (let other : ◌≡◌ {A = ℕ} 8 0 = rw t at p.refused in omega (arith, other)))
     (λ t. rw t)
 
 -- what is found is the number, and nothing is found where there is none
-pub found_is : (word : ℕ) {n : ℕ} → found_of word ≡ Number n → n ≡ number_in word
+pub found_is : (word : ℕ) {n : ℕ} → found_of word ≡ Some n → n ≡ number_in word
 unfolding found_of
 found_is word {n} e =
     split (ltb (number_in word) 16)
-    (λ t. let same : Number (number_in word) ≡ Number n = rw t at e in cc)
-    (λ t. absurd (let other : Nothing ≡ Number n = rw t at e in never other))
+    (λ t. let same : Some (number_in word) ≡ Some n = rw t at e in cc)
+    (λ t. absurd (let other : None ≡ Some n = rw t at e in never other))
   where
-    never : Nothing ≡ Number n → ⊥
+    never : None ≡ Some n → ⊥
     never h = let z : ◌≡◌ {A = ℕ} 0 1 = cc in omega arith
 
 -- a number's entry is found to be that number
-pub entry_found : {number : ℕ} → number < 16 → found_of (entry_of number) ≡ Number number
+pub entry_found : {number : ℕ} → number < 16 → found_of (entry_of number) ≡ Some number
 entry_found {number} h = sym (found_number (entry_of number) (number_entry h) h)
 
 -- what is found is refused 8 or not at all; where it isn't, its entry is the eight bits, and where it is, they are no entry
-pub found_either : (word : ℕ) (P : Found → Type 0) → (number_in word < 16 → P (Number (number_in word))) → (number_in word ≡ 16 → P Nothing) → P (found_of word)
+pub found_either : (word : ℕ) (P : Option ℕ → Type 0) → (number_in word < 16 → P (Some (number_in word))) → (number_in word ≡ 16 → P None) → P (found_of word)
 unfolding found_of table_a1
 found_either word P here there =
     split (ltb (number_in word) 16)

@@ -1,11 +1,11 @@
 -- Wrong answers, two for each public function: its contract rules them out. Stated over the contracts themselves.
 -- Assumes nothing.
+use Rattle.std.specs.Prelude.{Some, None}
 use Rattle.std.proofs.Common.{◌≡◌, ℕ, true, false, sym, ◌∙◌, true≢false, arith}
 use contract.Lifetimes.{Lfts}
 use Rattle.runs.proofs.Wrong.{Never}
 use Rattle.numbers.specs.Numbers.{table_a1, turned, place_in, found_of, word_bit, gathered, difference_of, indication_refused}
 use Rattle.numbers.specs.Code.{sequence_of}
-use Rattle.numbers.specs.declared.Found.TheVariants.{Number, Nothing}
 use Rattle.numbers.proofs.Laws.{found_as}
 use Rattle.numbers.proofs.entry_of.Kinds as entry-of-kinds
 use Rattle.numbers.proofs.entry_of.Reads as entry-of-reads
@@ -23,7 +23,7 @@ unfoldable pub unfolded : Unit {0}
 unfolding table_a1 turned place_in found_of word_bit sequence_of gathered difference_of indication_refused
 unfolded = tt
 
-apart : (n : ℕ) → Nothing ≡ Number n → ⊥
+apart : (n : ℕ) → None ≡ Some n → ⊥
 apart n h = let same : ◌≡◌ {A = ℕ} 0 1 = cc in omega arith
 
 module _ (κs : Lfts 0) where
@@ -38,12 +38,12 @@ module _ (κs : Lfts 0) where
   entry_not_past_the_end x v wrong p = omega arith
 
   -- a receiver that takes no number: an entry of the table answered with nothing
-  pub number_not_always_refused : Never number-of-kinds.ps number-of-kinds.r number-of-reads.Post κs (0x84, tt) (λ x v. x ≡ Nothing)
+  pub number_not_always_refused : Never number-of-kinds.ps number-of-kinds.r number-of-reads.Post κs (0x84, tt) (λ x v. x ≡ None)
   unfolding unfolded
   number_not_always_refused x v wrong p = apart 1 (sym wrong ∙ found_as 0x84 x p)
 
   -- one bit beside number 1's entry is no number, not even number 1
-  pub number_not_the_nearest : (n : ℕ) → Never number-of-kinds.ps number-of-kinds.r number-of-reads.Post κs (0x85, tt) (λ x v. x ≡ Number n)
+  pub number_not_the_nearest : (n : ℕ) → Never number-of-kinds.ps number-of-kinds.r number-of-reads.Post κs (0x85, tt) (λ x v. x ≡ Some n)
   unfolding unfolded
   number_not_the_nearest n x v wrong p = apart n (sym (found_as 0x85 x p) ∙ wrong)
 

@@ -1,9 +1,7 @@
 -- The sequencing word, document 01. A list of bits is told as a function of the bit's place, counted from 0.
 -- Assumes nothing.
-use Rattle.std.specs.Prelude.{◌≡◌, ℕ, zero, suc, ◌+◌, ◌-◌, ◌*◌, ◌/◌, ◌%◌, ◌^◌, Bool, cond, not, ◌&&◌, List, [], ◌∷◌, ◌==◌, count_ones, nat_lt, slice_index}
+use Rattle.std.specs.Prelude.{◌≡◌, ℕ, zero, suc, ◌+◌, ◌-◌, ◌*◌, ◌/◌, ◌%◌, ◌^◌, Bool, cond, not, ◌&&◌, List, [], ◌∷◌, ◌==◌, count_ones, nat_lt, slice_index, Option, Some, None}
 use Rattle.runs.specs.Division.{remainder}
-use Rattle.numbers.specs.declared.Found.{Found}
-use Rattle.numbers.specs.declared.Found.TheVariants.{Number, Nothing}
 
 -- "Table A.1, for numbers 0 to 15 in hex": the first bit sent is the top one
 unfoldable pub table_a1 : List ℕ
@@ -39,20 +37,20 @@ place_in w (x ∷ xs) = cond (x == w) 0 (suc (place_in w xs))
 abbrev pub number_in : ℕ → ℕ
 number_in word = place_in word table_a1
 
-unfoldable pub found_of : ℕ → Found
-found_of word = cond (nat_lt (number_in word) 16) (Number (number_in word)) Nothing
+unfoldable pub found_of : ℕ → Option ℕ
+found_of word = cond (nat_lt (number_in word) 16) (Some (number_in word)) None
 
 -- what is found as the paper has it: the refusal, 8 "the eight number bits aren't in the table", and the number, 0 where there is none
-unfoldable pub refusal_of : Found → ℕ
-refusal_of (Number n) = 0
-refusal_of Nothing = 8
+unfoldable pub refusal_of : Option ℕ → ℕ
+refusal_of (Some n) = 0
+refusal_of None = 8
 
-unfoldable pub value_of : Found → ℕ
-value_of (Number n) = n
-value_of Nothing = 0
+unfoldable pub value_of : Option ℕ → ℕ
+value_of (Some n) = n
+value_of None = 0
 
 -- and that it is this, of eight bits
-pub record Finds (word : ℕ) (found : Found) : Type 0 where
+pub record Finds (word : ℕ) (found : Option ℕ) : Type 0 where
   pub refused : refusal_of found ≡ cond (nat_lt (number_in word) 16) 0 8
   pub number : value_of found ≡ cond (nat_lt (number_in word) 16) (number_in word) 0
 

@@ -5,13 +5,6 @@ ghost use Rattle.runs.specs.Division.{remainder};
 ghost use Rattle.numbers.specs.Numbers.{turned, entry_of, Finds, difference_of, indication_refused};
 ghost use Rattle.numbers.specs.Code.{sequence_of};
 
-// The number that eight sequencing bits are, or nothing where they equal no entry of the table.
-#[derive(Clone, Copy)]
-pub enum Found {
-    Number(u8),
-    Nothing,
-}
-
 // Four bits, the others not looked at, in the opposite order.
 fn turned_round(bits: u8) -> u8
     ensures { result ≡ turned bits }
@@ -55,16 +48,16 @@ pub fn entry_of(number: u8) -> u8
     turned_round(eight) * 16 + turned_round(eight / 16)
 }
 
-// A cell number is accepted only if all eight bits are those that belong to it. The first four are the number's own bits; it is the
-// other four that are worked out and compared.
-pub fn number_of(word: u8) -> Found
+// The number that eight sequencing bits are, or nothing where they equal no entry of the table. A cell number is accepted only if all
+// eight bits are those that belong to it. The first four are the number's own bits; it is the other four that are worked out and compared.
+pub fn number_of(word: u8) -> Option<u8>
     ensures { Finds word result }
 {
     let number = turned_round(word / 16);
     if first_eight(number) / 16 == turned_round(word) {
-        Found::Number(number)
+        Some(number)
     } else {
-        Found::Nothing
+        None
     }
 }
 
@@ -76,18 +69,17 @@ pub fn sequence_of(number: u8, second: u8) -> u64
 }
 
 // The difference of two numbers modulo 16.
+#[tactic(auto, unfolding(crate::specs::Numbers::difference_of))]
 pub fn difference(number: u8, last: u8) -> u8
     ensures { result ≡ difference_of number last }
 {
-    std::num::wrapping_sub_u8(number, last) % 16
+    number.wrapping_sub(last) % 16
 }
 
 // Whether the indication is 1 where the number isn't a multiple of 8.
+#[tactic(auto, unfolding(crate::specs::Numbers::indication_refused))]
 pub fn indication_refused(number: u8, indication: bool) -> bool
     ensures { result ≡ indication_refused number indication }
 {
-    if !indication {
-        return false;
-    }
-    number % 8 != 0
+    indication && number % 8 != 0
 }

@@ -9,7 +9,7 @@ use borrow.Author.Tests.{eq-eqb, ne_eqb, eqb-true}
 use lib.Dec.{eqb, ltb}
 use lib.ListN.{length, get_or, take, drop}
 use Rattle.runs.proofs.Laws.{split}
-use Rattle.cell_log.specs.declared.Header.{Header}
+use Rattle.cell_log.specs.Answers.{Header}
 use Rattle.cell_log.specs.Records.{header_of}
 use Rattle.reading.specs.Heard.{sound_in}
 use Rattle.reading.specs.Reading.{reading_of, fresh_of, behind_header}
@@ -29,16 +29,13 @@ use Rattle.salvaging.specs.Said as Said
 use Rattle.status.specs.Bits.{bit_of, with_bit, zeros}
 use Rattle.status.specs.Check.{check_character}
 use Rattle.status.specs.Sender.{block_after, brought_by, brought_out, Octets, SendsBlock}
-use Rattle.status.specs.Step.{b_of, c_of, no_block, fit_of, unfinished, finished, is_refused, added_to, step_of}
+use Rattle.status.specs.Step.{Stepped, b_of, c_of, no_block, fit_of, unfinished, finished, is_refused, added_to, step_of}
 use Rattle.status.specs.declared.step.Block.{Block}
-use Rattle.status.specs.declared.step.Stepped.{Stepped}
 use Rattle.status.proofs.Sent as status
 use Rattle.cable.specs.Back.{Halves, SameFrame}
 use Rattle.cable.specs.Frames.{import_of, export_of}
 use Rattle.cable.proofs.Back as cable
-use Rattle.circuits.specs.declared.Verdict.{Verdict}
-use Rattle.circuits.specs.declared.Verdict.TheVariants.{Refused, Yes, Share, Allowance, Sum}
-use Rattle.circuits.specs.Circuits.{answer_of, circuit_of, checked_of, check_refusal, octet_refusal}
+use Rattle.circuits.specs.Circuits.{Verdict, Refused, Yes, Share, Allowance, Sum, answer_of, circuit_of, checked_of, check_refusal, octet_refusal}
 use Rattle.circuits.proofs.Checked as circuits
 use Rattle.units.specs.Back as U
 use Rattle.rimesatchel.specs.Contents.{presence_numbers}

@@ -10,11 +10,9 @@ use lib.ListN.{length, get_or}
 use Rattle.runs.proofs.Laws.{split}
 use Rattle.receiver.specs.declared.Receiver.{Receiver}
 use Rattle.receiver.specs.Receiver as R
-use Rattle.status.specs.Run.{is_last, ran_from, ran_not, as_whole, ran_of}
-use Rattle.status.specs.Step.{step_of, is_refused}
-use Rattle.status.specs.declared.run.Ran.{Ran}
+use Rattle.status.specs.Run.{Ran, is_last, ran_from, ran_not, as_whole, ran_of}
+use Rattle.status.specs.Step.{Stepped, step_of, is_refused}
 use Rattle.status.specs.declared.step.Block.{Block}
-use Rattle.status.specs.declared.step.Stepped.{Stepped}
 use Rattle.status.proofs.Refused.{step_refusal_lem}
 use Rattle.hearing.specs.Judging.{judged_over, judged_not, reports_given}
 use Rattle.hearing.specs.Receiving.{call_refusal, begun_as, received_over, column_given}

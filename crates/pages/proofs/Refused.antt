@@ -14,7 +14,7 @@ use Rattle.formats.specs.Formats.{is_listed, format_of, settings_refusal}
 use Rattle.sender.specs.Sender as S
 use Rattle.receiver.specs.Receiver as R
 use Rattle.status.specs.Step.{is_refused}
-use Rattle.status.specs.declared.run.Ran.{Ran}
+use Rattle.status.specs.Run.{Ran}
 use Rattle.reading.specs.Heard.{Heard}
 use Rattle.hearing.specs.Receiving.{call_refusal, samples_of, ancillary_of, marks_of, column_given}
 use Rattle.sender.specs.Many.{batch_refusal}

@@ -4,7 +4,7 @@ use Rattle.std.proofs.Common.{◌≡◌, ℕ, suc, ◌+◌, ◌-◌, ◌%◌, �
 use borrow.Author.Tests.{lt-leb, eqb-false}
 use lib.ListN.{get_or-append}
 use lib.Seq.{take-append-le, drop-append-le, take-append-add, take-append_seam, append_snoc}
-use Rattle.cell_log.specs.declared.Record.{Record}
+use Rattle.cell_log.specs.Answers.{Record}
 use Rattle.cell_log.specs.Records.{header_of, record_at}
 use Rattle.cell_log.proofs.Places.{record_end, record_11, record_12}
 use Rattle.reading.specs.Records.{Walk, is_whole, front_of, records_in, fault_in}

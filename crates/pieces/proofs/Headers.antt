@@ -2,7 +2,7 @@
 -- Assumes nothing.
 use Rattle.std.proofs.Common.{◌≡◌, ℕ, zero, suc, ◌+◌, ◌≤◌, List, [], ◌++◌, length, take, sym, refl, ap, ◌∙◌, append-nil, arith, length-append, length-take-le, take_all, get_or-take, take_at}
 use borrow.Author.Tests.{lt-leb}
-use Rattle.cell_log.specs.declared.Header.{Header}
+use Rattle.cell_log.specs.Answers.{Header}
 use Rattle.cell_log.specs.Code.{number_within}
 use Rattle.cell_log.specs.Numbers.{number_at}
 use Rattle.cell_log.specs.Records.{header_of_numbers, header_of, second_number, third_number}

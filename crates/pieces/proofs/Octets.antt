@@ -6,7 +6,7 @@ use lib.Seq.{drop-length, append_snoc}
 use Rattle.cell_log.specs.Records.{header_of}
 use Rattle.reading.specs.Records.{front_of}
 use Rattle.runs.proofs.Laws.{split, both_true}
-use Rattle.pieces.specs.declared.Found.{Found}
+use Rattle.pieces.specs.Found.{Found}
 use Rattle.pieces.specs.declared.Standing.{Standing}
 use Rattle.pieces.specs.Limit.{Part, head, whole}
 use Rattle.pieces.specs.Steps.{

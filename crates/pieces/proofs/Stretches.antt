@@ -1,11 +1,12 @@
 -- Laws of a stretch: it is the whole records that steps along the piece find one after the other.
 -- Assumes nothing.
-use Rattle.std.proofs.Common.{◌≡◌, ℕ, zero, suc, ◌+◌, ◌-◌, ◌*◌, ◌/◌, ◌%◌, ◌^◌, ◌<◌, ◌≤◌, Bool, true, false, ◌&&◌, eqb, ltb, leb, List, [], ◌∷◌, ◌++◌, map, length, get_or, take, drop, sym, refl, ap, ◌∙◌, subst, append_assoc, append-nil, mul-suc, arith, length-drop, length-take-le, get_or-drop, get_or-take, take-take, drop-drop, ltb-false, ltb-true, le-ltb, eq-eqb, ne_eqb, eqb-true, le-leb}
+use Rattle.std.proofs.Common.{◌≡◌, ℕ, zero, suc, ◌+◌, ◌-◌, ◌*◌, ◌/◌, ◌%◌, ◌^◌, ◌<◌, ◌≤◌, Bool, true, false, ◌&&◌, eqb, ltb, leb, List, [], ◌∷◌, ◌++◌, map, length, min, get_or, take, drop, sym, refl, ap, ◌∙◌, subst, append_assoc, append-nil, mul-suc, arith, length-drop, length-take-le, get_or-drop, get_or-take, take-take, drop-drop, ltb-false, ltb-true, le-ltb, eq-eqb, ne_eqb, eqb-true, le-leb}
 use borrow.Author.Tests.{lt-leb}
+use Rattle.std.proofs.Math.Nat.{min-eq_left, min-eq_right}
 use Rattle.runs.proofs.Laws.{split, both_true}
 use Rattle.reading.specs.Records.{Whole, is_whole, front_of, walk_within}
 use Rattle.reading.proofs.Records.{whole_facts, not_whole, whole_here, front_is}
-use Rattle.pieces.specs.declared.Found.{Found}
+use Rattle.pieces.specs.Found.{Found}
 use Rattle.pieces.specs.declared.Standing.{Standing}
 use Rattle.pieces.specs.declared.Stretch.{Stretch}
 use Rattle.pieces.specs.Limit.{Part, whole}
@@ -93,39 +94,49 @@ least_from a b some any =
     (λ e. rw e some)
     (λ e. rw e any)
 
+-- the library's word for it
+pub least_min : (a b : ℕ) → min a b ≡ least a b
+unfolding least
+least_min a b =
+    split (ltb a b)
+    (λ e. rw e (min-eq_left (omega (arith, ltb-true a b e))))
+    (λ e. rw e (min-eq_right (omega (arith, ltb-false a b e))))
+
 pub least_first : (a b : ℕ) {n : ℕ} → n ≡ least a b → n ≤ a
 least_first a b is = rw is (least_to a b).0
 
 -- along the piece, record by record
-pub record Passing (piece : List ℕ) (place most at n : ℕ) : Type 0 where
-  pub place_is : at ≡ place + 49 * n
+pub record Passing (piece : List ℕ) (place most n : ℕ) : Type 0 where
   pub few : n ≤ most
-  pub still : n + wholes (most - n) (drop at piece) ≡ wholes most (drop place piece)
+  pub still : n + wholes (most - n) (drop (place + 49 * n) piece) ≡ wholes most (drop place piece)
 
 module _ {piece : List ℕ} {place most : ℕ} (fits : place + 49 * most ≤ length piece) where
-  pub passing_start : Passing piece place most place 0
+  pub passing_start : Passing piece place most 0
   passing_start =
       let all : most - 0 ≡ most = omega arith in
-      let still : wholes (most - 0) (drop place piece) ≡ wholes most (drop place piece) = rw all in
-      record { place_is = omega arith; few = omega arith; still = omega (arith, still) }
+      let here : place + 49 * 0 ≡ place = omega arith in
+      let still : wholes (most - 0) (drop (place + 49 * 0) piece) ≡ wholes most (drop place piece) = rw (all, here) refl in
+      record { few = omega arith; still = omega (arith, still) }
 
-  module _ {at n : ℕ} (g : Passing piece place most at n) where
-    pub passing_in : n < most → at + 49 ≤ length piece
-    passing_in more = omega (arith, g.place_is, fits, more)
+  module _ {n : ℕ} (g : Passing piece place most n) where
+    abbrev at : ℕ
+    at = place + 49 * n
 
     first : get_or (drop at piece) 0 0 ≡ get_or piece at 0
     first = let none : at + 0 ≡ at = omega arith in get_or-drop at piece 0 0 ∙ ap (λ (k : ℕ). get_or piece k 0) none
 
-    pub passing_turn : n < most → get_or piece at 0 ≤ 1 → Passing piece place most (at + 49) (n + 1)
+    pub passing_turn : n < most → get_or piece at 0 ≤ 1 → Passing piece place most (n + 1)
     passing_turn more low =
-        let long : 49 ≤ length (drop at piece) = omega (arith, passing_in more, length-drop at piece) in
+        let long : 49 ≤ length (drop at piece) = omega (arith, fits, length-drop at piece) in
         let here : is_whole (drop at piece) ≡ true = whole_here (drop at piece) long (rw first low) in
         let some : most - n ≡ suc (most - (n + 1)) = omega arith in
-        let front : wholes (most - n) (drop at piece) ≡ suc (wholes (most - (n + 1)) (drop (at + 49) piece)) =
+        let next : at + 49 ≡ place + 49 * (n + 1) = omega arith in
+        let front : wholes (most - n) (drop at piece) ≡ suc (wholes (most - (n + 1)) (drop (place + 49 * (n + 1)) piece)) =
         ap (λ (k : ℕ). wholes k (drop at piece)) some
         ∙ wholes_front (most - (n + 1)) (drop at piece) here
-        ∙ ap (λ (l : List ℕ). suc (wholes (most - (n + 1)) l)) (drop-drop 49 at piece) in
-        record { place_is = omega (arith, g.place_is); few = omega arith; still = omega (arith, front, g.still) }
+        ∙ ap (λ (l : List ℕ). suc (wholes (most - (n + 1)) l)) (drop-drop 49 at piece)
+        ∙ ap (λ (k : ℕ). suc (wholes (most - (n + 1)) (drop k piece))) next in
+        record { few = omega arith; still = omega (arith, front, g.still) }
 
     pub passing_stop : 1 < get_or piece at 0 → n ≡ wholes most (drop place piece)
     passing_stop high =
@@ -135,12 +146,12 @@ module _ {piece : List ℕ} {place most : ℕ} (fits : place + 49 * most ≤ len
         (λ e. e) in
         omega (arith, g.still, wholes_stop (most - n) (drop at piece) none)
 
-    pub passing_end : most ≤ n → n ≡ wholes most (drop place piece)
-    unfolding walk_within
-    passing_end all =
-        let none : most - n ≡ 0 = omega arith in
-        let still : n + 0 ≡ wholes most (drop place piece) = rw none at g.still in
-        omega (arith, still)
+  pub passing_end : {n : ℕ} → Passing piece place most n → most ≤ n → most ≡ wholes most (drop place piece)
+  unfolding walk_within
+  passing_end {n} g all =
+      let none : most - n ≡ 0 = omega arith in
+      let still : n + 0 ≡ wholes most (drop place piece) = rw none at g.still in
+      omega (arith, still, g.few)
 
 -- the stretch from a place on
 module _ (most : ℕ) (s : Standing) (piece : List ℕ) (place : ℕ) where

@@ -4,7 +4,7 @@ use Rattle.std.proofs.Common.{◌≡◌, ℕ, zero, suc, ◌+◌, ◌-◌, ◌%�
 use Rattle.runs.proofs.Laws.{split, neither}
 use Rattle.cell_log.specs.Records.{header_of}
 use Rattle.reading.specs.Records.{front_of}
-use Rattle.pieces.specs.declared.Found.{Found}
+use Rattle.pieces.specs.Found.{Found}
 use Rattle.pieces.specs.declared.Standing.{Standing}
 use Rattle.pieces.specs.Limit.{Part, whole, parts_of}
 use Rattle.pieces.specs.Steps.{

@@ -1,12 +1,14 @@
 -- Wrong answers to the public functions: the contracts rule each of them out. And a wrong walk over pieces: it forgets what is held
 -- where a piece ends inside a record, and the theorem of any division is false of it.
 -- Assumes nothing.
-use Rattle.std.proofs.Common.{◌≡◌, ℕ, Bool, true, false, List, [], ◌∷◌, ◌++◌, length, replicate, sym, ap, ◌∙◌, true≢false, arith}
+use Rattle.std.proofs.Common.{Option, Some, None, ◌≡◌, ℕ, Bool, true, false, List, [], ◌∷◌, ◌++◌, length, replicate, sym, ap, ◌∙◌, true≢false, arith}
 use contract.Lifetimes.{Lfts}
 use Rattle.runs.proofs.Wrong.{Never, Place, lent, lent_mut}
 use Rattle.cell_log.proofs.Wrong as log
 use Rattle.reading.proofs.Computed as reading
-use Rattle.pieces.specs.declared.Found.{Found}
+use Rattle.pieces.specs.declared.What.{What}
+use Rattle.pieces.specs.declared.What.TheVariants as kind
+use Rattle.pieces.specs.Found.{Found, number_of, numbered}
 use Rattle.pieces.specs.declared.Standing.{Standing}
 use Rattle.pieces.specs.Limit.{Part, records_to, fault_to, end_part, parts_of}
 use Rattle.pieces.specs.Steps.{
@@ -33,8 +35,6 @@ use Rattle.pieces.proofs.next.Kinds as next-kinds
 use Rattle.pieces.proofs.next.Reads as next-reads
 use Rattle.pieces.proofs.record_octets.Kinds as record-octets-kinds
 use Rattle.pieces.proofs.record_octets.Reads as record-octets-reads
-use Rattle.pieces.proofs.sized.Kinds as sized-kinds
-use Rattle.pieces.proofs.sized.Reads as sized_Reads
 use Rattle.pieces.proofs.start.Kinds as start-kinds
 use Rattle.pieces.proofs.start.Reads as start-reads
 use Rattle.pieces.proofs.stretch_at.Kinds as stretch-at-kinds
@@ -59,6 +59,10 @@ zeros = replicate 49 0
 abbrev ones : List ℕ
 ones = replicate 49 1
 
+unfoldable octets_or : Option (List ℕ) → List ℕ
+octets_or (Some octets) = octets
+octets_or None = []
+
 unfoldable first : List ℕ → ℕ
 first [] = 0
 first (x ∷ l) = x
@@ -66,7 +70,7 @@ first (x ∷ l) = x
 module _ (κs : Lfts 2) (p q : Place) where
   abbrev Next : Standing → List ℕ → (Found → List ℕ → Type 0) → Type 0
   Next s piece Wrong =
-      Never next-kinds.ps next-kinds.r next-reads.Post κs (s, (lent_mut p zeros, (lent q piece, (0, tt)))) (λ x v. Wrong x v.1.0)
+      Never next-kinds.ps next-kinds.r next-reads.Post κs (s, (lent_mut p zeros, (lent q piece, (0, tt)))) (λ x v. Wrong (numbered x) v.1.0)
 
   -- the octet held is forgotten where the piece ends inside a record
   pub held_octet_not_forgotten : Next (among 0 100) (1 ∷ []) (λ x held. x.standing.count ≡ 0)
@@ -83,7 +87,7 @@ module _ (κs : Lfts 2) (p q : Place) where
   -- an octet above 1 taken for an indication
   pub no_record_begins_with_2 : Next (among 0 100) (2 ∷ []) (λ x held. x.what ≡ 0)
   unfolding steps_unfolded
-  no_record_begins_with_2 x v wrong s = let right : x.what ≡ 4 = ap (λ (f : Found). f.what) s.answered in omega arith
+  no_record_begins_with_2 x v wrong s = let right : number_of x.what ≡ 4 = ap (λ (f : Found). f.what) s.answered in omega arith
 
   -- an octet past the limit taken
   pub octet_past_the_limit_not_taken : Next (among 5 0) (0 ∷ []) (λ x held. x.standing.fault ≡ 0)
@@ -97,19 +101,21 @@ module _ (κs : Lfts 2) (p q : Place) where
   whole_record_counted x v wrong s =
       let right : x.standing.records ≡ 8 = ap (λ (f : Found). f.standing.records) s.answered in omega arith
 
-  abbrev Octets : ℕ → (List ℕ → Type 0) → Type 0
+  abbrev Octets : What → (Option (List ℕ) → Type 0) → Type 0
   Octets what Wrong =
       Never record-octets-kinds.ps record-octets-kinds.r record-octets-reads.Post κs
       (what, (lent p zeros, (lent q ones, (0, tt)))) (λ x v. Wrong x)
 
   -- a record in the piece taken from what is held, and one that is held from the piece
-  pub octets_in_the_piece : Octets 2 (λ x. x ≡ zeros)
-  unfolding in_piece found_octets first
-  octets_in_the_piece x v wrong s = let octet : ◌≡◌ {A = ℕ} 0 1 = ap first (sym wrong ∙ s) in omega arith
+  pub octets_in_the_piece : Octets kind.InPiece (λ x. x ≡ Some zeros)
+  unfolding is_record in_piece found_octets octets_or first
+  octets_in_the_piece x v wrong s =
+      let octet : ◌≡◌ {A = ℕ} 0 1 = ap (λ (x : Option (List ℕ)). first (octets_or x)) (sym wrong ∙ s) in omega arith
 
-  pub octets_that_are_held : Octets 3 (λ x. x ≡ ones)
-  unfolding in_piece found_octets first
-  octets_that_are_held x v wrong s = let octet : ◌≡◌ {A = ℕ} 1 0 = ap first (sym wrong ∙ s) in omega arith
+  pub octets_that_are_held : Octets kind.Held (λ x. x ≡ Some ones)
+  unfolding is_record in_piece found_octets octets_or first
+  octets_that_are_held x v wrong s =
+      let octet : ◌≡◌ {A = ℕ} 1 0 = ap (λ (x : Option (List ℕ)). first (octets_or x)) (sym wrong ∙ s) in omega arith
 
 -- two records and the first octet of a third, which is none
 abbrev pairs : List ℕ
@@ -146,15 +152,15 @@ module _ (κs : Lfts 1) (p : Place) where
   stretch_is_counted x v wrong s = let right : x.standing.records ≡ 9 = ap (λ (f : Stretch). f.standing.records) s in omega arith
 
 module _ (κs : Lfts 0) where
-  abbrev IsRecord : ℕ → (Bool → Type 0) → Type 0
+  abbrev IsRecord : What → (Bool → Type 0) → Type 0
   IsRecord what Wrong = Never is-record-kinds.ps is-record-kinds.r is-record-reads.Post κs (what, tt) (λ x v. Wrong x)
 
   -- a record that is held passed over, and a fault taken for a record
-  pub held_record_not_passed_over : IsRecord 3 (λ x. x ≡ false)
+  pub held_record_not_passed_over : IsRecord kind.Held (λ x. x ≡ false)
   unfolding is_record
   held_record_not_passed_over x v wrong s = true≢false (sym s ∙ wrong)
 
-  pub fault_is_no_record : IsRecord 4 (λ x. x ≡ true)
+  pub fault_is_no_record : IsRecord kind.Fault (λ x. x ≡ true)
   unfolding is_record
   fault_is_no_record x v wrong s = true≢false (sym wrong ∙ s)
 
@@ -181,17 +187,6 @@ module _ (κs : Lfts 0) where
   -- records before the header is read
   pub start_is_in_the_header : Start 1000 (λ x. x.stage ≡ 1)
   start_is_in_the_header x v wrong s = let right : x.stage ≡ 0 = ap (λ (t : Standing). t.stage) s in omega arith
-
-  abbrev Sized : (List ℕ → Type 0) → Type 0
-  Sized Wrong = Never sized-kinds.ps sized-kinds.r sized_Reads.Post κs (zeros, tt) (λ x v. Wrong x)
-
-  -- shorter, or with another octet
-  pub sized_not_shorter : Sized (λ x. length x ≡ 48)
-  sized_not_shorter x v wrong s = omega (arith, s.1)
-
-  pub sized_not_altered : Sized (λ x. x ≡ replicate 49 1)
-  unfolding first
-  sized_not_altered x v wrong s = let octet : ◌≡◌ {A = ℕ} 1 0 = ap first (sym wrong ∙ s.0) in omega arith
 
 -- a walk that forgets
 unfoldable pub forgotten : Taking → Taking

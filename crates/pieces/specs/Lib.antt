@@ -1,3 +1,4 @@
+pub mod Found
 pub mod Limit
 pub mod Steps
 pub mod Stretch

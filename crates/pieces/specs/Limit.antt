@@ -1,7 +1,7 @@
 -- A log with a limit on its octets, request 14: its parts in their order, which are the header, the whole records and the fault.
 -- Assumes nothing.
 use Rattle.std.specs.Prelude.{ℕ, ◌-◌, cond, List, [], ◌∷◌, ◌++◌, map, length, take, ◌==◌, nat_le}
-use Rattle.cell_log.specs.declared.Header.{Header}
+use Rattle.cell_log.specs.Answers.{Header}
 use Rattle.cell_log.specs.Records.{header_of}
 use Rattle.reading.specs.Reading.{behind_header}
 use Rattle.reading.specs.Records.{Whole, records_in, fault_in}

@@ -1,9 +1,9 @@
 -- What a step along a piece answers, and what the lent array holds afterwards.
 -- Assumes nothing.
-use Rattle.std.specs.Prelude.{◌≡◌, ℕ, zero, suc, ◌+◌, ◌-◌, ◌%◌, ◌^◌, Bool, cond, not, ◌&&◌, ◌||◌, List, [], ◌∷◌, ◌++◌, length, take, drop, ◌==◌, nat_le, nat_lt, slice_index, slice_set}
+use Rattle.std.specs.Prelude.{◌≡◌, ℕ, zero, suc, ◌+◌, ◌-◌, ◌%◌, ◌^◌, Bool, cond, not, ◌&&◌, ◌||◌, Option, Some, None, List, [], ◌∷◌, ◌++◌, length, take, drop, ◌==◌, nat_le, nat_lt, slice_index, slice_set}
 use Rattle.cell_log.specs.Records.{header_of}
 use Rattle.reading.specs.Records.{front_of}
-use Rattle.pieces.specs.declared.Found.{Found}
+use Rattle.pieces.specs.Found.{Found}
 use Rattle.pieces.specs.declared.Standing.{Standing}
 use Rattle.pieces.specs.Limit.{Part, head, whole}
 use Rattle.pieces.specs.Taken.{Taking, fault_part, handed, end_parts}
@@ -103,6 +103,10 @@ in_piece what size place = what == 2 && nat_le (place + 49) size
 -- its octets: those in the piece, or those held
 unfoldable pub found_octets : ℕ → List ℕ → List ℕ → ℕ → List ℕ
 found_octets what held piece place = cond (in_piece what (length piece) place) (take 49 (drop place piece)) held
+
+-- and nothing where what was found is no record
+abbrev pub octets_found : ℕ → List ℕ → List ℕ → ℕ → Option (List ℕ)
+octets_found what held piece place = cond (is_record what) (Some (found_octets what held piece place)) None
 
 -- where a log stands behind a piece: the standing, and what the lent array holds
 pub record Stood : Type 0 where

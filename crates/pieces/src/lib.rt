@@ -2,6 +2,8 @@
 // A log taken in pieces, request 14: what turns pieces of any length into the header and the records of the log. The octets of a
 // part that isn't whole yet are held in an array that the caller lends.
 ghost use Rattle.std.specs.Prelude.{◌≡◌, ◌+◌, ◌-◌, ◌<◌, ◌≤◌, length, take, drop};
+ghost use Rattle.cell_log.specs.Records.{header_of};
+ghost use Rattle.pieces.specs.Found.{number_of, numbered};
 ghost use Rattle.pieces.specs.Steps.{
   start_of,
   taking_of,
@@ -14,7 +16,7 @@ ghost use Rattle.pieces.specs.Steps.{
   Steps,
   is_record,
   in_piece,
-  found_octets,
+  octets_found,
 };
 ghost use Rattle.pieces.specs.Stretch.{stretch_of, past_stretch};
 ghost use Rattle.pieces.specs.Taken.{end_fault};
@@ -24,7 +26,8 @@ mod ahead; // ahead.rt: how many whole records lie ahead
 // Where a log stands. Its stage: 0 in the header, 1 among the records, 2 the header is refused, 3 a record is broken; the
 // refusal, 0 before that; how many octets are held; how many octets the limit leaves, in the header those of the whole log;
 // how many records were handed out.
-#[derive(Clone, Copy)]
+// The stage and the refusal stay numbers: a standing that comes from C has any octet for each, and the calls give it back (`ListTaken`).
+#[derive(Clone, Copy, Debug, PartialEq, Eq, Hash)]
 pub struct Standing {
     pub stage: u8,
     pub fault: u8,
@@ -33,11 +36,24 @@ pub struct Standing {
     pub records: u64,
 }
 
-// What was found at a place of a piece: 0 nothing that is whole; 1 the header, which is the first three octets held; 2 a record in
-// the piece, at this place; 3 a record, which is the octets held; 4 a fault. Then the place to go on at, and the standing.
-#[derive(Clone, Copy)]
+// What was found at a place of a piece.
+#[derive(Clone, Copy, Debug, PartialEq, Eq, Hash)]
+pub enum What {
+    // nothing that is whole
+    Nothing,
+    // the header, which is the first three octets held
+    Header,
+    // a record in the piece, at this place
+    InPiece,
+    // a record, which is the octets held
+    Held,
+    Fault,
+}
+
+// What was found, the place to go on at, and the standing there.
+#[derive(Clone, Copy, Debug, PartialEq, Eq, Hash)]
 pub struct Found {
-    pub what: u8,
+    pub what: What,
     pub next: usize,
     pub standing: Standing,
 }
@@ -55,100 +71,92 @@ pub fn start(limit: u64) -> Standing
     }
 }
 
-fn fault_found(standing: Standing, stage: u8, refusal: u8, end: usize) -> Found
-    ensures { result ≡ fault_found standing stage refusal end }
+fn fault_found(standing: Standing, stage: u8, fault: u8, end: usize) -> Found
+    ensures { numbered result ≡ fault_found standing stage fault end }
 {
     Found {
-        what: 4,
+        what: What::Fault,
         next: end,
         standing: Standing {
             stage,
-            fault: refusal,
+            fault,
             count: 0,
-            left: standing.left,
-            records: standing.records,
+            ..standing
         },
     }
 }
 
-// How many octets the limit leaves behind a header.
-fn behind_header(left: u64) -> u64
-    ensures { result ≡ left - 3 }
+// The refusal of the header that octets begin with (0: none).
+fn header_refusal(octets: &[u8]) -> u8
+    ensures { result ≡ (header_of octets.now).refusal }
 {
-    if left < 3 { 0 } else { left - 3 }
+    match cell_log::read_header(octets) {
+        Ok(_) => 0,
+        Err(refusal) => refusal.into(),
+    }
 }
 
 // What the header's newest octet makes of it. It is held already.
+#[tactic(auto, unfolding(crate::specs::Steps::header_found))]
 fn header_found(standing: Standing, held: [u8; 49], next: usize, end: usize) -> Found
-    ensures { result ≡ header_found standing held next end }
+    ensures { numbered result ≡ header_found standing held next end }
 {
     let count = standing.count % 9;
-    if count == 2 {
-        let header = cell_log::read_header(&held[..3]);
-        if header.refusal == 0 {
-            let left = behind_header(standing.left);
-            return Found {
-                what: 1,
-                next,
-                standing: Standing {
-                    stage: 1,
-                    fault: standing.fault,
-                    count: 0,
-                    left,
-                    records: standing.records,
-                },
-            };
-        }
+    if count == 2 && header_refusal(&held[..3]) == 0 {
+        return Found {
+            what: What::Header,
+            next,
+            standing: Standing {
+                stage: 1,
+                count: 0,
+                left: standing.left.saturating_sub(3),
+                ..standing
+            },
+        };
     }
     if count == 8 {
-        let header = cell_log::read_header(&held[..9]);
-        return fault_found(standing, 2, header.refusal, end);
+        return fault_found(standing, 2, header_refusal(&held[..9]), end);
     }
-    let more = count + 1;
     Found {
-        what: 0,
+        what: What::Nothing,
         next,
         standing: Standing {
             stage: 0,
-            fault: standing.fault,
-            count: more,
-            left: standing.left,
-            records: standing.records,
+            count: count + 1,
+            ..standing
         },
     }
 }
 
 // What a record's newest octet makes of it. It is held already.
+#[tactic(auto, unfolding(crate::specs::Steps::record_found))]
 fn record_found(standing: Standing, next: usize) -> Found
     requires { 0 < standing.left }
-    ensures { result ≡ record_found standing next }
+    ensures { numbered result ≡ record_found standing next }
 {
     let count = standing.count % 49;
     let left = standing.left - 1;
     if count == 48 {
-        let records = std::num::wrapping_add_u64(standing.records, 1);
         return Found {
-            what: 3,
+            what: What::Held,
             next,
             standing: Standing {
                 stage: 1,
-                fault: standing.fault,
                 count: 0,
                 left,
-                records,
+                records: standing.records.wrapping_add(1),
+                ..standing
             },
         };
     }
-    let more = count + 1;
     Found {
-        what: 0,
+        what: What::Nothing,
         next,
         standing: Standing {
             stage: 1,
-            fault: standing.fault,
-            count: more,
+            count: count + 1,
             left,
-            records: standing.records,
+            ..standing
         },
     }
 }
@@ -156,31 +164,27 @@ fn record_found(standing: Standing, next: usize) -> Found
 // A record that lies whole in the piece.
 fn whole_found(standing: Standing, next: usize) -> Found
     requires { 49 ≤ standing.left }
-    ensures { result ≡ whole_found standing next }
+    ensures { numbered result ≡ whole_found standing next }
 {
-    let left = standing.left - 49;
-    let records = std::num::wrapping_add_u64(standing.records, 1);
     Found {
-        what: 2,
+        what: What::InPiece,
         next,
         standing: Standing {
             stage: 1,
-            fault: standing.fault,
             count: 0,
-            left,
-            records,
+            left: standing.left - 49,
+            records: standing.records.wrapping_add(1),
+            ..standing
         },
     }
 }
 
 // 11 at once: an octet above 1 that begins a record.
+#[tactic(auto, unfolding(crate::specs::Steps::begins_above))]
 fn begins_above(count: usize, octet: u8) -> bool
     ensures { result ≡ begins_above count octet }
 {
-    if count == 0 {
-        return 1 < octet;
-    }
-    false
+    count == 0 && 1 < octet
 }
 
 // Whether a record begins here and lies whole in what is ahead, and within the limit.
@@ -188,25 +192,20 @@ fn begins_above(count: usize, octet: u8) -> bool
 fn lies_whole(count: usize, ahead: usize, left: u64) -> bool
     ensures { result ≡ lies_whole count ahead left }
 {
-    if count != 0 {
-        return false;
-    }
-    if ahead < 49 {
-        return false;
-    }
-    49 <= left
+    count == 0 && 49 <= ahead && 49 <= left
 }
 
 // Goes on at a place of a piece, and stops where something is whole or an octet more is held. A caller goes on with `next` until the
 // piece ends. A record that lies whole in the piece is handed out as a place in it; octets of another one go into `held`. Behind a
 // fault nothing is read: the place to go on at is then the piece's end. A place at the piece's end or past it finds nothing.
+#[tactic(auto, using(crate::proofs::Laws::lies_facts), unfolding(crate::specs::Steps::next_of, crate::specs::Steps::held_now))]
 pub fn next(standing: Standing, held: &mut [u8; 49], piece: &[u8], place: usize) -> Found
-    ensures { Steps standing held.old piece.now place result held.new }
+    ensures { Steps standing held.old piece.now place (numbered result) held.new }
 {
     let end = piece.len();
     if end <= place {
         return Found {
-            what: 0,
+            what: What::Nothing,
             next: place,
             standing,
         };
@@ -221,7 +220,7 @@ pub fn next(standing: Standing, held: &mut [u8; 49], piece: &[u8], place: usize)
     }
     if standing.stage != 1 {
         return Found {
-            what: 0,
+            what: What::Nothing,
             next: end,
             standing,
         };
@@ -242,51 +241,34 @@ pub fn next(standing: Standing, held: &mut [u8; 49], piece: &[u8], place: usize)
 
 // The refusal at the log's end (0: none): a header that isn't taken by then, or 12 for a record that is cut. A fault that was found
 // before isn't told again.
+#[tactic(auto, unfolding(crate::specs::Taken::end_fault, crate::specs::Steps::taking_of, crate::specs::Steps::held_count))]
 pub fn end(standing: Standing, held: [u8; 49]) -> u8
     ensures { result ≡ end_fault (taking_of standing held) }
 {
     if standing.stage == 0 {
         let count = standing.count % 9;
-        let header = cell_log::read_header(&held[..count]);
-        return header.refusal;
+        return header_refusal(&held[..count]);
     }
-    if standing.stage != 1 {
-        return 0;
-    }
-    if standing.count % 49 == 0 {
+    if standing.stage != 1 || standing.count % 49 == 0 {
         return 0;
     }
     12
 }
 
-// The array that holds octets, as it is: it tells a caller that lends it on how long it is.
-pub fn sized(held: [u8; 49]) -> [u8; 49]
-    ensures { (result ≡ held) × (length result ≡ 49) }
-{
-    held
-}
-
 // Whether what was found is a record.
-pub fn is_record(what: u8) -> bool
-    ensures { result ≡ is_record what }
+#[tactic(auto, unfolding(crate::specs::Steps::is_record))]
+pub fn is_record(what: What) -> bool
+    ensures { result ≡ is_record (number_of what) }
 {
-    if what == 2 {
-        return true;
-    }
-    what == 3
+    matches!(what, What::InPiece | What::Held)
 }
 
 // Whether it lies in a piece of this size, at this place.
-fn in_piece(what: u8, size: usize, place: usize) -> bool
-    ensures { result ≡ in_piece what size place }
+#[tactic(auto, unfolding(crate::specs::Steps::in_piece))]
+fn in_piece(what: What, size: usize, place: usize) -> bool
+    ensures { result ≡ in_piece (number_of what) size place }
 {
-    if what != 2 {
-        return false;
-    }
-    if size < 49 {
-        return false;
-    }
-    place <= size - 49
+    matches!(what, What::InPiece) && 49 <= size && place <= size - 49
 }
 
 // A record that lies in a piece, as an array.
@@ -295,27 +277,27 @@ fn copied(piece: &[u8], place: usize) -> [u8; 49]
     ensures { result ≡ take 49 (drop place piece.now) }
 {
     let mut octets = [0u8; 49];
-    let mut i = 0;
-    while i < 49 {
-        octets[i] = piece[place + i];
-        i += 1;
-    }
+    octets.copy_from_slice(&piece[place..place + 49]);
     octets
 }
 
-// The octets of a record that was found: those in the piece, or else those held. With them in one array a caller handles a record
-// in one place of the program: what is called in two isn't compiled into its loop.
-pub fn record_octets(what: u8, held: &[u8; 49], piece: &[u8], place: usize) -> [u8; 49]
-    ensures { result ≡ found_octets what held.now piece.now place }
+// The octets of a record, where one was found: those in the piece, or else those held. With them in one array a caller handles a
+// record in one place of the program: what is called in two isn't compiled into its loop.
+#[tactic(auto, using(crate::proofs::Laws::in_room), unfolding(crate::specs::Steps::found_octets))]
+pub fn record_octets(what: What, held: &[u8; 49], piece: &[u8], place: usize) -> Option<[u8; 49]>
+    ensures { result ≡ octets_found (number_of what) held.now piece.now place }
 {
-    if in_piece(what, piece.len(), place) {
-        return copied(piece, place);
+    if !is_record(what) {
+        return None;
     }
-    *held
+    if in_piece(what, piece.len(), place) {
+        return Some(copied(piece, place));
+    }
+    Some(*held)
 }
 
 // Whole records that lie one behind the other in a piece: how many, the place behind them, and the standing there.
-#[derive(Clone, Copy)]
+#[derive(Clone, Copy, Debug, PartialEq, Eq, Hash)]
 pub struct Stretch {
     pub records: usize,
     pub next: usize,
@@ -338,16 +320,15 @@ pub fn stretch_at(standing: Standing, piece: &[u8], place: usize, most: usize) -
     let octets = 49 * records;
     let next = place + octets;
     let left = standing.left - octets as u64;
-    let counted = std::num::wrapping_add_u64(standing.records, records as u64);
     Stretch {
         records,
         next,
         standing: Standing {
             stage: 1,
-            fault: standing.fault,
             count: 0,
             left,
-            records: counted,
+            records: standing.records.wrapping_add(records as u64),
+            ..standing
         },
     }
 }

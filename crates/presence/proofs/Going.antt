@@ -1,21 +1,21 @@
 -- Laws of a search through the parts of a log, and what any division of it comes to.
 -- Assumes nothing.
-use Rattle.std.proofs.Common.{◌≡◌, ℕ, ◌+◌, ◌-◌, ◌%◌, ◌^◌, ◌<◌, ◌≤◌, true, false, eqb, List, [], ◌∷◌, ◌++◌, map, length, take, sym, refl, ap, ◌∙◌, mod-eq_of_lt, arith, length-drop, take_all, eq-eqb, ne_eqb, eqb-true}
+use Rattle.std.proofs.Common.{◌≡◌, ℕ, ◌+◌, ◌-◌, ◌%◌, ◌^◌, ◌<◌, ◌≤◌, true, false, eqb, List, [], ◌∷◌, ◌++◌, map, length, sym, refl, ap, ◌∙◌, mod-eq_of_lt, arith, length-drop, take_all, eq-eqb, ne_eqb, eqb-true}
 use borrow.Author.Tests.{eqb-false}
 use Rattle.runs.proofs.Laws.{split}
 use Rattle.cell_log.specs.Records.{header_of}
 use Rattle.receiver.specs.declared.Receiver.{Receiver}
 use Rattle.reading.specs.Heard.{heard_by, hear, onward, heard_from}
 use Rattle.reading.specs.Reading.{fresh_of, behind_header}
-use Rattle.reading.specs.Records.{Whole, front_of, records_in}
+use Rattle.reading.specs.Records.{Whole, records_in}
 use Rattle.reading.proofs.Reading.{header_three}
 use Rattle.reading.proofs.Records.{octets_counted}
-use Rattle.pieces.specs.declared.Found.{Found}
+use Rattle.pieces.specs.Found.{Found}
 use Rattle.pieces.specs.declared.Standing.{Standing}
-use Rattle.pieces.specs.Limit.{Part, head, whole, refused, broken, records_to, fault_to, end_part, parts_of}
-use Rattle.pieces.specs.Steps.{taking_of, stood_of, Steps, found_parts, is_record, found_octets, handed_over}
+use Rattle.pieces.specs.Limit.{Part, whole, records_to, fault_to, end_part, parts_of}
+use Rattle.pieces.specs.Steps.{taking_of, stood_of, Steps, found_parts, handed_over}
 use Rattle.pieces.specs.Taken.{Taking, handed, end_fault, end_parts, joined_of}
-use Rattle.pieces.proofs.Walks.{Along, along_start, along_turn, along_end, turn_on, division_parts, found_record, no_record}
+use Rattle.pieces.proofs.Walks.{Along, along_start, along_turn, along_end, turn_on, division_parts}
 use Rattle.presence.specs.declared.Search.{Search}
 use Rattle.presence.specs.declared.Sought.{Sought}
 use Rattle.presence.specs.declared.sounds.Said.{Said}
@@ -56,7 +56,7 @@ module _ (t : Sought) (w : Whole) where
         (ap (λ (s : Said). s.state) is))
 
     pub past_no : {number : ℕ} → said.sounds ≡ false → number ≡ (t.number + 1) % 2 ^ 64
-        → record { state = said.state; refusal = t.refusal; found = false; number = number } ≡ past_record t w
+        → record { state = said.state; refusal = t.refusal; found = t.found; number = number } ≡ past_record t w
     unfolding past_record past_heard
     past_no e number_is =
         rw (none, says, e)
@@ -68,56 +68,15 @@ unfolding sought_of
 sought_joined t [] b = refl
 sought_joined t (p ∷ a) b = sought_joined (past_part t p) a b
 
--- what was found, by its kind
-module _ (t : Sought) (f : Found) (held piece : List ℕ) (place : ℕ) where
-  past_one : {r : Sought} {p : Part} → found_parts f held piece place ≡ p ∷ [] → r ≡ past_part t p
-      → r ≡ sought_of t (found_parts f held piece place)
+-- past one part, and past none
+module _ (t : Sought) {parts : List Part} where
+  pub past_one : {r : Sought} {p : Part} → parts ≡ p ∷ [] → r ≡ past_part t p → r ≡ sought_of t parts
   unfolding sought_of
   past_one is e = e ∙ ap (sought_of t) (sym is)
 
-  pub past_one_record : {r : Sought} → (f.what ≡ 2 → place + 49 ≤ length piece) → is_record f.what ≡ true
-      → r ≡ past_record t (front_of (found_octets f.what held piece place)) → r ≡ sought_of t (found_parts f held piece place)
-  unfolding past_part
-  past_one_record room is e =
-      past_one {p = whole (front_of (found_octets f.what held piece place))} (found_record f held piece place room is) e
-
-  pub past_header : {r : Sought} → f.what ≡ 1 → r ≡ fresh_sought (header_of (take 3 held))
-      → r ≡ sought_of t (found_parts f held piece place)
-  unfolding found_parts past_part
-  past_header one e = past_one {p = head (header_of (take 3 held))} (rw (eq-eqb f.what 1 one)) e
-
-  module _ (not-1 : f.what ≡ 1 → ⊥) (none : is_record f.what ≡ false) where
-    pub past_nothing : (f.what ≡ 4 → ⊥) → t ≡ sought_of t (found_parts f held piece place)
-    unfolding found_parts sought_of
-    past_nothing not-4 =
-        rw (ne_eqb f.what 1 not-1, (no_record f.what none).0, (no_record f.what none).1, ne_eqb f.what 4 not-4)
-
-    module _ (four : f.what ≡ 4) where
-      pub past_refused : {r : Sought} → f.standing.stage ≡ 2
-          → r ≡ record { state = t.state; refusal = f.standing.fault; found = t.found; number = t.number }
-          → r ≡ sought_of t (found_parts f held piece place)
-      unfolding found_parts past_part
-      past_refused two e =
-          past_one {p = refused f.standing.fault}
-          (rw (
-            ne_eqb f.what 1 not-1,
-            (no_record f.what none).0,
-            (no_record f.what none).1,
-            eq-eqb f.what 4 four,
-            eq-eqb f.standing.stage 2 two,
-          )) e
-
-      pub past_broken : (f.standing.stage ≡ 2 → ⊥) → t ≡ sought_of t (found_parts f held piece place)
-      unfolding found_parts past_part
-      past_broken other =
-          past_one {p = broken f.standing.fault}
-          (rw (
-            ne_eqb f.what 1 not-1,
-            (no_record f.what none).0,
-            (no_record f.what none).1,
-            eq-eqb f.what 4 four,
-            ne_eqb f.standing.stage 2 other,
-          )) refl
+  pub past_none : parts ≡ [] → t ≡ sought_of t parts
+  unfolding sought_of
+  past_none is = ap (sought_of t) (sym is)
 
 -- along a piece: the parts so far, and what is known behind them
 pub record Going (from : Standing) (first : Sought) (lent piece : List ℕ) (s : Standing) (t : Sought) (held : List ℕ)

@@ -2,8 +2,7 @@
 -- Assumes nothing.
 use Rattle.std.proofs.Common.{◌≡◌, ℕ, ◌+◌, ◌≤◌, true, false, cond, eqb, List, ◌∷◌, length, drop, sym, refl, ap, ◌∙◌, ap₂, arith, eq-eqb, ne_eqb}
 use Rattle.runs.proofs.Laws.{split}
-use Rattle.cell_log.specs.declared.Header.{Header}
-use Rattle.cell_log.specs.declared.Record.{Record}
+use Rattle.cell_log.specs.Answers.{Header, Record}
 use Rattle.cell_log.specs.Records.{header_of, record_at, cell_at}
 use Rattle.cell_log.proofs.Places.{cell_facts}
 use Rattle.receiver.specs.declared.Receiver.{Receiver}
@@ -60,6 +59,10 @@ along_start read = record { read = read; few = omega arith; still = refl }
 module _ {log : List ℕ} {st₀ st : Receiver} {place₀ number₀ place number : ℕ} {found : Record}
     (a : Along log st₀ place₀ number₀ st place number found)
   where
+    -- what is read there is one answer, however it is had
+    pub seen : {found' : Record} → found' ≡ record_at log place → Along log st₀ place₀ number₀ st place number found'
+    seen f = record { read = f; few = a.few; still = a.still }
+
     what_is : found.what ≡ (record_at log place).what
     what_is = ap (λ (r : Record). r.what) a.read
 

@@ -1,7 +1,7 @@
 -- Request 7: "is there a sample marked 0 that isn't zero?"
 -- Assumes nothing.
 use Rattle.std.specs.Prelude.{ℕ, suc, Bool, true, false, cond, ◌||◌, List, [], ◌∷◌, length, drop, ◌==◌}
-use Rattle.cell_log.specs.declared.Header.{Header}
+use Rattle.cell_log.specs.Answers.{Header}
 use Rattle.receiver.specs.declared.Receiver.{Receiver}
 use Rattle.reading.specs.Heard.{Heard, hear, onward, heard_from}
 use Rattle.reading.specs.Reading.{fresh_of, reading_of}

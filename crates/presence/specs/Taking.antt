@@ -1,7 +1,7 @@
 -- The answer for a log that is taken in pieces: what is known behind each part of it.
 -- Assumes nothing.
 use Rattle.std.specs.Prelude.{◌≡◌, ℕ, ◌+◌, ◌%◌, ◌^◌, Bool, true, false, cond, not, ◌&&◌, List, [], ◌∷◌, nat_lt}
-use Rattle.cell_log.specs.declared.Header.{Header}
+use Rattle.cell_log.specs.Answers.{Header}
 use Rattle.receiver.specs.Receiver.{opened_of}
 use Rattle.reading.specs.Heard.{Heard, hear, onward}
 use Rattle.reading.specs.Reading.{fresh_of}

@@ -1,9 +1,7 @@
 #![tactic(auto)]
 // Is there anything on it at all? Request 7: whether a log holds a sample marked 0 that isn't zero, and in which record first.
-ghost use Rattle.std.specs.Prelude.{◌≡◌, true, false, ◌++◌};
-ghost use Rattle.text.specs.Put.{Puts};
-ghost use Rattle.text.specs.Text.{item};
-ghost use Rattle.text.specs.Words.{words};
+ghost use Rattle.std.specs.Prelude.{◌≡◌, true, false};
+ghost use Rattle.cell_log.specs.Records.{header_answered};
 ghost use Rattle.presence.specs.Line.{Writes};
 ghost use Rattle.presence.specs.Presence.{presence_of, read_from};
 ghost use Rattle.presence.specs.Taking.{search_start, reads_on, Takes, answer_at_end};
@@ -18,7 +16,8 @@ mod sounds; // sounds.rt: what one record says
 
 // The refusal of the header (0: none); whether there is a sample marked 0 that isn't zero; for a yes the first record with one,
 // counted from 0, for a no how many whole records were read. All else is zero where the header is refused.
-#[derive(Clone, Copy)]
+// The refusal stays a number: a search that comes from C has any octet for it, and `SearchEnded` gives it back.
+#[derive(Clone, Copy, Debug, PartialEq, Eq, Hash)]
 pub struct Presence {
     pub refusal: u8,
     pub found: bool,
@@ -27,15 +26,14 @@ pub struct Presence {
 
 // Reads records from the place behind an accepted header on, and stops at the first that says yes.
 fn records(log: &[u8], header: Header) -> Presence
-    ensures { result ≡ read_from header log.now }
+    ensures { result ≡ read_from (header_answered (Ok header)) log.now }
 {
     let opened = receiver::opened(header.format, header.channels, header.order);
     let mut state = opened.state;
     let mut place = header.place;
     let mut number = 0;
-    let mut here = cell_log::read_record(log, place);
-    while here.what == 1 {
-        let said = sounds::heard(state, cell_log::read_cell(log, place), here.indication);
+    while let Ok(Some(record)) = cell_log::read_record(log, place) {
+        let said = sounds::heard(state, cell_log::read_cell(log, place), record.indication);
         if said.sounds {
             return Presence {
                 refusal: 0,
@@ -44,9 +42,8 @@ fn records(log: &[u8], header: Header) -> Presence
             };
         }
         state = said.state;
-        place = here.next;
+        place = record.next;
         number += 1;
-        here = cell_log::read_record(log, place);
     }
     Presence {
         refusal: 0,
@@ -60,20 +57,19 @@ fn records(log: &[u8], header: Header) -> Presence
 pub fn anything(log: &[u8]) -> Presence
     ensures { result ≡ presence_of log.now }
 {
-    let header = cell_log::read_header(log);
-    if header.refusal != 0 {
-        return Presence {
-            refusal: header.refusal,
+    match cell_log::read_header(log) {
+        Ok(header) => records(log, header),
+        Err(refusal) => Presence {
+            refusal: refusal.into(),
             found: false,
             number: 0,
-        };
+        },
     }
-    records(log, header)
 }
 
 // What is known behind a part of a log: the receiver's state, and the answer so far. Until a record says yes its number is how
 // many whole records were read.
-#[derive(Clone, Copy)]
+#[derive(Clone, Copy, Debug, PartialEq, Eq, Hash)]
 pub struct Sought {
     pub state: Receiver,
     pub refusal: u8,
@@ -82,7 +78,7 @@ pub struct Sought {
 }
 
 // A search under way: where its log stands, and what is known.
-#[derive(Clone, Copy)]
+#[derive(Clone, Copy, Debug, PartialEq, Eq, Hash)]
 pub struct Search {
     pub standing: Standing,
     pub sought: Sought,
@@ -93,10 +89,8 @@ pub fn start() -> Search
     ensures { result ≡ search_start }
 {
     let standing = pieces::start(18446744073709551615);
-    let opened = receiver::opened(0, 0, 0);
-    let state = opened.state;
     let sought = Sought {
-        state,
+        state: receiver::opened(0, 0, 0).state,
         refusal: 0,
         found: false,
         number: 0,
@@ -105,15 +99,11 @@ pub fn start() -> Search
 }
 
 // "It should stop at the first one": whether more octets of the log could change the answer. Not behind a yes, nor behind a fault.
+#[tactic(auto, unfolding(crate::specs::Taking::reads_on))]
 pub fn reads_on(search: Search) -> bool
     ensures { result ≡ reads_on search }
 {
-    let sought = search.sought;
-    if sought.found {
-        return false;
-    }
-    let standing = search.standing;
-    standing.stage < 2
+    !search.sought.found && search.standing.stage < 2
 }
 
 // Takes a piece of the log. The octets of a record that isn't whole yet are held in `held`. Behind a yes no record is judged, and
@@ -121,9 +111,10 @@ pub fn reads_on(search: Search) -> bool
 pub fn take(search: Search, held: &mut [u8; 49], piece: &[u8]) -> Search
     ensures { Takes search held.old piece.now result held.new }
 {
-    pieces::sized(*held);
-    let mut standing = search.standing;
-    let mut sought = search.sought;
+    let Search {
+        mut standing,
+        mut sought,
+    } = search;
     let mut place = 0;
     while place < piece.len() {
         let found = pieces::next(standing, held, piece, place);
@@ -138,34 +129,17 @@ pub fn take(search: Search, held: &mut [u8; 49], piece: &[u8]) -> Search
 pub fn end(search: Search, held: [u8; 49]) -> Presence
     ensures { result ≡ answer_at_end search held }
 {
-    let standing = search.standing;
-    let sought = search.sought;
-    let refusal = pieces::end(standing, held);
-    if standing.stage == 0 {
-        return Presence {
-            refusal,
-            found: sought.found,
-            number: sought.number,
-        };
-    }
+    let Search { standing, sought } = search;
+    let refusal = if standing.stage == 0 {
+        pieces::end(standing, held)
+    } else {
+        sought.refusal
+    };
     Presence {
-        refusal: sought.refusal,
+        refusal,
         found: sought.found,
         number: sought.number,
     }
-}
-
-// A line of words and a number.
-fn number_line(run: &mut [u8], begins: &[u8], n: usize) -> Put
-    ensures { Puts run.old (record { octets = 0; whole = true }) run.new result
-        (item begins.now n ++ words "\n") }
-{
-    let start = Put {
-        octets: 0,
-        whole: true,
-    };
-    let past = text::put_item(run, start, begins, n);
-    text::put_all(run, past, b"\n")
 }
 
 // Writes the answer's line into the run, from its start, as far as it goes: `yes K`, `no N` or `log refused r`. What is past it
@@ -173,11 +147,15 @@ fn number_line(run: &mut [u8], begins: &[u8], n: usize) -> Put
 pub fn put_line(presence: Presence, run: &mut [u8]) -> Put
     ensures { Writes presence run.old result run.new }
 {
+    let start = Put {
+        octets: 0,
+        whole: true,
+    };
     if presence.refusal != 0 {
-        return number_line(run, b"log refused ", presence.refusal as usize);
+        return text::put_line(run, start, b"log refused ", presence.refusal as usize);
     }
     if presence.found {
-        return number_line(run, b"yes ", presence.number);
+        return text::put_line(run, start, b"yes ", presence.number);
     }
-    number_line(run, b"no ", presence.number)
+    text::put_line(run, start, b"no ", presence.number)
 }

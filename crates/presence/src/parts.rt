@@ -2,11 +2,13 @@
 ghost use Rattle.std.specs.Prelude.{◌≡◌, ◌+◌, ◌≤◌, length, take};
 ghost use Rattle.cell_log.specs.Records.{header_of};
 ghost use Rattle.reading.specs.Records.{front_of};
+ghost use Rattle.pieces.specs.Found.{number_of, numbered};
 ghost use Rattle.pieces.specs.Steps.{found_parts};
-ghost use Rattle.presence.specs.Taking.{fresh_sought, past_record, sought_of};
+ghost use Rattle.pieces.specs.Taken.{fault_part};
+ghost use Rattle.presence.specs.Taking.{fresh_sought, past_record, past_part, sought_of};
 
 use crate::{Sought, sounds};
-use pieces::Found;
+use pieces::{Found, Standing, What};
 
 // Past the record that octets begin with. No log is so long that its number wraps.
 fn past_front(sought: Sought, octets: [u8; 49]) -> Sought
@@ -15,27 +17,22 @@ fn past_front(sought: Sought, octets: [u8; 49]) -> Sought
     if sought.found {
         return sought;
     }
-    let record = cell_log::read_record(&octets, 0);
     let said = sounds::heard(
         sought.state,
         cell_log::read_cell(&octets, 0),
-        record.indication,
+        cell_log::read_indication(&octets, 0),
     );
-    let state = said.state;
     if said.sounds {
         return Sought {
-            state,
-            refusal: sought.refusal,
+            state: said.state,
             found: true,
-            number: sought.number,
+            ..sought
         };
     }
-    let number = std::num::wrapping_add_usize(sought.number, 1);
     Sought {
-        state,
-        refusal: sought.refusal,
-        found: false,
-        number,
+        state: said.state,
+        number: sought.number.wrapping_add(1),
+        ..sought
     }
 }
 
@@ -43,28 +40,27 @@ fn past_front(sought: Sought, octets: [u8; 49]) -> Sought
 fn past_header(held: [u8; 49]) -> Sought
     ensures { result ≡ fresh_sought (header_of (take 3 held)) }
 {
-    let header = cell_log::read_header(&held[..3]);
-    let opened = receiver::opened(header.format, header.channels, header.order);
-    let state = opened.state;
+    let header = cell_log::header_numbers(&held[..3]);
     Sought {
-        state,
+        state: receiver::opened(header.format, header.channels, header.order).state,
         refusal: 0,
         found: false,
         number: 0,
     }
 }
 
-// With the header's refusal.
-fn refused(sought: Sought, refusal: u8) -> Sought
-    ensures { result ≡ record { state = sought.state; refusal = refusal; found = sought.found; number = sought.number } }
+// Past a fault: the header's refusal is kept, and behind a broken record nothing changes.
+#[tactic(auto, unfolding(crate::specs::Taking::past_part))]
+fn past_fault(sought: Sought, standing: Standing) -> Sought
+    ensures { result ≡ past_part sought (fault_part standing.stage standing.fault) }
 {
-    let state = sought.state;
-    Sought {
-        state,
-        refusal,
-        found: sought.found,
-        number: sought.number,
+    if standing.stage == 2 {
+        return Sought {
+            refusal: standing.fault,
+            ..sought
+        };
     }
+    sought
 }
 
 // Past what was found in a piece.
@@ -75,22 +71,15 @@ pub(crate) fn step(
     piece: &[u8],
     place: usize,
 ) -> Sought
-    requires { found.what ≡ 2 → place + 49 ≤ length piece.now }
-    ensures { result ≡ sought_of sought (found_parts found held.now piece.now place) }
+    requires { number_of found.what ≡ 2 → place + 49 ≤ length piece.now }
+    ensures { result ≡ sought_of sought (found_parts (numbered found) held.now piece.now place) }
 {
-    if pieces::is_record(found.what) {
-        let octets = pieces::record_octets(found.what, held, piece, place);
+    if let Some(octets) = pieces::record_octets(found.what, held, piece, place) {
         return past_front(sought, octets);
     }
-    if found.what == 1 {
-        return past_header(*held);
+    match found.what {
+        What::Header => past_header(*held),
+        What::Fault => past_fault(sought, found.standing),
+        _ => sought,
     }
-    if found.what != 4 {
-        return sought;
-    }
-    let standing = found.standing;
-    if standing.stage == 2 {
-        return refused(sought, standing.fault);
-    }
-    sought
 }

@@ -5,7 +5,7 @@ ghost use Rattle.presence.specs.Presence.{said_of};
 use receiver::Receiver;
 
 // The state to go on with, and whether there was something.
-#[derive(Clone, Copy)]
+#[derive(Clone, Copy, Debug, PartialEq, Eq, Hash)]
 pub(crate) struct Said {
     pub state: Receiver,
     pub sounds: bool,
@@ -17,16 +17,8 @@ pub(crate) fn heard(state: Receiver, cell: &[u8], indication: bool) -> Said
     ensures { result ≡ said_of state cell.now indication }
 {
     let answer = receiver::judged(state, cell, indication);
-    let next = answer.state;
-    if answer.refusal != 0 {
-        return Said {
-            state: next,
-            sounds: false,
-        };
-    }
-    let sounds = glance::sounds(state, cell);
     Said {
-        state: next,
-        sounds,
+        state: answer.state,
+        sounds: answer.refusal == 0 && glance::sounds(state, cell),
     }
 }

@@ -11,8 +11,7 @@ use lib.Seq.{length-take-le, drop_at}
 use Rattle.runs.specs.Refusals.{or_else}
 use Rattle.runs.proofs.Laws.{split, past_both}
 use Rattle.formats.specs.Formats.{settings_refusal}
-use Rattle.cell_log.specs.declared.Header.{Header}
-use Rattle.cell_log.specs.declared.Number.{Number}
+use Rattle.cell_log.specs.Answers.{Header, Number}
 use Rattle.cell_log.specs.Numbers.{number, number_at}
 use Rattle.cell_log.specs.Records.{header_refusal, header_of_numbers, header_of, second_number, third_number, record_at}
 use Rattle.cell_log.proofs.Groups.{number_agrees}

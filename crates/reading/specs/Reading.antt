@@ -1,7 +1,7 @@
 -- The reading of a log: "read up to its first framing fault" or its end by a fresh receiver with room.
 -- Assumes nothing.
 use Rattle.std.specs.Prelude.{cond, List, [], ℕ, eqb, drop}
-use Rattle.cell_log.specs.declared.Header.{Header}
+use Rattle.cell_log.specs.Answers.{Header}
 use Rattle.cell_log.specs.Records.{header_of}
 use Rattle.receiver.specs.declared.Receiver.{Receiver}
 use Rattle.receiver.specs.Receiver.{opened_of}

@@ -10,19 +10,14 @@ use lib.ListN.{length, get_or, replicate}
 use Rattle.runs.specs.Runs.{tab, over}
 use Rattle.runs.proofs.Filling.{Filled, begun}
 use Rattle.formats.specs.declared.Format.{Format}
-use Rattle.formats.specs.declared.Settled.{Settled}
-use Rattle.formats.specs.Formats.{format_of}
+use Rattle.formats.specs.Settled.{Settled}
 use Rattle.formats.specs.Settings.{settings_of}
 use Rattle.formats.specs.Code.{is_usual, usual_with}
 use Rattle.formats.specs.Sound.{Sound}
 use Rattle.formats.proofs.Laws.{usual_is, usual_set}
-use Rattle.numbers.specs.declared.Found.{Found}
-use Rattle.numbers.specs.declared.Found.TheVariants.{Number}
-use Rattle.numbers.specs.Numbers.{found_of}
-use Rattle.cells.specs.Cells.{subframe_at, sample_in, ancillary_in, mark_in, eight_in, entries_of}
+use Rattle.cells.specs.Cells.{subframe_at, sample_in, ancillary_in, mark_in, entries_of}
 use Rattle.cells.specs.Placement.{slot_of, slot_of_entry}
 use Rattle.receiver.specs.declared.Receiver.{Receiver}
-use Rattle.receiver.specs.Receiver.{found_now}
 use Rattle.receiver.specs.Unpacking.{used_in, own_entries, Unpacks, Fills, Room, Enters, straight, fours}
 use Rattle.receiver.proofs.Marking.{sample_over, ancillary_over}
 use Rattle.receiver.proofs.Unpacking.{fill_on, fill_done, own_length, own_at, slot_straight}
@@ -141,17 +136,6 @@ module _ (st : Receiver) {set : Settled} (settled : set ≡ settings_of 0x56 (co
   usual_own cell read =
       usual_is st.channels settled (λ (x : Settled). own_entries (read fours) straight cell ≡ own_entries (read x.format) x cell)
       (own_one (read fours) cell) (own_two (read fours) cell)
-
-  abbrev found_by : List ℕ → Format → Found
-  found_by cell f = cond (eqb f.overhead_bits 0) (Number 0) (found_of (eight_in f cell))
-
-  pub usual_found : (cell : List ℕ) {found : Found} → set.format ≡ format_of st.format → found ≡ found_of (eight_in set.format cell)
-      → found ≡ found_now st cell
-  unfolding found_now
-  usual_found cell is e =
-      e
-      ∙ usual_is st.channels settled (λ (x : Settled). found_of (eight_in x.format cell) ≡ found_by cell x.format) refl refl
-      ∙ ap (found_by cell) is
 
   pub usual_room : (times : ℕ) {samples ancillary marks : List ℕ} → Room (times * used_in set) (used_in set) samples ancillary marks
       → Room (times * 12) 12 samples ancillary marks

@@ -9,17 +9,16 @@ use native.Mathlib.Omega.{arith}
 use borrow.Author.Tests.{ne_eqb, ltb-false, eqb-true, eqb-false, not-false}
 use lib.Dec.{eqb, ltb}
 use lib.ListN.{length, replicate}
+use Rattle.std.specs.Prelude.{Option, Some, None}
 use Rattle.runs.specs.Refusals.{or_else}
 use Rattle.runs.specs.Runs.{over}
 use Rattle.runs.proofs.Laws.{first_refuses, then_later, past, past_both, neither, split}
 use Rattle.formats.specs.declared.Format.{Format}
-use Rattle.formats.specs.declared.Settled.{Settled}
+use Rattle.formats.specs.Settled.{Settled}
 use Rattle.formats.specs.Formats.{format_of, settings_refusal}
 use Rattle.formats.specs.Settings.{settings_of, settled}
 use Rattle.formats.specs.Sound.{Limits}
 use Rattle.formats.proofs.Laws.{settled_of_lem, settled_limits, given_refusal, given_refuses, given_none, given_settled, given_later}
-use Rattle.numbers.specs.declared.Found.{Found}
-use Rattle.numbers.specs.declared.Found.TheVariants.{Number, Nothing}
 use Rattle.numbers.specs.Numbers.{found_of, refusal_of, value_of, difference_of, indication_refused}
 use Rattle.cells.specs.Cells.{sample_in, ancillary_in, mark_in, eight_in}
 use Rattle.receiver.specs.declared.Receiver.{Receiver}
@@ -127,6 +126,13 @@ early_none st cell samples ancillary marks e =
     let state = past_both (state_refusal st) _ e in
     fits_lengths st cell samples ancillary marks state.0 (past (lengths_refused cell samples ancillary marks) 4 0 state.1).0
 
+-- then the runs are equally long
+pub equal_early : (st : Receiver) (cell samples ancillary marks : ℕ) → early_refusal st cell samples ancillary marks ≡ 0
+    → early_refusal st cell samples samples samples ≡ 0
+equal_early st cell samples ancillary marks none =
+    let fits = early_none st cell samples ancillary marks none in
+    ap₂ (λ (a m : ℕ). early_refusal st cell samples a m) (sym fits.ancillary_length) (sym fits.marks_length) ∙ none
+
 -- what is known where nothing is refused
 pub record Passes (st : Receiver) (cell : List ℕ) (samples ancillary marks : ℕ) : Type 0 where
   pub early : Whole st (length cell) samples ancillary marks
@@ -230,33 +236,33 @@ module _ {set : Settled} (st : Receiver) (cell : List ℕ) (indication : Bool) (
     judged_whole_lem = whole_call.whole
 
     -- what the later checks say of a cell found so, with these settings
-    abbrev later_of : Found → Settled → ℕ
+    abbrev later_of : Option ℕ → Settled → ℕ
     later_of found s =
         or_else (refusal_of found)
         (cond (indication_refused (value_of found) indication) 15
         (cond (eqb (gap_of st cell) 0) 9
         (cond (ltb 4294967295 (st.count + gap_of st cell)) 20 (cond (ltb samples (gap_of st cell * used_in s)) 10 0))))
 
-    later : (found : Found) → found ≡ found_now st cell → receive_refusal st cell indication samples samples samples ≡ later_of found set
+    later : (found : Option ℕ) → found ≡ found_now st cell → receive_refusal st cell indication samples samples samples ≡ later_of found set
     unfolding receive_refusal count_after
     later found e =
         then_later _ whole_call.state_none
-        ∙ rw whole_call.lengths_none (ap₂ (λ (x : Found) (s : Settled). later_of x s) (sym e) (sym is))
+        ∙ rw whole_call.lengths_none (ap₂ (λ (x : Option ℕ) (s : Settled). later_of x s) (sym e) (sym is))
 
-    pub judged_8 : Nothing ≡ found_now st cell → refused_by 8 st ≡ wanted
+    pub judged_8 : None ≡ found_now st cell → refused_by 8 st ≡ wanted
     unfolding or_else refusal_of
-    judged_8 e = answer_refused st cell indication samples samples samples (suc-ne-zero 7) (sym (later Nothing e))
+    judged_8 e = answer_refused st cell indication samples samples samples (suc-ne-zero 7) (sym (later None e))
 
-    module _ {number : ℕ} (found : Number number ≡ found_now st cell) where
+    module _ {number : ℕ} (found : Some number ≡ found_now st cell) where
       pub judged_15 : true ≡ indication_refused number indication → refused_by 15 st ≡ wanted
       unfolding or_else refusal_of value_of
       judged_15 e =
-          answer_refused st cell indication samples samples samples (suc-ne-zero 14) (sym (later (Number number) found ∙ rw (← e)))
+          answer_refused st cell indication samples samples samples (suc-ne-zero 14) (sym (later (Some number) found ∙ rw (← e)))
 
       module _ (rightly : false ≡ indication_refused number indication) {gap : ℕ} (gap_is : gap ≡ gap_of st cell) where
         from_9 : receive_refusal st cell indication samples samples samples ≡ late_refusal gap st.count samples (gap * used_in set)
         unfolding or_else refusal_of value_of late_refusal
-        from_9 = later (Number number) found ∙ rw (← rightly, ← gap_is)
+        from_9 = later (Some number) found ∙ rw (← rightly, ← gap_is)
 
         -- refused by 9, 20 or 10
         pub judged_late : {n : ℕ} → (n ≡ 0 → ⊥) → n ≡ late_refusal gap st.count samples (gap * used_in set) → refused_by n st ≡ wanted
@@ -281,7 +287,7 @@ pub gap_by : (st : Receiver) (cell : List ℕ) {started none : Bool} {number : �
 unfolding gap_of
 gap_by st cell a b e = λ i. cond (not (a i) || b i) 1 (difference_of (e i) st.last)
 
-pub number_found : (st : Receiver) (cell : List ℕ) {number : ℕ} → Number number ≡ found_now st cell → number ≡ number_now st cell
+pub number_found : (st : Receiver) (cell : List ℕ) {number : ℕ} → Some number ≡ found_now st cell → number ≡ number_now st cell
 unfolding value_of
 number_found st cell found = ap value_of found
 
@@ -298,9 +304,6 @@ pub record Call : Type 0 where
 abbrev pub Answered : Call → Received → List ℕ → List ℕ → List ℕ → Type 0
 Answered k answer samples₁ ancillary₁ marks₁ =
     Receives k.state k.cell k.indication k.samples k.ancillary k.marks answer samples₁ ancillary₁ marks₁
-
-abbrev pub early_of : Call → ℕ
-early_of k = early_refusal k.state (length k.cell) (length k.samples) (length k.ancillary) (length k.marks)
 
 abbrev pub answer_of_lem : Call → Received
 answer_of_lem k = received_of k.state k.cell k.indication (length k.samples) (length k.ancillary) (length k.marks)
@@ -320,96 +323,74 @@ module _ (k : Call) where
         marks_after = rw (ne_eqb _ _ some);
       }
 
-  -- refused by checks 1 to 5
-  pub early_refused : {n : ℕ} → (n ≡ 0 → ⊥) → n ≡ early_of k → Answered k (refused_by n k.state) k.samples k.ancillary k.marks
-  early_refused {n} some e =
-      let all : n ≡ refusal = early_first k.state k.cell k.indication _ _ _ some e in
-      stays (answer_refused k.state k.cell k.indication _ _ _ some all) (λ z. some (all ∙ z))
+  module _ {answer : Received} (answer_is : answer ≡ answer_of_lem k) where
+    refusal_is : answer.refusal ≡ refusal
+    refusal_is = ap (λ (r : Received). r.refusal) answer_is ∙ answer_refusal k.state k.cell k.indication _ _ _
 
-  -- checks 1 to 5 refuse nothing: the runs are equally long
-  module _ (none : early_of k ≡ 0) where
-    fits : Whole k.state (length k.cell) (length k.samples) (length k.ancillary) (length k.marks)
-    fits = early_none k.state (length k.cell) _ _ _ none
+    pub judged_refused : (answer.refusal ≡ 0 → ⊥) → Answered k answer k.samples k.ancillary k.marks
+    judged_refused some = stays answer_is (λ z. some (refusal_is ∙ z))
 
-    pub equal_early : early_refusal k.state (length k.cell) (length k.samples) (length k.samples) (length k.samples) ≡ 0
-    equal_early =
-        ap₂ (λ (a m : ℕ). early_refusal k.state (length k.cell) (length k.samples) a m) (sym fits.ancillary_length)
-        (sym fits.marks_length)
-        ∙ none
-
-    module _ {answer : Received}
-        (Equal-is : answer ≡ received_of k.state k.cell k.indication (length k.samples) (length k.samples) (length k.samples))
+    -- taken
+    module _ {set : Settled} (settles : set ≡ settings_of k.state.format k.state.channels k.state.order) (took : answer.refusal ≡ 0)
       where
-        answer_is : answer ≡ answer_of_lem k
-        answer_is =
-            Equal-is
-            ∙ ap₂ (λ (a m : ℕ). received_of k.state k.cell k.indication (length k.samples) a m)
-            (sym fits.ancillary_length) (sym fits.marks_length)
+        taken : refusal ≡ 0
+        taken = sym refusal_is ∙ took
 
-        refusal_is : answer.refusal ≡ refusal
-        refusal_is = ap (λ (r : Received). r.refusal) answer_is ∙ answer_refusal k.state k.cell k.indication _ _ _
+        passed : Passes k.state k.cell (length k.samples) (length k.ancillary) (length k.marks)
+        passed = passes k.state k.cell k.indication _ _ _ taken
 
-        pub judged_refused : (answer.refusal ≡ 0 → ⊥) → Answered k answer k.samples k.ancillary k.marks
-        judged_refused some = stays answer_is (λ z. some (refusal_is ∙ z))
+        fits : Whole k.state (length k.cell) (length k.samples) (length k.ancillary) (length k.marks)
+        fits = passed.early
 
-        -- taken
-        module _ {set : Settled} (settles : set ≡ settings_of k.state.format k.state.channels k.state.order) (took : answer.refusal ≡ 0)
+        set_is : set ≡ settled k.state.format k.state.channels k.state.order
+        set_is = settles ∙ settled_of_lem k.state.format k.state.channels k.state.order fits.settings
+
+        pub set_limits : Limits set
+        set_limits = settled_limits k.state.format k.state.channels k.state.order set_is fits.settings
+
+        pub cell_whole : length k.cell ≡ 48
+        cell_whole = fits.whole
+
+        missing_is : answer.missing ≡ gap_of k.state k.cell - 1
+        missing_is =
+            ap (λ (r : Received). r.missing) answer_is ∙ answer_missing k.state k.cell k.indication _ _ _ taken
+
+        pub missing_few : answer.missing ≤ 14
+        missing_few = rw missing_is (omega (arith, gap_to k.state k.cell))
+
+        enough : answer.missing * used_in set + used_in set ≤ length k.samples
+        enough =
+            rw (missing_is, set_is, last_part (gap_of k.state k.cell) (used_now k.state) passed.gap_from) passed.room
           where
-            taken : refusal ≡ 0
-            taken = sym refusal_is ∙ took
+            last_part : (g u : ℕ) → 1 ≤ g → (g - 1) * u + u ≡ g * u
+            last_part g u h =
+                sym (suc-mul (g - 1) u) ∙ ap (λ (n : ℕ). n * u) (let whole : suc (g - 1) ≡ g = omega arith in whole)
 
-            passed : Passes k.state k.cell (length k.samples) (length k.ancillary) (length k.marks)
-            passed = passes k.state k.cell k.indication _ _ _ taken
+        pub roomy : Room (answer.missing * used_in set) (used_in set) k.samples k.ancillary k.marks
+        roomy =
+            record {
+              samples_room = enough;
+              ancillary_room = rw fits.ancillary_length enough;
+              marks_room = rw fits.marks_length enough;
+            }
 
-            set_is : set ≡ settled k.state.format k.state.channels k.state.order
-            set_is = settles ∙ settled_of_lem k.state.format k.state.channels k.state.order fits.settings
+        entries_are : (read : Format → ℕ → ℕ) (missing : ℕ)
+            → replicate (answer.missing * used_in set) missing ++ own_entries (read set.format) set k.cell
+            ≡ entries_given k.state k.cell k.indication (length k.samples) (length k.ancillary) (length k.marks)
+            (entries_now (read (format_of k.state.format)) missing k.state k.cell)
+        unfolding entries_given entries_now
+        entries_are read missing =
+            ap₂ (λ (n : ℕ) (x : Settled). replicate (n * used_in x) missing ++ own_entries (read x.format) x k.cell)
+            missing_is set_is
+            ∙ rw taken
 
-            pub set_limits : Limits set
-            set_limits = settled_limits k.state.format k.state.channels k.state.order set_is fits.settings
-
-            pub cell_whole : length k.cell ≡ 48
-            cell_whole = fits.whole
-
-            missing_is : answer.missing ≡ gap_of k.state k.cell - 1
-            missing_is =
-                ap (λ (r : Received). r.missing) answer_is ∙ answer_missing k.state k.cell k.indication _ _ _ taken
-
-            pub missing_few : answer.missing ≤ 14
-            missing_few = rw missing_is (omega (arith, gap_to k.state k.cell))
-
-            enough : answer.missing * used_in set + used_in set ≤ length k.samples
-            enough =
-                rw (missing_is, set_is, last_part (gap_of k.state k.cell) (used_now k.state) passed.gap_from) passed.room
-              where
-                last_part : (g u : ℕ) → 1 ≤ g → (g - 1) * u + u ≡ g * u
-                last_part g u h =
-                    sym (suc-mul (g - 1) u) ∙ ap (λ (n : ℕ). n * u) (let whole : suc (g - 1) ≡ g = omega arith in whole)
-
-            pub roomy : Room (answer.missing * used_in set) (used_in set) k.samples k.ancillary k.marks
-            roomy =
-                record {
-                  samples_room = enough;
-                  ancillary_room = rw fits.ancillary_length enough;
-                  marks_room = rw fits.marks_length enough;
-                }
-
-            entries_are : (read : Format → ℕ → ℕ) (missing : ℕ)
-                → replicate (answer.missing * used_in set) missing ++ own_entries (read set.format) set k.cell
-                ≡ entries_given k.state k.cell k.indication (length k.samples) (length k.ancillary) (length k.marks)
-                (entries_now (read (format_of k.state.format)) missing k.state k.cell)
-            unfolding entries_given entries_now
-            entries_are read missing =
-                ap₂ (λ (n : ℕ) (x : Settled). replicate (n * used_in x) missing ++ own_entries (read x.format) x k.cell)
-                missing_is set_is
-                ∙ rw taken
-
-            pub judged_taken : {samples₁ ancillary₁ marks₁ : List ℕ}
-                → Fills set k.cell (answer.missing * used_in set) k.samples k.ancillary k.marks samples₁ ancillary₁ marks₁
-                → Answered k answer samples₁ ancillary₁ marks₁
-            judged_taken wrote =
-                record {
-                  answered = answer_is;
-                  samples_after = wrote.samples_are ∙ ap (λ (new : List ℕ). over new k.samples) (entries_are sample_in 0);
-                  ancillary_after = wrote.ancillary_is ∙ ap (λ (new : List ℕ). over new k.ancillary) (entries_are ancillary_in 0);
-                  marks_after = wrote.marks_are ∙ ap (λ (new : List ℕ). over new k.marks) (entries_are mark_in 2);
-                }
+        pub judged_taken : {samples₁ ancillary₁ marks₁ : List ℕ}
+            → Fills set k.cell (answer.missing * used_in set) k.samples k.ancillary k.marks samples₁ ancillary₁ marks₁
+            → Answered k answer samples₁ ancillary₁ marks₁
+        judged_taken wrote =
+            record {
+              answered = answer_is;
+              samples_after = wrote.samples_are ∙ ap (λ (new : List ℕ). over new k.samples) (entries_are sample_in 0);
+              ancillary_after = wrote.ancillary_is ∙ ap (λ (new : List ℕ). over new k.ancillary) (entries_are ancillary_in 0);
+              marks_after = wrote.marks_are ∙ ap (λ (new : List ℕ). over new k.marks) (entries_are mark_in 2);
+            }

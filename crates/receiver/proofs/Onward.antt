@@ -9,12 +9,11 @@ use native.Mathlib.Omega.{arith}
 use borrow.Author.Tests.{eq-eqb, le-ltb, eqb-false}
 use lib.Dec.{eqb, ltb}
 use lib.ListN.{length}
+use Rattle.std.specs.Prelude.{Option, Some, None}
 use Rattle.runs.specs.Refusals.{or_else}
 use Rattle.runs.proofs.Laws.{split, then_later, past_both}
 use Rattle.formats.specs.Formats.{format_of, settings_refusal}
 use Rattle.formats.proofs.Laws.{settled_limits}
-use Rattle.numbers.specs.declared.Found.{Found}
-use Rattle.numbers.specs.declared.Found.TheVariants.{Number, Nothing}
 use Rattle.numbers.specs.Numbers.{refusal_of, value_of, indication_refused}
 use Rattle.numbers.proofs.Laws.{value_lt}
 use Rattle.cells.specs.Cells.{eight_in}
@@ -101,10 +100,10 @@ either : (test : Bool) (n rest : ℕ) → one_of_five n ≡ 1 → one_of_five re
 either true n rest here there = here
 either false n rest here there = there
 
-found_or : (found : Found) (rest : ℕ) → one_of_five rest ≡ 1 → one_of_five (or_else (refusal_of found) rest) ≡ 1
+found_or : (found : Option ℕ) (rest : ℕ) → one_of_five rest ≡ 1 → one_of_five (or_else (refusal_of found) rest) ≡ 1
 unfolding or_else refusal_of
-found_or (Number n) rest there = there
-found_or Nothing rest there = refl
+found_or (Some n) rest there = there
+found_or None rest there = refl
 
 -- these are all that a receiver with room can say to a cell of 48 octets
 pub says_one_of_five : (st : Receiver) (cell : List ℕ) (indication : Bool) → state_refusal st ≡ 0 → length cell ≡ 48

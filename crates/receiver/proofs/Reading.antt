@@ -167,7 +167,8 @@ module _ (by_channel_of : Bool) (channels times : ℕ) (some : 1 ≤ channels) (
       omega (arith, same, less) in
       omega (arith, within, apart)
 
--- the first slot in order 1
-pub walk_begun : (channels times : ℕ) → zero < channels → 0 ≡ slot_of_entry true channels times 0
+-- the first slot
+pub walk_begun : (by_channel_of : Bool) (channels times : ℕ) → zero < channels → 0 ≡ slot_of_entry by_channel_of channels times 0
 unfolding slot_of_entry slot_of
-walk_begun channels times some = rw (mod-eq_of_lt some, div-eq_of_lt some, zero-mul times)
+walk_begun false channels times some = sym (div-add-mod' 0 channels)
+walk_begun true channels times some = rw (mod-eq_of_lt some, div-eq_of_lt some, zero-mul times)

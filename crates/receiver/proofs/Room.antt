@@ -9,12 +9,11 @@ use native.Mathlib.Omega.{arith}
 use borrow.Author.Tests.{le-ltb}
 use lib.Dec.{eqb, ltb}
 use lib.ListN.{length}
+use Rattle.std.specs.Prelude.{Option, Some, None}
 use Rattle.runs.specs.Refusals.{or_else}
 use Rattle.runs.proofs.Laws.{split}
 use Rattle.formats.specs.Formats.{format_of, is_listed, slots_of, settings_refusal}
 use Rattle.formats.proofs.Laws.{sound_format}
-use Rattle.numbers.specs.declared.Found.{Found}
-use Rattle.numbers.specs.declared.Found.TheVariants.{Number, Nothing}
 use Rattle.numbers.specs.Numbers.{refusal_of, indication_refused}
 use Rattle.receiver.specs.declared.Receiver.{Receiver}
 use Rattle.receiver.specs.Receiver.{
@@ -55,10 +54,10 @@ state_to st =
     (at_most (last_refused st || count_refused st) (omega arith) (omega arith))
     (omega (arith, settings_to st.format st.channels st.order))
 
-pub found_to : (found : Found) → refusal_of found ≤ 8
+pub found_to : (found : Option ℕ) → refusal_of found ≤ 8
 unfolding refusal_of
-found_to (Number n) = omega arith
-found_to Nothing = omega arith
+found_to (Some n) = omega arith
+found_to None = omega arith
 
 pub always_room : (st : Receiver) (cell : List ℕ) (indication : Bool) (samples ancillary marks : ℕ) → 15 * used_now st ≤ samples
     → receive_refusal st cell indication samples ancillary marks ≡ 10 → ⊥

@@ -11,7 +11,7 @@ use lib.ListN.{length, get_or, take, drop, replicate, length-append, length-drop
 use lib.Seq.{drop_at, drop-append-add, drop-drop, length-take-le, get_or-drop, get_or-append-add}
 use Rattle.runs.specs.Runs.{joined, over, written}
 use Rattle.runs.proofs.Laws.{length_joined}
-use Rattle.formats.specs.declared.Settled.{Settled}
+use Rattle.formats.specs.Settled.{Settled}
 use Rattle.cells.specs.Cells.{sample_in, ancillary_in, mark_in}
 use Rattle.receiver.specs.Unpacking.{used_in, own_entries, Unpacks, Room, Misses, Blank}
 use Rattle.receiver.specs.Many.{cell_from, many_own, FillsMany}
@@ -44,12 +44,12 @@ over_same few more v run =
 
 -- the octets of a record behind its first
 pub cell_part : (octets : List ℕ) (place k : ℕ)
-    → take (place + 49 * k + 49 - (place + 49 * k + 1)) (drop (place + 49 * k + 1) octets) ≡ cell_from octets place k
+    → take (place + 49 * k + 1 + 48 - (place + 49 * k + 1)) (drop (place + 49 * k + 1) octets) ≡ cell_from octets place k
 cell_part octets place k =
-    let long : place + 49 * k + 49 - (place + 49 * k + 1) ≡ 48 = omega arith in ap (λ (n : ℕ). take n (drop (place + 49 * k + 1) octets)) long
+    let long : place + 49 * k + 1 + 48 - (place + 49 * k + 1) ≡ 48 = omega arith in ap (λ (n : ℕ). take n (drop (place + 49 * k + 1) octets)) long
 
 pub cell_long : (octets : List ℕ) (place records : ℕ) {k : ℕ} → place + 49 * records ≤ length octets → k < records
-    → length (take (place + 49 * k + 49 - (place + 49 * k + 1)) (drop (place + 49 * k + 1) octets)) ≡ 48
+    → length (take (place + 49 * k + 1 + 48 - (place + 49 * k + 1)) (drop (place + 49 * k + 1) octets)) ≡ 48
 cell_long octets place records {k} there less =
     ap length (cell_part octets place k)
     ∙ length-take-le 48 (drop (place + 49 * k + 1) octets) (omega (arith, length-drop (place + 49 * k + 1) octets))

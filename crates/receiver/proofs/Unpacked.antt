@@ -12,7 +12,7 @@ use lib.ListN.{length, replicate}
 use Rattle.runs.specs.Runs.{joined, over}
 use Rattle.runs.proofs.Laws.{both_true}
 use Rattle.formats.specs.declared.Format.{Format}
-use Rattle.formats.specs.declared.Settled.{Settled}
+use Rattle.formats.specs.Settled.{Settled}
 use Rattle.formats.specs.Code.{is_usual}
 use Rattle.formats.specs.Settings.{settings_of}
 use Rattle.formats.proofs.Laws.{usual_set}

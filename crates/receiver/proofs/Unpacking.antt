@@ -1,10 +1,10 @@
 -- Laws of unpacking: runs that are filled with entries, taken apart in place, and filled with a cell's own.
 -- Assumes nothing.
-use mathlib.Core.Bool.{false}
-use mathlib.Core.List.{List, ◌++◌}
+use mathlib.Core.Bool.{Bool, true, false}
+use mathlib.Core.List.{List, ◌++◌, append_assoc}
 use mathlib.Core.Logic.{◌⊎◌, inl, inr, ⊎_elim}
-use mathlib.Core.Path.{◌≡◌, refl, sym, ◌∙◌, ap, ap₂, subst}
-use Prim.Native.Nat.{ℕ, ◌+◌, ◌*◌, ◌-◌, ◌/◌, ◌%◌, ◌≤◌, ◌<◌}
+use mathlib.Core.Path.{◌≡◌, refl, sym, ◌∙◌, ap, ap₂}
+use Prim.Native.Nat.{ℕ, ◌+◌, ◌*◌, ◌/◌, ◌%◌, ◌≤◌, ◌<◌}
 use native.Mathlib.Nat.{div-add-mod', zero-add, add-zero, mod-one, one-mul, mul-le-mul, mul-le-mul_right}
 use native.Mathlib.Omega.{arith}
 use borrow.Author.Tests.{eq-eqb}
@@ -26,14 +26,15 @@ use lib.ListN.{
 }
 use lib.Seq.{take_at, drop_at, drop-append-add, drop-drop, take-append-le, take-add, length-take-le, get_or-drop, get_or-take, get_or-append-add, drop-paste}
 use Rattle.runs.specs.Runs.{over, written}
-use Rattle.runs.proofs.Filling.{Filled, begun, turned, done}
+use Rattle.runs.proofs.Filling.{Filled, turned, done}
 use Rattle.runs.proofs.Laws.{length_tab, get_or_tab, tab_is, split}
 use Rattle.formats.specs.declared.Format.{Format}
-use Rattle.formats.specs.declared.Settled.{Settled}
+use Rattle.formats.specs.Settled.{Settled}
 use Rattle.formats.specs.Sound.{Limits}
 use Rattle.cells.specs.Cells.{subframe_at, sample_in, ancillary_in, mark_in, entries_of}
+use Rattle.cells.specs.Code.{step_on}
 use Rattle.cells.specs.Placement.{slot_of, slot_of_entry}
-use Rattle.cells.proofs.Placement.{slot_lt}
+use Rattle.cells.proofs.Placement.{slot_lt, slot_next}
 use Rattle.receiver.specs.Unpacking.{used_in, own_entries, Unpacks, Fills, Room, Misses, blank_end, Blank, held, Splits}
 
 -- a run that a loop fills with as many entries as it counts
@@ -88,71 +89,6 @@ module _ (read : ℕ → ℕ) (run d₀ : List ℕ) (at used : ℕ) (room : at +
 
   pub held_ahead : {d : List ℕ} {i : ℕ} → Filled d d₀ at (held read run at used) i → get_or d (at + i) 0 ≡ get_or d₀ (at + i) 0
   held_ahead so_far = fill_ahead d₀ at _ (held_length read run at used) room so_far
-
--- the same by a loop that counts from `at` on
-module _ (read : ℕ → ℕ) (run d₀ : List ℕ) (at used : ℕ) (room : at + used ≤ length d₀) where
-  abbrev new : List ℕ
-  new = held read run at used
-
-  pub part_begun : Filled d₀ d₀ at new (at - at)
-  part_begun = subst (Filled d₀ d₀ at new) (let none : 0 ≡ at - at = omega arith in none) (begun d₀ at new)
-
-  pub part_done : {d : List ℕ} {i : ℕ} → Filled d d₀ at new (i - at) → at + used ≤ i → d ≡ written d₀ at new
-  part_done so_far all = held_done read run d₀ at used room so_far (omega arith)
-
-  module _ {d : List ℕ} {i : ℕ} (so_far : Filled d d₀ at new (i - at)) (from : at ≤ i) where
-    here : at + (i - at) ≡ i
-    here = omega arith
-
-    pub part_ahead : get_or d i 0 ≡ get_or d₀ i 0
-    part_ahead = subst (λ (k : ℕ). get_or d k 0 ≡ get_or d₀ k 0) here (held_ahead read run d₀ at used room so_far)
-
-    pub part_on : {v : ℕ} → i < at + used → v ≡ read (get_or run i 0) → Filled (L.set d i v) d₀ at new (i + 1 - at)
-    part_on {v} less e =
-        subst (Filled (L.set d i v) d₀ at new) (let next : i - at + 1 ≡ i + 1 - at = omega arith in next)
-        (subst (λ (k : ℕ). Filled (L.set d k v) d₀ at new (i - at + 1)) here
-        (held_on read run d₀ at used room so_far (omega arith) (e ∙ ap (λ (k : ℕ). read (get_or run k 0)) (sym here))))
-
--- subframes with overhead, taken apart in place by such a loop: the first run and another
-pub record Parted (f : Format) (at used : ℕ) (samples₀ samples : List ℕ) (i : ℕ) : Type 0 where
-  pub from : at ≤ i
-  pub so_far : Filled samples samples₀ at (held (sample_in f) samples₀ at used) (i - at)
-
-pub record PartedBeside (read : ℕ → ℕ) (at used : ℕ) (samples₀ run₀ run : List ℕ) (i : ℕ) : Type 0 where
-  pub so_far : Filled run run₀ at (held read samples₀ at used) (i - at)
-
-module _ (f : Format) (at used : ℕ) (samples₀ : List ℕ) (room : at + used ≤ length samples₀) where
-  pub parted_begun : Parted f at used samples₀ samples₀ at
-  parted_begun = record { from = omega arith; so_far = part_begun (sample_in f) samples₀ samples₀ at used room }
-
-  module _ {samples : List ℕ} {i : ℕ} (parted : Parted f at used samples₀ samples i) where
-    was : get_or samples i 0 ≡ get_or samples₀ i 0
-    was = part_ahead (sample_in f) samples₀ samples₀ at used room parted.so_far parted.from
-
-    pub parted_done : at + used ≤ i → samples ≡ written samples₀ at (held (sample_in f) samples₀ at used)
-    parted_done all = part_done (sample_in f) samples₀ samples₀ at used room parted.so_far all
-
-    module _ (less : i < at + used) {v : ℕ} where
-      pub parted_on : v ≡ sample_in f (get_or samples i 0) → Parted f at used samples₀ (L.set samples i v) (i + 1)
-      parted_on e =
-          record {
-            from = omega (arith, parted.from);
-            so_far = part_on (sample_in f) samples₀ samples₀ at used room parted.so_far parted.from less (e ∙ ap (sample_in f) was);
-          }
-
-      pub beside_on : (read : ℕ → ℕ) (run₀ : List ℕ) {run : List ℕ} → at + used ≤ length run₀
-          → PartedBeside read at used samples₀ run₀ run i → v ≡ read (get_or samples i 0)
-          → PartedBeside read at used samples₀ run₀ (L.set run i v) (i + 1)
-      beside_on read run₀ fit beside e =
-          record { so_far = part_on read samples₀ run₀ at used fit beside.so_far parted.from less (e ∙ ap read was) }
-
-module _ (read : ℕ → ℕ) (at used : ℕ) (samples₀ run₀ : List ℕ) (room : at + used ≤ length run₀) where
-  pub beside_begun : PartedBeside read at used samples₀ run₀ run₀ at
-  beside_begun = record { so_far = part_begun read samples₀ run₀ at used room }
-
-  pub beside_done : {run : List ℕ} {i : ℕ} → PartedBeside read at used samples₀ run₀ run i → at + used ≤ i
-      → run ≡ written run₀ at (held read samples₀ at used)
-  beside_done beside all = part_done read samples₀ run₀ at used room beside.so_far all
 
 -- entries written stand in the run, and others written over them take their place
 module _ (run : List ℕ) (at : ℕ) (ws : List ℕ) (room : at + length ws ≤ length run) where
@@ -254,6 +190,25 @@ module _ (f : Format) (none : f.overhead_bits ≡ 0) where
             marks_are = marks_none;
           }
 
+-- a part of a run, and its front, filled with one value
+pub part_filled : (run : List ℕ) (at used v : ℕ) {part : List ℕ} {n : ℕ} → at + used ≤ length run → n ≡ used
+    → part ≡ replicate (length (take n (drop at run))) v
+    → take at run ++ (part ++ drop n (drop at run)) ≡ written run at (replicate used v)
+part_filled run at used v {part} {n} room is e =
+    let long : length (take n (drop at run)) ≡ used
+    = ap (λ (k : ℕ). length (take k (drop at run))) is
+    ∙ length-take-le used (drop at run) (omega (arith, length-drop at run)) in
+    sym (append_assoc (take at run) part (drop n (drop at run)))
+    ∙ ap₂ (λ (p rest : List ℕ). take at run ++ p ++ rest) (e ∙ ap (λ (k : ℕ). replicate k v) long)
+    (drop-drop n at run ∙ ap (λ (k : ℕ). drop (at + k) run) (is ∙ sym (length-replicate used v)))
+
+pub front_filled : (run : List ℕ) (used v : ℕ) {part : List ℕ} → used ≤ length run → part ≡ replicate (length (take used run)) v
+    → part ++ drop used run ≡ over (replicate used v) run
+unfolding over
+front_filled run used v {part} room e =
+    ap₂ (λ (p : List ℕ) (k : ℕ). p ++ drop k run) (e ∙ ap (λ (k : ℕ). replicate k v) (length-take-le used run room))
+    (sym (length-replicate used v))
+
 pub times_few : (channels times : ℕ) → 1 ≤ channels → channels * times ≤ 48 → times ≤ 48
 times_few channels times some few = omega (arith, mul-le-mul_right {m = 1} {n = channels} times some, one-mul times)
 
@@ -280,6 +235,19 @@ module _ (set : Settled) (cell : List ℕ) where
   pub slot_straight : set.by_channel ≡ false → (i : ℕ) → i ≡ slot_of_entry set.by_channel set.channels set.times i
   unfolding slot_of_entry slot_of
   slot_straight e i = rw e (sym (div-add-mod' i set.channels))
+
+  -- from one entry's slot to the next one's
+  pub slot_on : set.by_channel ≡ false → (i : ℕ) {slot : ℕ} → slot ≡ slot_of_entry set.by_channel set.channels set.times i
+      → slot + 1 ≡ slot_of_entry set.by_channel set.channels set.times (i + 1)
+  slot_on is i e = ap (λ (n : ℕ). n + 1) (e ∙ sym (slot_straight is i)) ∙ slot_straight is (i + 1)
+
+  pub slot_stepped : Limits set → set.by_channel ≡ true → {i slot : ℕ} → i < used_in set
+      → slot ≡ slot_of_entry set.by_channel set.channels set.times i
+      → step_on set.times (used_in set) slot ≡ slot_of_entry set.by_channel set.channels set.times (i + 1)
+  slot_stepped limits is {i} less e =
+      ap (step_on set.times (used_in set)) (e ∙ ap (λ (b : Bool). slot_of_entry b set.channels set.times i) is)
+      ∙ slot_next set.channels set.times limits.channels_from less
+      ∙ ap (λ (b : Bool). slot_of_entry b set.channels set.times (i + 1)) (sym is)
 
   pub used_from : Limits set → 1 ≤ used_in set
   used_from limits = mul-le-mul limits.channels_from limits.times_from

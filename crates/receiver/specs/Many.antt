@@ -2,7 +2,7 @@
 -- Assumes nothing.
 use Rattle.std.specs.Prelude.{Bool, cond, ◌&&◌, List, [], ◌++◌, ◌≡◌, ℕ, ◌+◌, ◌*◌, ◌/◌, ◌-◌, eqb, leb, length, take, drop, replicate}
 use Rattle.runs.specs.Runs.{joined, over}
-use Rattle.formats.specs.declared.Settled.{Settled}
+use Rattle.formats.specs.Settled.{Settled}
 use Rattle.formats.specs.Settings.{settings_of}
 use Rattle.cells.specs.Cells.{sample_in, ancillary_in, mark_in}
 use Rattle.receiver.specs.declared.Receiver.{Receiver}

@@ -1,11 +1,9 @@
 -- The receiver, document 01: its refusals in the table's order, what it writes, and what it reports.
 -- Assumes nothing.
-use Rattle.std.specs.Prelude.{Bool, true, false, cond, not, ◌&&◌, ◌||◌, List, [], ◌++◌, ◌≡◌, ℕ, ◌+◌, ◌*◌, ◌-◌, eqb, ltb, length, replicate}
+use Rattle.std.specs.Prelude.{Bool, true, false, cond, not, ◌&&◌, ◌||◌, List, [], ◌++◌, ◌≡◌, ℕ, ◌+◌, ◌*◌, ◌-◌, eqb, ltb, length, replicate, Option, Some}
 use Rattle.runs.specs.Refusals.{or_else}
 use Rattle.runs.specs.Runs.{over}
 use Rattle.formats.specs.Formats.{times_of, format_of, settings_refusal}
-use Rattle.numbers.specs.declared.Found.{Found}
-use Rattle.numbers.specs.declared.Found.TheVariants.{Number}
 use Rattle.numbers.specs.Numbers.{found_of, refusal_of, value_of, difference_of, indication_refused}
 use Rattle.cells.specs.Cells.{sample_in, ancillary_in, mark_in, eight_in, second_in, entries_of}
 use Rattle.cells.specs.Placement.{used_of}
@@ -57,9 +55,9 @@ lengths_refused cell samples ancillary marks =
     not (eqb cell 48) || (not (eqb ancillary samples) || not (eqb marks samples))
 
 -- what the cell's eight number bits are; "Without overhead .. the reported and stored numbers stay 0"
-unfoldable pub found_now : Receiver → List ℕ → Found
+unfoldable pub found_now : Receiver → List ℕ → Option ℕ
 found_now st cell =
-    cond (eqb (format_of st.format).overhead_bits 0) (Number 0) (found_of (eight_in (format_of st.format) cell))
+    cond (eqb (format_of st.format).overhead_bits 0) (Some 0) (found_of (eight_in (format_of st.format) cell))
 
 abbrev pub number_now : Receiver → List ℕ → ℕ
 number_now st cell = value_of (found_now st cell)

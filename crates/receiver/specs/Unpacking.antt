@@ -5,7 +5,7 @@ use Rattle.std.proofs.Math.ListN as L
 use Rattle.runs.specs.Refusals.{or_else}
 use Rattle.runs.specs.Runs.{tab, over, written}
 use Rattle.formats.specs.declared.Format.{Format}
-use Rattle.formats.specs.declared.Settled.{Settled}
+use Rattle.formats.specs.Settled.{Settled}
 use Rattle.cells.specs.Cells.{sample_in, ancillary_in, mark_in, entries_of}
 use Rattle.receiver.specs.declared.Receiver.{Receiver}
 use Rattle.receiver.specs.declared.Received.{Received}

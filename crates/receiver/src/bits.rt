@@ -7,7 +7,6 @@ ghost use Rattle.receiver.specs.Receiver.{found_now, second_now};
 ghost use Rattle.receiver.specs.declared.Receiver.{Receiver};
 
 use formats::Format;
-use numbers::Found;
 
 // The sequencing bit of a slot.
 fn bit_in(format: Format, cell: &[u8], slot: usize) -> u8
@@ -24,46 +23,31 @@ pub(crate) fn eight_in(format: Format, cell: &[u8]) -> u8
     ensures { result ≡ eight_in format cell.now }
 {
     let mut eight: u8 = 0;
-    let mut slot = 0;
-    while slot < 8 {
+    for slot in 0..8 {
         eight = eight % 128 * 2 + bit_in(format, cell, slot);
-        slot += 1;
     }
     eight
 }
 
 // What the cell's number is found to be in a state of this format: 0 where the format has no overhead.
-pub(crate) fn found_now(format: Format, cell: &[u8]) -> Found
+#[inline(always)]
+pub(crate) fn found_now(format: Format, cell: &[u8]) -> Option<u8>
     requires { Sound format × (length cell.now ≡ 48) }
     ensures { (st : Receiver) → format ≡ format_of st.format → result ≡ found_now st cell.now }
 {
     if format.overhead_bits == 0 {
-        return Found::Number(0);
-    }
-    numbers::number_of(eight_in(format, cell))
-}
-
-// The same for `judged`. It is no second call of `found_now`: what is called in two places isn't compiled into either, and `receive`
-// would take more instructions.
-pub(crate) fn found_alone(format: Format, cell: &[u8]) -> Found
-    requires { Sound format × (length cell.now ≡ 48) }
-    ensures { (st : Receiver) → format ≡ format_of st.format → result ≡ found_now st cell.now }
-{
-    if format.overhead_bits == 0 {
-        return Found::Number(0);
+        return Some(0);
     }
     numbers::number_of(eight_in(format, cell))
 }
 
 // The cell's second number in a state of this format, 0 where there is none.
+#[tactic(auto, unfolding(crate::specs::Receiver::second_now, cells::specs::Cells::second_in))]
 pub(crate) fn second_now(format: Format, cell: &[u8]) -> u8
     requires { Sound format × (length cell.now ≡ 48) }
     ensures { (st : Receiver) → format ≡ format_of st.format → result ≡ second_now st cell.now }
 {
-    if format.overhead_bits == 0 {
-        return 0;
-    }
-    if format.slots < 12 {
+    if format.overhead_bits == 0 || format.slots < 12 {
         return 0;
     }
     bit_in(format, cell, 8)

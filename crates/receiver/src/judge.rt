@@ -1,39 +1,30 @@
 // What a call is answered: the checks in the table's order, and the report. Both ways of receiving take it from here.
 ghost use Rattle.std.specs.Prelude.{true, false, ◌||◌, List, ◌≡◌, ℕ, length};
 ghost use Rattle.formats.specs.Formats.{format_of};
-ghost use Rattle.formats.specs.Settings.{settings_of};
+ghost use Rattle.formats.specs.Settings.{settled_as, settings_of};
+ghost use Rattle.refusals.specs.Refusals as Refusals;
 ghost use Rattle.receiver.specs.Receiver.{last_refused, count_refused, lengths_refused, found_now, number_now, gap_of, received_of};
 ghost use Rattle.receiver.specs.Unpacking.{early_refusal, late_refusal, refused_by, taken_as};
 
 use crate::{Received, Receiver, bits};
-use formats::{Format, Settled};
-use numbers::Found;
+use formats::{Format, Layout};
+use refusals::Refusal;
 
 // Check 4 of the last number.
+#[tactic(auto, unfolding(crate::specs::Receiver::last_refused))]
 fn last_refused(format: Format, state: Receiver) -> bool
     requires { format ≡ format_of state.format }
     ensures { result ≡ last_refused state }
 {
-    if 15 < state.last {
-        return true;
-    }
-    if state.last == 0 {
-        return false;
-    }
-    if !state.started {
-        return true;
-    }
-    format.overhead_bits == 0
+    15 < state.last || state.last != 0 && (!state.started || format.overhead_bits == 0)
 }
 
 // Check 4 of the count.
+#[tactic(auto, unfolding(crate::specs::Receiver::count_refused))]
 fn count_refused(state: Receiver) -> bool
     ensures { result ≡ count_refused state }
 {
-    if state.started {
-        return false;
-    }
-    state.count != 0
+    !state.started && state.count != 0
 }
 
 // Check 4.
@@ -41,88 +32,75 @@ fn numbers_refused(format: Format, state: Receiver) -> bool
     requires { format ≡ format_of state.format }
     ensures { result ≡ (last_refused state || count_refused state) }
 {
-    // this one first, which takes fewer instructions
-    if count_refused(state) {
-        return true;
-    }
-    last_refused(format, state)
+    // the count first, which takes fewer instructions
+    count_refused(state) || last_refused(format, state)
 }
 
 // Check 5.
+#[tactic(auto, unfolding(crate::specs::Receiver::lengths_refused))]
 fn lengths_refused(cell: usize, samples: usize, ancillary: usize, marks: usize) -> bool
     ensures { result ≡ lengths_refused cell samples ancillary marks }
 {
-    if cell != 48 {
-        return true;
-    }
-    if ancillary != samples {
-        return true;
-    }
-    marks != samples
+    cell != 48 || ancillary != samples || marks != samples
 }
 
-// Checks 1 to 5, by the settings of the state; the cell and the runs are told by their lengths. 0 where they refuse nothing.
-pub(crate) fn early_refusal(
-    set: Settled,
+// Checks 1 to 5, of which the settings of the state passed 1 to 3; the cell and the runs are told by their lengths.
+#[inline(always)]
+fn check_early(
+    set: Layout,
     state: Receiver,
     cell: usize,
     samples: usize,
     ancillary: usize,
     marks: usize,
-) -> u8
-    requires { set ≡ settings_of state.format state.channels state.order }
-    ensures { result ≡ early_refusal state cell samples ancillary marks }
+) -> Result<(), Refusal>
+    requires { settled_as set ≡ settings_of state.format state.channels state.order }
+    ensures { Refusals.refused_by result ≡ early_refusal state cell samples ancillary marks }
 {
-    let refusal = set.refusal;
-    if refusal != 0 {
-        return refusal;
-    }
     if numbers_refused(set.format, state) {
-        return 4;
+        return Err(Refusal::State);
     }
     if lengths_refused(cell, samples, ancillary, marks) {
-        return 5;
+        return Err(Refusal::Length);
     }
-    0
+    Ok(())
 }
 
 // d: how many cells on from the last one the cell with this number is.
+#[tactic(auto, unfolding(crate::specs::Receiver::gap_of))]
 fn gap_now(format: Format, state: Receiver, number: u8) -> u8
     requires { format ≡ format_of state.format }
     ensures { (cell : List ℕ) → number ≡ number_now state cell → result ≡ gap_of state cell }
 {
-    if !state.started {
-        return 1;
-    }
-    if format.overhead_bits == 0 {
+    if !state.started || format.overhead_bits == 0 {
         return 1;
     }
     numbers::difference(number, state.last)
 }
 
-// Checks 9, 20 and 10: d, the count so far, how long each run is, and how long it has to be. 0 where they refuse nothing. One answer
-// is made of all three in `judged`, which else is too long to be compiled into both ways.
-fn late_refusal(gap: u8, count: u32, samples: usize, needed: usize) -> u8
-    ensures { result ≡ late_refusal gap count samples needed }
+// Checks 9, 20 and 10: d, the count so far, how long each run is, and how long it has to be.
+#[tactic(auto, unfolding(crate::specs::Unpacking::late_refusal, refusals::specs::Refusals::refused_by, refusals::specs::Refusals::number_of))]
+fn check_late(gap: u8, count: u32, samples: usize, needed: usize) -> Result<(), Refusal>
+    ensures { Refusals.refused_by result ≡ late_refusal gap count samples needed }
 {
     if gap == 0 {
-        return 9;
+        return Err(Refusal::Repeat);
     }
     if 4294967295 < count as u64 + gap as u64 {
-        return 20;
+        return Err(Refusal::Count);
     }
     if samples < needed {
-        return 10;
+        return Err(Refusal::Room);
     }
-    0
+    Ok(())
 }
 
 // The answer to a refused call: the state as it came, and zeros.
-pub(crate) fn refused(refusal: u8, state: Receiver) -> Received
-    ensures { result ≡ refused_by refusal state }
+pub(crate) fn refused(refusal: Refusal, state: Receiver) -> Received
+    ensures { result ≡ refused_by (Refusals.number_of refusal) state }
 {
     Received {
-        refusal,
+        refusal: refusal.into(),
         state,
         missing: 0,
         number: 0,
@@ -161,31 +139,53 @@ fn taken(
 
 // Checks 8, 15, 9, 20 and 10 where the earlier ones refuse nothing, and the answer. `found` is the cell's number, which is 0 where the
 // format has no overhead, so that 15 is never given there. `samples` is how long each run is.
-pub(crate) fn judged(
-    set: Settled,
+fn judged(
+    set: Layout,
     state: Receiver,
-    found: Found,
+    found: Option<u8>,
     cell: &[u8],
     indication: bool,
     samples: usize,
 ) -> Received
-    requires { (set ≡ settings_of state.format state.channels state.order) × (early_refusal state (length cell.now) samples samples samples ≡ 0) × (found ≡ found_now state cell.now) }
+    requires { (settled_as set ≡ settings_of state.format state.channels state.order)
+        × (early_refusal state (length cell.now) samples samples samples ≡ 0) × (found ≡ found_now state cell.now) }
     ensures { result ≡ received_of state cell.now indication samples samples samples }
 {
-    let Found::Number(number) = found else {
-        return refused(8, state);
+    let Some(number) = found else {
+        return refused(Refusal::Number, state);
     };
     if numbers::indication_refused(number, indication) {
-        return refused(15, state);
+        return refused(Refusal::Indicated, state);
     }
     let gap = gap_now(set.format, state, number);
     // read before the last checks, which takes fewer instructions
     let second = bits::second_now(set.format, cell);
     let needed = gap as usize * (set.channels * set.times);
-    let refusal = late_refusal(gap, state.count, samples, needed);
-    if refusal != 0 {
+    if let Err(refusal) = check_late(gap, state.count, samples, needed) {
         return refused(refusal, state);
     }
     let count = state.count + gap as u32;
     taken(state, gap - 1, number, second, indication, count)
+}
+
+// What a call is answered, all checks in their turn, by the settings of the state; each run is told by its length. It is compiled into
+// each call, since the usual call's settings are constants.
+#[inline(always)]
+pub(crate) fn answered(
+    set: Layout,
+    state: Receiver,
+    cell: &[u8],
+    indication: bool,
+    samples: usize,
+    ancillary: usize,
+    marks: usize,
+) -> Received
+    requires { settled_as set ≡ settings_of state.format state.channels state.order }
+    ensures { result ≡ received_of state cell.now indication samples ancillary marks }
+{
+    if let Err(refusal) = check_early(set, state, cell.len(), samples, ancillary, marks) {
+        return refused(refusal, state);
+    }
+    let found = bits::found_now(set.format, cell);
+    judged(set, state, found, cell, indication, samples)
 }

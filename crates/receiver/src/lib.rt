@@ -12,7 +12,7 @@ mod usual;
 
 // A receiver's state, in the paper's words: the subframe octet, C, the order, whether it is started, the last number, and how many
 // cells it has placed since it was opened, sound and missing together.
-#[derive(Clone, Copy)]
+#[derive(Clone, Copy, Debug, PartialEq, Eq, Hash)]
 pub struct Receiver {
     pub format: u8,
     pub channels: u8,
@@ -23,14 +23,14 @@ pub struct Receiver {
 }
 
 // The refusal (0: none) and the state to go on with.
-#[derive(Clone, Copy)]
+#[derive(Clone, Copy, Debug, PartialEq, Eq, Hash)]
 pub struct Ready {
     pub refusal: u8,
     pub state: Receiver,
 }
 
 // The refusal (0: none), the state to go on with, and the report; all of the report is zero where the cell is refused.
-#[derive(Clone, Copy)]
+#[derive(Clone, Copy, Debug, PartialEq, Eq, Hash)]
 pub struct Received {
     pub refusal: u8,
     pub state: Receiver,
@@ -44,11 +44,9 @@ pub struct Received {
 pub fn opened(format: u32, channels: u32, order: u32) -> Ready
     ensures { result ≡ opened_of format channels order }
 {
-    let set = formats::settings(format, channels, order);
-    let refusal = set.refusal;
-    if refusal != 0 {
+    if let Err(refusal) = formats::settings(format, channels, order) {
         return Ready {
-            refusal,
+            refusal: refusal.into(),
             state: Receiver {
                 format: 0,
                 channels: 0,
@@ -90,24 +88,23 @@ fn receive_any(
 ) -> Received
     ensures { Receives state cell.now indication samples.old ancillary.old marks.old result samples.new ancillary.new marks.new }
 {
-    let set = formats::settings(
+    let set = match formats::settings(
         state.format as u32,
         state.channels as u32,
         state.order as u32,
-    );
-    let early = judge::early_refusal(
+    ) {
+        Ok(set) => set,
+        Err(refusal) => return judge::refused(refusal, state),
+    };
+    let answer = judge::answered(
         set,
         state,
-        cell.len(),
+        cell,
+        indication,
         samples.len(),
         ancillary.len(),
         marks.len(),
     );
-    if early != 0 {
-        return judge::refused(early, state);
-    }
-    let found = bits::found_now(set.format, cell);
-    let answer = judge::judged(set, state, found, cell, indication, samples.len());
     if answer.refusal != 0 {
         return answer;
     }
@@ -139,17 +136,15 @@ pub fn receive(
 fn judged_any(state: Receiver, cell: &[u8], indication: bool) -> Received
     ensures { result ≡ judged_of state cell.now indication }
 {
-    let set = formats::settings(
+    let set = match formats::settings(
         state.format as u32,
         state.channels as u32,
         state.order as u32,
-    );
-    let early = judge::early_refusal(set, state, cell.len(), 720, 720, 720);
-    if early != 0 {
-        return judge::refused(early, state);
-    }
-    let found = bits::found_alone(set.format, cell);
-    judge::judged(set, state, found, cell, indication, 720)
+    ) {
+        Ok(set) => set,
+        Err(refusal) => return judge::refused(refusal, state),
+    };
+    judge::answered(set, state, cell, indication, 720, 720, 720)
 }
 
 // What `receive` answers to a cell with room for all that one call can write, fifteen cells of up to 48 entries: so refusal 10 is

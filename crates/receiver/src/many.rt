@@ -1,11 +1,12 @@
 // The cells of records that lie one behind the other in a log, 49 octets each, unpacked one behind the other. Nothing is judged here.
 ghost use Rattle.std.specs.Prelude.{true, false, ◌≡◌, ◌+◌, ◌*◌, ◌≤◌, length};
+ghost use Rattle.formats.specs.Settings.{settled_as};
 ghost use Rattle.formats.specs.Sound.{Limits};
 ghost use Rattle.receiver.specs.Unpacking.{used_in, Room, straight};
 ghost use Rattle.receiver.specs.Many.{FillsMany, fits_in, UnpacksMany};
 
 use crate::{Receiver, entries, usual};
-use formats::Settled;
+use formats::Layout;
 
 // Writes `missing` entries of zero with mark 2 to the three runs, and the cells' own entries after them: 56 hex in order 0 with one
 // channel or two.
@@ -22,19 +23,16 @@ fn usual_cells(
     ensures { FillsMany straight octets.now place records missing samples.old ancillary.old marks.old samples.new ancillary.new marks.new }
 {
     entries::missing_entries(missing, samples, ancillary, marks);
-    let mut k = 0;
-    while k < records {
+    for k in 0..records {
         let start = place + 49 * k + 1;
-        let end = place + 49 * k + 49;
-        let at = missing + k * 12;
-        usual::own_entries(&octets[start..end], at, samples, ancillary, marks);
-        k += 1;
+        let cell = &octets[start..start + 48];
+        usual::own_entries(cell, missing + k * 12, samples, ancillary, marks);
     }
 }
 
 // The same whatever the settings.
 fn any_cells(
-    set: Settled,
+    set: Layout,
     octets: &[u8],
     place: usize,
     records: usize,
@@ -43,24 +41,23 @@ fn any_cells(
     ancillary: &mut [u8],
     marks: &mut [u8],
 )
-    requires { Limits set × (place + 49 * records ≤ length octets.now) × Room missing (records * used_in set) samples.old ancillary.old marks.old }
-    ensures { FillsMany set octets.now place records missing samples.old ancillary.old marks.old samples.new ancillary.new marks.new }
+    requires { Limits (settled_as set) × (place + 49 * records ≤ length octets.now)
+        × Room missing (records * used_in (settled_as set)) samples.old ancillary.old marks.old }
+    ensures { FillsMany (settled_as set) octets.now place records missing samples.old ancillary.old marks.old samples.new ancillary.new marks.new }
 {
     let used = set.channels * set.times;
     let format = set.format;
     entries::cleared(format, missing, records * used, samples, ancillary, marks);
-    let mut k = 0;
-    while k < records {
+    for k in 0..records {
         let start = place + 49 * k + 1;
-        let end = place + 49 * k + 49;
-        let at = missing + k * used;
-        entries::own_entries(set, &octets[start..end], at, samples, ancillary, marks);
-        k += 1;
+        let cell = &octets[start..start + 48];
+        entries::own_entries(set, cell, missing + k * used, samples, ancillary, marks);
     }
 }
 
 // Whether there are octets for so many records from a place on, and room for their entries and those of missing cells. The octets and
 // the runs are told by their lengths.
+#[tactic(auto, unfolding(crate::specs::Many::fits_in))]
 fn fits(
     used: usize,
     octets: usize,
@@ -74,19 +71,11 @@ fn fits(
     requires { 1 ≤ used }
     ensures { result ≡ fits_in used octets place records missing samples ancillary marks }
 {
-    if octets < place {
-        return false;
-    }
-    if (octets - place) / 49 < records {
-        return false;
-    }
-    if ancillary != samples {
-        return false;
-    }
-    if marks != samples {
-        return false;
-    }
-    records + missing as usize <= samples / used
+    place <= octets
+        && records <= (octets - place) / 49
+        && ancillary == samples
+        && marks == samples
+        && records + missing as usize <= samples / used
 }
 
 // Writes the entries of the cells of so many records from a place of the octets on to the three runs, from their start: before them
@@ -104,14 +93,13 @@ pub fn unpack(
 ) -> bool
     ensures { UnpacksMany state octets.now place records missing samples.old ancillary.old marks.old result samples.new ancillary.new marks.new }
 {
-    let set = formats::settings(
+    let Ok(set) = formats::settings(
         state.format as u32,
         state.channels as u32,
         state.order as u32,
-    );
-    if set.refusal != 0 {
+    ) else {
         return false;
-    }
+    };
     let used = set.channels * set.times;
     if !fits(
         used,

@@ -2,23 +2,10 @@
 // constants, and one loop reads a subframe, takes it apart and marks it.
 ghost use Rattle.std.specs.Prelude.{true, ◌≡◌, length};
 ghost use Rattle.formats.specs.Code.{is_usual};
-ghost use Rattle.formats.specs.Sound.{Sound};
-ghost use Rattle.numbers.specs.Numbers.{found_of};
-ghost use Rattle.cells.specs.Cells.{eight_in};
 ghost use Rattle.receiver.specs.Receiver.{judged_of, Receives};
 ghost use Rattle.receiver.specs.Unpacking.{Unpacks, Fills, Room, Enters, straight};
 
-use crate::{Received, Receiver, bits, entries, judge, octets};
-use formats::Format;
-use numbers::Found;
-
-// What the cell's number is found to be. This is no part of `found_now`, which is too long to be compiled into both ways.
-fn found_in(format: Format, cell: &[u8]) -> Found
-    requires { Sound format × (length cell.now ≡ 48) }
-    ensures { result ≡ found_of (eight_in format cell.now) }
-{
-    numbers::number_of(bits::eight_in(format, cell))
-}
+use crate::{Received, Receiver, entries, judge, octets};
 
 // Writes one entry to the three runs: a subframe with overhead, and the marks of its sample bits with each five low bits.
 fn enter(
@@ -48,12 +35,10 @@ pub(crate) fn own_entries(
     requires { (length cell.now ≡ 48) × Room at 12 samples.old ancillary.old marks.old }
     ensures { Unpacks straight cell.now at samples.old ancillary.old marks.old samples.new ancillary.new marks.new }
 {
-    let mut i = 0;
-    while i < 12 {
+    for i in 0..12 {
         let subframe = octets::in4(cell, i * 4);
-        let bits = tables::marks_for_usual(subframe / 8388608);
+        let bits = tables::marks(subframe / 8388608);
         enter(subframe, bits, at + i, samples, ancillary, marks);
-        i += 1;
     }
 }
 
@@ -79,19 +64,15 @@ pub(crate) fn receive(
     ensures { Receives state cell.now indication samples.old ancillary.old marks.old result samples.new ancillary.new marks.new }
 {
     let set = formats::usual(state.channels == 2);
-    let early = judge::early_refusal(
+    let answer = judge::answered(
         set,
         state,
-        cell.len(),
+        cell,
+        indication,
         samples.len(),
         ancillary.len(),
         marks.len(),
     );
-    if early != 0 {
-        return judge::refused(early, state);
-    }
-    let found = found_in(set.format, cell);
-    let answer = judge::judged(set, state, found, cell, indication, samples.len());
     if answer.refusal != 0 {
         return answer;
     }
@@ -106,10 +87,5 @@ pub(crate) fn judged(state: Receiver, cell: &[u8], indication: bool) -> Received
     ensures { result ≡ judged_of state cell.now indication }
 {
     let set = formats::usual(state.channels == 2);
-    let early = judge::early_refusal(set, state, cell.len(), 720, 720, 720);
-    if early != 0 {
-        return judge::refused(early, state);
-    }
-    let found = found_in(set.format, cell);
-    judge::judged(set, state, found, cell, indication, 720)
+    judge::answered(set, state, cell, indication, 720, 720, 720)
 }

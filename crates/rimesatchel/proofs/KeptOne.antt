@@ -3,7 +3,7 @@
 -- Assumes nothing.
 use mathlib.Core.Path.{sym, ◌∙◌, ap}
 use Rattle.runs.proofs.One.{One}
-use Rattle.cell_log.specs.declared.keep.Kept.{Kept}
+use Rattle.cell_log.specs.Answers.{Kept}
 use Rattle.rimesatchel.proofs.kept.rime_log_put_header.Kinds as header-kinds
 use Rattle.rimesatchel.proofs.kept.rime_log_put_header.Reads as header-reads
 use Rattle.rimesatchel.proofs.kept.rime_log_put_record.Kinds as record-kinds

@@ -8,7 +8,7 @@ use native.Mathlib.Omega.{arith}
 use contract.Lifetimes.{Lfts}
 use lib.ListN.{get_or, replicate}
 use Rattle.runs.proofs.Wrong.{Never, Place, lent, lent_mut}
-use Rattle.cell_log.specs.declared.keep.Kept.{Kept}
+use Rattle.cell_log.specs.Answers.{Kept}
 use Rattle.cell_log.proofs.Wrong as log
 use Rattle.listing.specs.List.{list_to}
 use Rattle.text.specs.Text.{digits_of}

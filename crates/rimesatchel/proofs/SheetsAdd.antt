@@ -4,8 +4,7 @@ use mathlib.Core.List.{List, ◌++◌}
 use mathlib.Core.Path.{◌≡◌}
 use Prim.Native.Nat.{ℕ, ◌*◌}
 use lib.ListN.{length}
-use Rattle.figures.specs.declared.Answer.{Answer}
-use Rattle.figures.specs.Sheets.{sum_of, Sheets, AddUp}
+use Rattle.figures.specs.Sheets.{Answer, sum_of, Sheets, AddUp}
 use Rattle.figures.proofs.Adds.{sheets_add_up}
 use Rattle.rimesatchel.specs.Sheets.{DrawsUp}
 

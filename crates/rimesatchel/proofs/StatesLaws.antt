@@ -14,16 +14,11 @@ use Rattle.runs.specs.Runs.{over}
 use Rattle.runs.proofs.Laws.{split}
 use Rattle.receiver.specs.declared.Receiver.{Receiver}
 use Rattle.pieces.specs.declared.Standing.{Standing}
-use Rattle.rimesatchel.specs.States.{standing_from, receiver_from, number_of, room_refusal}
+use Rattle.rimesatchel.specs.States.{standing_from, receiver_from, number_of, Within, room_refusal}
 
 pub yes_back : (b : Bool) → not (eqb (number_of b) 0) ≡ b
 yes_back true = refl
 yes_back false = refl
-
--- each number is within its width
-abbrev pub Within : Standing → Receiver → Type 0
-Within s r =
-    (s.stage < 256) × (s.fault < 256) × (r.format < 256) × (r.channels < 256) × (r.order < 256) × (r.last < 256) × (r.count < 4294967296)
 
 module _ (s : Standing) (r : Receiver) (in-width : Within s r) where
   pub standing_back : standing_from s.stage s.fault s.count s.left s.records ≡ s

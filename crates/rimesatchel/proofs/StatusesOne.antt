@@ -8,8 +8,7 @@ use native.Mathlib.Omega.{arith}
 use lib.ListN.{length, replicate}
 use Rattle.runs.proofs.One.{One}
 use Rattle.status.proofs.Steps.{step_refused}
-use Rattle.status.specs.Step.{is_refused, unfinished}
-use Rattle.status.specs.declared.step.Stepped.{Stepped}
+use Rattle.status.specs.Step.{Stepped, is_refused, unfinished}
 use Rattle.rimesatchel.specs.Statuses.{block_of, stepped_of, SteppedOctets}
 use Rattle.rimesatchel.proofs.statuses.rime_check_character.Kinds as check-character-kinds
 use Rattle.rimesatchel.proofs.statuses.rime_check_character.Reads as check-character-reads

@@ -6,37 +6,20 @@ use Prim.Native.Nat.{ℕ, ◌≤◌}
 use lib.ListN.{length, replicate}
 use Rattle.pieces.specs.Steps.{stood_of}
 use Rattle.pieces.specs.Taken.{joined_of}
-use Rattle.figures.specs.declared.Answer.{Answer}
 use Rattle.figures.specs.declared.Counts.{Counts}
 use Rattle.figures.specs.declared.Tally.{Tally}
 use Rattle.figures.specs.Adding.{closed_of}
 use Rattle.figures.specs.Figures.{counts_of}
-use Rattle.figures.specs.Sheets.{heard_in}
+use Rattle.figures.specs.Sheets.{Answer, heard_in}
 use Rattle.figures.specs.Taking.{tally_after, tally_over, Takes}
 use Rattle.figures.proofs.Adding.{closed_capped}
 use Rattle.figures.proofs.Walks.{any_division_counts}
-use Rattle.rimesatchel.specs.States.{number_of, Turns}
-use Rattle.rimesatchel.specs.TakenFigures.{
-  figures_from,
-  figure_numbers,
-  nine_of,
-  Drawn,
-  FiguresStarted,
-  FiguresTaken,
-  FiguresEnded,
-  FiguresDrawn,
-}
-use Rattle.rimesatchel.proofs.StatesLaws.{Within, standing_back, receiver_back}
+use Rattle.rimesatchel.specs.States.{Within, Turns}
+use Rattle.rimesatchel.specs.TakenFigures.{figures_from, figure_numbers, Drawn, FiguresStarted, FiguresTaken, FiguresEnded, FiguresDrawn}
+use Rattle.rimesatchel.proofs.StatesLaws.{standing_back, receiver_back}
 
 module _ (t : Tally) where
-  -- the numbers that are written, and they give the figures back
-  pub numbers_are : {n : ℕ} → n ≡ number_of t.noted.state.started
-      → t.standing.stage ∷ t.standing.fault ∷ t.standing.count ∷ t.standing.left ∷ t.standing.records ∷ t.noted.state.format
-      ∷ t.noted.state.channels ∷ t.noted.state.order ∷ n ∷ t.noted.state.last ∷ t.noted.state.count ∷ nine_of t.noted.counts
-      ≡ figure_numbers t
-  unfolding figure_numbers
-  numbers_are e = rw e
-
+  -- the numbers that are written give it back
   pub figures_back : Within t.standing t.noted.state → figures_from (figure_numbers t) ≡ t
   unfolding figures_from figure_numbers
   figures_back w i =

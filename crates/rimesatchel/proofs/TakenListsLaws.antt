@@ -18,7 +18,7 @@ use Rattle.listing.specs.List.{list_of}
 use Rattle.listing.specs.Taking.{most_text, piece_text, listing_after, end_of_text, written_over_of, Takes, Ends}
 use Rattle.listing.proofs.Fits.{piece_fits, end_fits}
 use Rattle.listing.proofs.Whole.{any_division_list}
-use Rattle.rimesatchel.specs.States.{number_of, Turns}
+use Rattle.rimesatchel.specs.States.{Within, Turns}
 use Rattle.rimesatchel.specs.TakenLists.{
   listing_from,
   list_numbers,
@@ -33,18 +33,10 @@ use Rattle.rimesatchel.specs.TakenLists.{
   ListCloses,
   ListPrinted,
 }
-use Rattle.rimesatchel.proofs.StatesLaws.{Within, standing_back, receiver_back, taken_room, take_over}
+use Rattle.rimesatchel.proofs.StatesLaws.{standing_back, receiver_back, taken_room, take_over}
 
 module _ (l : Listing) where
-  -- the numbers that are written, and they give the list back
-  pub numbers_are : {n : ℕ} → n ≡ number_of l.tally.state.started
-      → l.standing.stage ∷ l.standing.fault ∷ l.standing.count ∷ l.standing.left ∷ l.standing.records ∷ l.tally.state.format
-      ∷ l.tally.state.channels ∷ l.tally.state.order ∷ n ∷ l.tally.state.last ∷ l.tally.state.count ∷ l.tally.records
-      ∷ l.tally.sound ∷ l.tally.missing ∷ l.tally.refused ∷ []
-      ≡ list_numbers l
-  unfolding list_numbers
-  numbers_are e = rw e
-
+  -- the numbers that are written give it back
   pub list_back : Within l.standing l.tally.state → listing_from (list_numbers l) ≡ l
   unfolding listing_from list_numbers
   list_back w i =

@@ -20,7 +20,7 @@ use Rattle.salvaging.specs.Said.{saved_of, notes_of}
 use Rattle.salvaging.specs.Taking.{most_out, most_notes, piece_octets, piece_text, salvaging_after, end_of_text, saved_over, notes_over, Takes, Ends}
 use Rattle.salvaging.proofs.Fits.{out_fits, notes_fit, end_fits}
 use Rattle.salvaging.proofs.Whole.{any_division_saved, any_division_notes}
-use Rattle.rimesatchel.specs.States.{number_of, Turns}
+use Rattle.rimesatchel.specs.States.{Within, Turns}
 use Rattle.rimesatchel.specs.TakenSalvages.{
   salvaging_from,
   salvage_numbers,
@@ -37,18 +37,10 @@ use Rattle.rimesatchel.specs.TakenSalvages.{
   SalvageCloses,
   SalvagePrinted,
 }
-use Rattle.rimesatchel.proofs.StatesLaws.{Within, standing_back, receiver_back, both_true, taken_room, take_over}
+use Rattle.rimesatchel.proofs.StatesLaws.{standing_back, receiver_back, both_true, taken_room, take_over}
 
 module _ (v : Salvaging) where
-  -- the numbers that are written, and they give the salvage back
-  pub numbers_are : {n : ℕ} → n ≡ number_of v.tally.state.started
-      → v.standing.stage ∷ v.standing.fault ∷ v.standing.count ∷ v.standing.left ∷ v.standing.records ∷ v.tally.state.format
-      ∷ v.tally.state.channels ∷ v.tally.state.order ∷ n ∷ v.tally.state.last ∷ v.tally.state.count ∷ v.octets
-      ∷ v.tally.refusal ∷ v.tally.taken ∷ v.tally.kept ∷ v.tally.left_out ∷ []
-      ≡ salvage_numbers v
-  unfolding salvage_numbers
-  numbers_are e = rw e
-
+  -- the numbers that are written give it back
   pub salvage_back : Within v.standing v.tally.state → v.tally.refusal < 256 → salvaging_from (salvage_numbers v) ≡ v
   unfolding salvaging_from salvage_numbers
   salvage_back w few i =

@@ -19,7 +19,7 @@ use Rattle.presence.specs.Presence.{sounds, some_of, answer_of, presence_of}
 use Rattle.presence.specs.Taking.{search_after, reads_on, answer_at_end, answer_over, Takes}
 use Rattle.presence.proofs.Going.{any_division_answer}
 use Rattle.rimesatchel.specs.Contents.{presence_numbers}
-use Rattle.rimesatchel.specs.States.{number_of, Turns}
+use Rattle.rimesatchel.specs.States.{Within, number_of, Turns}
 use Rattle.rimesatchel.specs.TakenSearches.{
   search_from,
   search_numbers,
@@ -31,18 +31,10 @@ use Rattle.rimesatchel.specs.TakenSearches.{
   SearchAnswered,
 }
 use Rattle.rimesatchel.proofs.Bytes.{byte_of}
-use Rattle.rimesatchel.proofs.StatesLaws.{Within, yes_back, standing_back, receiver_back}
+use Rattle.rimesatchel.proofs.StatesLaws.{yes_back, standing_back, receiver_back}
 
 module _ (s : Search) where
-  -- the numbers that are written, and they give the search back
-  pub numbers_are : {n m : ℕ} → n ≡ number_of s.sought.state.started → m ≡ number_of s.sought.found
-      → s.standing.stage ∷ s.standing.fault ∷ s.standing.count ∷ s.standing.left ∷ s.standing.records ∷ s.sought.state.format
-      ∷ s.sought.state.channels ∷ s.sought.state.order ∷ n ∷ s.sought.state.last ∷ s.sought.state.count ∷ s.sought.refusal ∷ m
-      ∷ s.sought.number ∷ []
-      ≡ search_numbers s
-  unfolding search_numbers
-  numbers_are e f = rw (e, f)
-
+  -- the numbers that are written give it back
   pub search_back : Within s.standing s.sought.state → s.sought.refusal < 256 → search_from (search_numbers s) ≡ s
   unfolding search_from search_numbers
   search_back w few i =

@@ -36,3 +36,8 @@ module _ (κs : Lfts 3) (w r s : Place) where
   unfolding slips.unfolded watch_of watch_octets
   slip_not_swapped x v wrong p =
       let right : get_or v.1.1.0 0 0 ≡ 1 = ap (λ (l : List ℕ). get_or l 0 0) p.tells in omega arith
+
+  -- 31 before 4: a yes that is 2
+  pub report_not_before_octets : Watching (2 ∷ 3 ∷ 1 ∷ 0 ∷ 0 ∷ 0 ∷ 0 ∷ []) (1 ∷ 4 ∷ 0 ∷ 0 ∷ []) (λ x watch slip. x ≡ 31)
+  unfolding slips.unfolded watch_of watch_octets
+  report_not_before_octets x v wrong p = let right : x ≡ 4 = p.refused in omega arith

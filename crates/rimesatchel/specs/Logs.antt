@@ -1,8 +1,7 @@
 -- What the log's calls write into the arrays lent to them, in the order of the face's table.
 -- Assumes nothing.
 use Rattle.std.specs.Prelude.{cond, List, [], ◌∷◌, ℕ}
-use Rattle.cell_log.specs.declared.Header.{Header}
-use Rattle.cell_log.specs.declared.Record.{Record}
+use Rattle.cell_log.specs.Answers.{Header, Record}
 
 -- `header`: place after the header, format octet, channels, order
 abbrev pub header_numbers : Header → List ℕ

@@ -1,7 +1,7 @@
 -- The state of a log that is taken in pieces, as numbers of 64 bits. "No state is refused and nothing is undefined: numbers are taken
 -- modulo their width."
 -- Assumes nothing.
-use Rattle.std.specs.Prelude.{Bool, cond, not, List, [], ◌∷◌, ◌≡◌, ℕ, ◌%◌, eqb, get_or}
+use Rattle.std.specs.Prelude.{Bool, cond, not, List, [], ◌∷◌, ◌≡◌, ℕ, ◌%◌, ◌<◌, eqb, get_or}
 use Rattle.receiver.specs.declared.Receiver.{Receiver}
 use Rattle.pieces.specs.declared.Standing.{Standing}
 
@@ -37,6 +37,11 @@ abbrev pub with_numbers : Standing → Receiver → List ℕ → List ℕ
 with_numbers s r own =
     s.stage ∷ s.fault ∷ s.count ∷ s.left ∷ s.records ∷ r.format ∷ r.channels ∷ r.order ∷ number_of r.started ∷ r.last ∷ r.count
     ∷ own
+
+-- each of these numbers is within its width
+abbrev pub Within : Standing → Receiver → Type 0
+Within s r =
+    (s.stage < 256) × (s.fault < 256) × (r.format < 256) × (r.channels < 256) × (r.order < 256) × (r.last < 256) × (r.count < 4294967296)
 
 -- 21 "where a run is shorter than such a piece's text can be, and nothing has moved then"
 abbrev pub room_refusal : Bool → ℕ

@@ -1,15 +1,17 @@
 -- A block of channel status as 25 octets, and what a step on them leaves, as include/rimesatchel.h has it.
 -- Assumes nothing.
 use Rattle.std.specs.Prelude.{List, ◌∷◌, ◌≡◌, ℕ, get_or, drop}
-use Rattle.status.specs.Run.{ran_of}
-use Rattle.status.specs.Step.{step_of}
-use Rattle.status.specs.declared.run.Ran.{Ran}
+use Rattle.status.specs.Run.{Ran, ran_of}
+use Rattle.status.specs.Step.{Handed, Stepped, step_of}
 use Rattle.status.specs.declared.step.Block.{Block}
-use Rattle.status.specs.declared.step.Stepped.{Stepped}
 
 -- "bits begun, then the 24 octets under assembly"
 abbrev pub block_of : List ℕ → Block
 block_of octets = record { bits = get_or octets 0 0; octets = drop 1 octets }
+
+-- "`out`: 0 neither, 1 doesn't fit, 2 fits, 3 none carried, then the 24 octets handed out"
+abbrev pub handed_octets : Handed → List ℕ
+handed_octets handed = handed.answer ∷ handed.octets
 
 abbrev pub stepped_of : List ℕ → ℕ → ℕ → Stepped
 stepped_of block ancillary mark = step_of (block_of block) ancillary mark

@@ -1,9 +1,10 @@
 -- A watch over second numbers as seven octets, and what a step on them leaves, as include/rimesatchel.h has it.
 -- Assumes nothing.
-use Rattle.std.specs.Prelude.{List, [], ◌∷◌, ◌≡◌, ℕ, get_or}
-use Rattle.slips.specs.Watch.{step_of}
-use Rattle.slips.specs.declared.Watch.{Watch}
-use Rattle.slips.specs.declared.Stepped.{Stepped}
+use Rattle.std.specs.Prelude.{List, [], ◌∷◌, ◌≡◌, ℕ, Result, Ok, Err, get_or}
+use Rattle.refusals.specs.declared.Refusal.{Refusal}
+use Rattle.slips.specs.declared.Slip.{Slip}
+use Rattle.slips.specs.Known.{what_of, cells_of}
+use Rattle.slips.specs.Watch.{Watch, Stepped, step_of}
 use Rattle.rimesatchel.specs.Boxes.{state_after}
 
 -- "started, number, sure, second, may, waits, other"
@@ -31,3 +32,8 @@ pub record SlippedOctets (watch report : List ℕ) (refusal : ℕ) (left slip : 
   pub refused : refusal ≡ (slipped_of watch report).refusal
   pub leaves : left ≡ state_after (slipped_of watch report).refusal (watch_octets (slipped_of watch report).watch) watch
   pub tells : slip ≡ (slipped_of watch report).what ∷ (slipped_of watch report).cells ∷ []
+
+-- `slip` by the answer: zeros on a refusal
+abbrev pub told_by : Result Slip Refusal → List ℕ
+told_by (Ok slip) = what_of slip ∷ cells_of slip ∷ []
+told_by (Err refusal) = 0 ∷ 0 ∷ []

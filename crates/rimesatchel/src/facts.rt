@@ -8,13 +8,18 @@ ghost use Rattle.rimesatchel.specs.Facts.{format_numbers, format_refusal};
 pub fn rime_format(format: u32, facts: &mut [u32; 4]) -> u8
     ensures { (result ≡ format_refusal format) × (facts.new ≡ format_numbers (format_of format)) }
 {
-    let set = formats::settings(format, 1, 0);
-    let found = set.format;
+    let found = match formats::settings(format, 1, 0) {
+        Ok(set) => set.format,
+        Err(refusal) => {
+            *facts = [0; 4];
+            return refusal.into();
+        }
+    };
     *facts = [
         found.sample_bits as u32,
         found.ancillary_bits as u32,
         found.overhead_bits as u32,
         found.slots as u32,
     ];
-    set.refusal
+    0
 }

@@ -1,5 +1,5 @@
 // Writing a log for C, Rust and Python, and the list of one. Each call puts the answer of the proved function into lent memory.
-ghost use Rattle.std.specs.Prelude.{◌&&◌, ◌≡◌, ◌≤◌, length};
+ghost use Rattle.std.specs.Prelude.{◌≡◌, ◌≤◌, length};
 ghost use Rattle.cell_log.specs.Written.{Keeps, header_refused_of, header_octets, record_refusal, record_octets};
 ghost use Rattle.rimesatchel.specs.Kept.{kept_as, EndsFrom, ListedOctets};
 
@@ -18,9 +18,16 @@ pub fn rime_log_put_header(
     ensures { Keeps (header_refused_of log.old format channels order) 0 (header_octets format channels order)
         log.old (kept_as result next.new) log.new }
 {
-    let kept = cell_log::keep::write_header(log, format, channels, order);
-    *next = kept.next as u64;
-    kept.refusal
+    match cell_log::keep::write_header(log, format, channels, order) {
+        Ok(place) => {
+            *next = place as u64;
+            0
+        }
+        Err(refusal) => {
+            *next = 0;
+            refusal.into()
+        }
+    }
 }
 
 // Writes a record at a place of a log. Returns the refusal, 0 where there is none, and writes the place after it; 0 where it is
@@ -35,9 +42,16 @@ pub fn rime_log_put_record(
     ensures { Keeps (record_refusal log.old place cell.now) place
         (record_octets indication cell.now) log.old (kept_as result next.new) log.new }
 {
-    let kept = cell_log::keep::write_record(log, place, indication, cell);
-    *next = kept.next as u64;
-    kept.refusal
+    match cell_log::keep::write_record(log, place, indication, cell) {
+        Ok(place) => {
+            *next = place as u64;
+            0
+        }
+        Err(refusal) => {
+            *next = 0;
+            refusal.into()
+        }
+    }
 }
 
 // Writes what ends a list, from a place of the run on.
@@ -46,12 +60,6 @@ fn rest(listing: Listing, held: [u8; 49], run: &mut [u8], at: usize) -> Put
     ensures { EndsFrom listing held run.old at result run.new }
 {
     listing::end(listing, held, &mut run[at..])
-}
-
-fn both(first: bool, second: bool) -> bool
-    ensures { result ≡ first && second }
-{
-    if first { second } else { false }
 }
 
 // Writes the list of a log into a run, from its start, as far as it goes. Writes how many octets that is, and 1 where it is the
@@ -63,10 +71,9 @@ pub fn rime_log_list(log: &[u8], run: &mut [u8], listed: &mut [u64; 2]) -> u8
     let begun = listing::start(4294967295);
     let printed = listing::take(begun, &mut held, log, run);
     let lines = printed.listed;
-    let octets = lines.octets;
-    let end = rest(printed.listing, held, run, octets);
-    let all = octets + end.octets;
-    let whole = both(lines.whole, end.whole);
+    let end = rest(printed.listing, held, run, lines.octets);
+    let all = lines.octets + end.octets;
+    let whole = lines.whole && end.whole;
     *listed = [all as u64, whole as u64];
     0
 }

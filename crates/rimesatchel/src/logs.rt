@@ -8,14 +8,21 @@ ghost use Rattle.rimesatchel.specs.Logs.{header_numbers, record_numbers};
 pub fn rime_log_header(log: &[u8], header: &mut [u32; 4]) -> u8
     ensures { (result ≡ (header_of log.now).refusal) × (header.new ≡ header_numbers (header_of log.now)) }
 {
-    let found = cell_log::read_header(log);
-    *header = [
-        found.place as u32,
-        found.format,
-        found.channels,
-        found.order,
-    ];
-    found.refusal
+    match cell_log::read_header(log) {
+        Ok(found) => {
+            *header = [
+                found.place as u32,
+                found.format,
+                found.channels,
+                found.order,
+            ];
+            0
+        }
+        Err(refusal) => {
+            *header = [0; 4];
+            refusal.into()
+        }
+    }
 }
 
 // The record at a place of a log. Returns the refusal, 0 where there is none, and writes what is there (0 the end, 1 a cell), the
@@ -23,12 +30,23 @@ pub fn rime_log_header(log: &[u8], header: &mut [u32; 4]) -> u8
 pub fn rime_log_record(log: &[u8], place: usize, answer: &mut [u64; 4]) -> u8
     ensures { (result ≡ (record_at log.now place).refusal) × (answer.new ≡ record_numbers (record_at log.now place)) }
 {
-    let found = cell_log::reader::read(log, place);
-    *answer = [
-        found.what as u64,
-        found.indication as u64,
-        found.start as u64,
-        found.next as u64,
-    ];
-    found.refusal
+    match cell_log::reader::read(log, place) {
+        Ok(Some(found)) => {
+            *answer = [
+                1,
+                u64::from(found.indication),
+                found.start as u64,
+                found.next as u64,
+            ];
+            0
+        }
+        Ok(None) => {
+            *answer = [0, 0, 0, place as u64];
+            0
+        }
+        Err(refusal) => {
+            *answer = [0; 4];
+            refusal.into()
+        }
+    }
 }

@@ -1,28 +1,15 @@
 // Sharing channels out over circuits for C, Rust and Python: the checker's verdict as numbers, and the planner.
 ghost use Rattle.std.specs.Prelude.{[], ◌∷◌, ◌≡◌};
-ghost use Rattle.circuits.specs.Circuits.{refusal_of, answer_of, circuit_of, Plans};
+ghost use Rattle.circuits.specs.Circuits.{verdict_of, answer_of, circuit_of, Plans};
 ghost use Rattle.rimesatchel.specs.Plans.{CheckedPlan};
 
 use circuits::Verdict;
 
-fn refusal_of(verdict: Verdict) -> u8
-    ensures { result ≡ refusal_of verdict }
-{
-    match verdict {
-        Verdict::Refused(number) => number,
-        Verdict::Yes => 0,
-        Verdict::Share(_) => 0,
-        Verdict::Allowance(_) => 0,
-        Verdict::Sum => 0,
-    }
-}
-
 // The answer's number, and the circuit that it names.
 fn answer_of(verdict: Verdict) -> [u32; 2]
-    ensures { result ≡ answer_of verdict ∷ circuit_of verdict ∷ [] }
+    ensures { result ≡ answer_of (verdict_of verdict) ∷ circuit_of (verdict_of verdict) ∷ [] }
 {
     match verdict {
-        Verdict::Refused(_) => [0, 0],
         Verdict::Yes => [1, 0],
         Verdict::Share(circuit) => [2, circuit],
         Verdict::Allowance(circuit) => [3, circuit],
@@ -42,14 +29,21 @@ pub fn rime_circuits_check(
 ) -> u8
     ensures { CheckedPlan format channels frequency shares.now allowances.now result answer.new }
 {
-    let verdict = circuits::check(format, channels, frequency, shares, allowances);
-    *answer = answer_of(verdict);
-    refusal_of(verdict)
+    match circuits::check(format, channels, frequency, shares, allowances) {
+        Ok(verdict) => {
+            *answer = answer_of(verdict);
+            0
+        }
+        Err(refusal) => {
+            *answer = [0; 2];
+            refusal.into()
+        }
+    }
 }
 
 // Fills circuits in the given order as far as S allows: the refusal (0, or 1, 22, 30), and then the shares are as they were.
 pub fn rime_circuits_plan(format: u32, channels: u32, shares: &mut [u32]) -> u8
     ensures { Plans format channels shares.old result shares.new }
 {
-    circuits::plan(format, channels, shares)
+    refusals::number(circuits::plan(format, channels, shares))
 }

@@ -6,8 +6,14 @@ ghost use Rattle.rimesatchel.specs.Sheets.{DrawsUp};
 pub fn rime_sheet(octets: &[u8], lengths: &[u64], rows: &mut [u32], totals: &mut [u32; 10]) -> u8
     ensures { DrawsUp octets.now lengths.now rows.old result rows.new totals.new }
 {
-    let answer = figures::sheet(octets, lengths, rows);
-    let numbers = answer.totals;
-    *totals = numbers;
-    answer.refusal
+    match figures::sheet(octets, lengths, rows) {
+        Ok(row) => {
+            *totals = row;
+            0
+        }
+        Err(refusal) => {
+            *totals = [0; 10];
+            refusal.into()
+        }
+    }
 }

@@ -1,7 +1,7 @@
 // The state of a log that is taken in pieces, as numbers of 64 bits in lent memory: where the log stands, and the receiver's state. No
 // state is refused: a number is taken modulo its width, and of a yes or no 0 is no and any other number yes.
-ghost use Rattle.std.specs.Prelude.{◌≡◌, ◌+◌, ◌*◌, ◌/◌, ◌%◌, ◌<◌, leb};
-ghost use Rattle.rimesatchel.specs.States.{standing_from, receiver_from};
+ghost use Rattle.std.specs.Prelude.{◌≡◌, ◌+◌, ◌*◌, ◌/◌, ◌%◌, ◌<◌, ◌≤◌, leb, length};
+ghost use Rattle.rimesatchel.specs.States.{standing_in, receiver_in, with_numbers, Within};
 
 use pieces::Standing;
 use receiver::Receiver;
@@ -12,43 +12,54 @@ pub(crate) fn low(n: u64) -> u8
     (n % 256) as u8
 }
 
-pub(crate) fn standing_of(stage: u64, fault: u64, count: u64, left: u64, records: u64) -> Standing
-    ensures { result ≡ standing_from stage fault count left records }
+// Where the log stands, by a state's first five numbers.
+pub(crate) fn standing_in(s: &[u64]) -> Standing
+    requires { 11 ≤ length s.now }
+    ensures { result ≡ standing_in s.now }
 {
-    let low_stage = low(stage);
-    let low_fault = low(fault);
     Standing {
-        stage: low_stage,
-        fault: low_fault,
-        count: count as usize,
-        left,
-        records,
+        stage: low(s[0]),
+        fault: low(s[1]),
+        count: s[2] as usize,
+        left: s[3],
+        records: s[4],
     }
 }
 
-pub(crate) fn receiver_of(
-    format: u64,
-    channels: u64,
-    order: u64,
-    started: u64,
-    last: u64,
-    count: u64,
-) -> Receiver
-    ensures { result ≡ receiver_from format channels order started last count }
+// The receiver's state, by the six numbers behind them.
+pub(crate) fn receiver_in(s: &[u64]) -> Receiver
+    requires { 11 ≤ length s.now }
+    ensures { result ≡ receiver_in s.now }
 {
-    let low_format = low(format);
-    let low_channels = low(channels);
-    let low_order = low(order);
-    let low_last = low(last);
-    let low_count = (count % 4294967296) as u32;
     Receiver {
-        format: low_format,
-        channels: low_channels,
-        order: low_order,
-        started: started != 0,
-        last: low_last,
-        count: low_count,
+        format: low(s[5]),
+        channels: low(s[6]),
+        order: low(s[7]),
+        started: s[8] != 0,
+        last: low(s[9]),
+        count: (s[10] % 4294967296) as u32,
     }
+}
+
+// Writes these eleven numbers before those that are a state's own. They are within their widths.
+pub(crate) fn put_numbers(standing: Standing, receiver: Receiver, own: &[u64], numbers: &mut [u64])
+    requires { length numbers.old ≡ 11 + length own.now }
+    ensures { (numbers.new ≡ with_numbers standing receiver own.now) × Within standing receiver }
+{
+    numbers[..11].copy_from_slice(&[
+        standing.stage as u64,
+        standing.fault as u64,
+        standing.count as u64,
+        standing.left,
+        standing.records,
+        receiver.format as u64,
+        receiver.channels as u64,
+        receiver.order as u64,
+        receiver.started as u64,
+        receiver.last as u64,
+        receiver.count as u64,
+    ]);
+    numbers[11..].copy_from_slice(own);
 }
 
 // Whether a run is long enough for what a piece can make: `first` octets, and `each` for every record that it can make whole. The
@@ -57,8 +68,5 @@ pub(crate) fn has_room(first: usize, each: usize, piece: usize, run: usize) -> b
     requires { 0 < each }
     ensures { result ≡ leb (first + each * (piece / 49 + 1)) run }
 {
-    if run < first {
-        return false;
-    }
-    piece / 49 < (run - first) / each
+    first <= run && piece / 49 < (run - first) / each
 }

@@ -1,23 +1,20 @@
 // Channel status for C, Rust and Python: 25 octets are a block (bits begun, then the 24 octets under assembly), or what goes
 // out (answer 0 neither, 1 doesn't fit, 2 fits, 3 none carried, then the 24 octets handed out).
 ghost use Rattle.std.specs.Prelude.{◌∷◌, ◌≡◌, drop};
+ghost use Rattle.status.specs.Answers.{answered_handed};
 ghost use Rattle.status.specs.Check.{check_character};
-ghost use Rattle.rimesatchel.specs.Statuses.{SteppedOctets, RanOctets};
+ghost use Rattle.rimesatchel.specs.Statuses.{block_of, handed_octets, SteppedOctets, RanOctets};
 
 use status::assembler::brought_forward;
 use status::check::check_character;
 use status::run::run;
-use status::step::Block;
+use status::step::{Block, Finished};
 
 fn after_first(octets: [u8; 25]) -> [u8; 24]
     ensures { result ≡ drop 1 octets }
 {
-    let mut rest = [0u8; 24];
-    let mut i: usize = 0;
-    while i < 24 {
-        rest[i] = octets[1 + i];
-        i += 1;
-    }
+    let mut rest = [0; 24];
+    rest.copy_from_slice(&octets[1..]);
     rest
 }
 
@@ -25,12 +22,33 @@ fn with_first(first: u8, rest: [u8; 24]) -> [u8; 25]
     ensures { result ≡ first ∷ rest }
 {
     let mut octets = [first; 25];
-    let mut i: usize = 0;
-    while i < 24 {
-        octets[1 + i] = rest[i];
-        i += 1;
-    }
+    octets[1..].copy_from_slice(&rest);
     octets
+}
+
+fn block_of(octets: [u8; 25]) -> Block
+    ensures { result ≡ block_of octets }
+{
+    Block {
+        bits: octets[0],
+        octets: after_first(octets),
+    }
+}
+
+fn octets_of(block: Block) -> [u8; 25]
+    ensures { result ≡ block.bits ∷ block.octets }
+{
+    with_first(block.bits, block.octets)
+}
+
+// What goes out.
+fn handed_octets(handed: Option<Finished>) -> [u8; 25]
+    ensures { result ≡ handed_octets (answered_handed (Ok handed)) }
+{
+    match handed {
+        Some(finished) => with_first(finished.fit.into(), finished.octets),
+        None => [0; 25],
+    }
 }
 
 // Brings the block forward by an ancillary number and its mark, writes what goes out, and gives the refusal: 0, or 14 where
@@ -38,21 +56,17 @@ fn with_first(first: u8, rest: [u8; 24]) -> [u8; 25]
 pub fn rime_status_step(block: &mut [u8; 25], ancillary: u8, mark: u8, out: &mut [u8; 25]) -> u8
     ensures { SteppedOctets block.old ancillary mark result block.new out.new }
 {
-    let lent = *block;
-    let bits = lent[0];
-    let octets = after_first(lent);
-    let begun = Block {
-        bits: bits,
-        octets: octets,
-    };
-    let stepped = brought_forward(begun, ancillary, mark);
-    let after = stepped.block;
-    let handed = stepped.handed;
-    let left = after.octets;
-    *block = with_first(after.bits, left);
-    let given = handed.octets;
-    *out = with_first(handed.answer, given);
-    handed.refusal
+    match brought_forward(block_of(*block), ancillary, mark) {
+        Ok(stepped) => {
+            *block = octets_of(stepped.block);
+            *out = handed_octets(stepped.handed);
+            0
+        }
+        Err(refusal) => {
+            *out = [0; 25];
+            refusal.into()
+        }
+    }
 }
 
 // Brings the block forward by the entries of two runs from one on, every so many-th, until one hands out a block or the runs end.
@@ -70,23 +84,25 @@ pub fn rime_status_run(
     ensures { RanOctets block.old ancillary.now marks.now from step result block.new
         out.new next.new }
 {
-    let lent = *block;
-    let bits = lent[0];
-    let octets = after_first(lent);
-    let begun = Block {
-        bits: bits,
-        octets: octets,
-    };
-    let ran = run(begun, ancillary, marks, from as usize, step as usize);
-    let stepped = ran.stepped;
-    let after = stepped.block;
-    let handed = stepped.handed;
-    let left = after.octets;
-    *block = with_first(after.bits, left);
-    let brought = handed.octets;
-    *out = with_first(handed.answer, brought);
-    *next = ran.next as u64;
-    handed.refusal
+    match run(
+        block_of(*block),
+        ancillary,
+        marks,
+        from as usize,
+        step as usize,
+    ) {
+        Ok(ran) => {
+            *block = octets_of(ran.stepped.block);
+            *out = handed_octets(ran.stepped.handed);
+            *next = ran.next as u64;
+            0
+        }
+        Err(refusal) => {
+            *out = [0; 25];
+            *next = 0;
+            refusal.into()
+        }
+    }
 }
 
 // The check character of octets 0 to 22; octet 23 isn't read.

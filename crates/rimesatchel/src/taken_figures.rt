@@ -6,11 +6,10 @@ ghost use Rattle.rimesatchel.specs.TakenFigures.{figures_from, figure_numbers, F
 use crate::states;
 use figures::{Counts, Noted, Tally};
 
-fn tally_of(s: [u64; 20]) -> Tally
-    ensures { result ≡ figures_from s }
+#[tactic(auto, unfolding(crate::specs::TakenFigures::figures_from))]
+fn tally_of(s: &[u64; 20]) -> Tally
+    ensures { result ≡ figures_from s.now }
 {
-    let standing = states::standing_of(s[0], s[1], s[2], s[3], s[4]);
-    let state = states::receiver_of(s[5], s[6], s[7], s[8], s[9], s[10]);
     let counts = Counts {
         sound: s[11],
         missing: s[12],
@@ -22,40 +21,39 @@ fn tally_of(s: [u64; 20]) -> Tally
         marked_1: s[18],
         marked_2: s[19],
     };
-    let noted = Noted { state, counts };
-    Tally { standing, noted }
+    Tally {
+        standing: states::standing_in(s),
+        noted: Noted {
+            state: states::receiver_in(s),
+            counts,
+        },
+    }
 }
 
 // The numbers of a log's figures, which give them back.
 fn numbers_of(tally: Tally) -> [u64; 20]
     ensures { (result ≡ figure_numbers tally) × (figures_from result ≡ tally) }
 {
-    let standing = tally.standing;
-    let noted = tally.noted;
-    let state = noted.state;
+    let Tally { standing, noted } = tally;
     let counts = noted.counts;
-    [
-        standing.stage as u64,
-        standing.fault as u64,
-        standing.count as u64,
-        standing.left,
-        standing.records,
-        state.format as u64,
-        state.channels as u64,
-        state.order as u64,
-        state.started as u64,
-        state.last as u64,
-        state.count as u64,
-        counts.sound,
-        counts.missing,
-        counts.refused_8,
-        counts.refused_9,
-        counts.refused_15,
-        counts.refused_20,
-        counts.marked_0,
-        counts.marked_1,
-        counts.marked_2,
-    ]
+    let mut numbers = [0u64; 20];
+    states::put_numbers(
+        standing,
+        noted.state,
+        &[
+            counts.sound,
+            counts.missing,
+            counts.refused_8,
+            counts.refused_9,
+            counts.refused_15,
+            counts.refused_20,
+            counts.marked_0,
+            counts.marked_1,
+            counts.marked_2,
+        ],
+        &mut numbers,
+    );
+    numbers
 }
 
 // The figures of a log before its first octet, of any length. Refuses nothing, and returns 0.
@@ -71,8 +69,7 @@ pub fn rime_figures_start(state: &mut [u64; 20], held: &mut [u8; 49]) -> u8
 pub fn rime_figures_take(state: &mut [u64; 20], held: &mut [u8; 49], piece: &[u8]) -> u8
     ensures { FiguresTaken state.old held.old piece.now result state.new held.new }
 {
-    let lent = *state;
-    let tally = figures::take(tally_of(lent), held, piece);
+    let tally = figures::take(tally_of(state), held, piece);
     *state = numbers_of(tally);
     0
 }
@@ -82,11 +79,14 @@ pub fn rime_figures_take(state: &mut [u64; 20], held: &mut [u8; 49], piece: &[u8
 pub fn rime_figures_end(state: &[u64; 20], row: &mut [u32; 10]) -> u8
     ensures { FiguresEnded state.now result row.new }
 {
-    let lent = *state;
-    let tally = tally_of(lent);
-    let noted = tally.noted;
-    let answer = figures::closed(noted.counts);
-    let numbers = answer.totals;
-    *row = numbers;
-    answer.refusal
+    match figures::closed(tally_of(state).noted.counts) {
+        Ok(totals) => {
+            *row = totals;
+            0
+        }
+        Err(refusal) => {
+            *row = [0; 10];
+            refusal.into()
+        }
+    }
 }

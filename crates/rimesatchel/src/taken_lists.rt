@@ -6,45 +6,40 @@ ghost use Rattle.rimesatchel.specs.TakenLists.{listing_from, list_numbers, ListS
 use crate::states;
 use listing::{Listing, Tally};
 
-fn listing_of(s: [u64; 15]) -> Listing
-    ensures { result ≡ listing_from s }
+#[tactic(auto, unfolding(crate::specs::TakenLists::listing_from))]
+fn listing_of(s: &[u64; 15]) -> Listing
+    ensures { result ≡ listing_from s.now }
 {
-    let standing = states::standing_of(s[0], s[1], s[2], s[3], s[4]);
-    let state = states::receiver_of(s[5], s[6], s[7], s[8], s[9], s[10]);
-    let tally = Tally {
-        state,
-        records: s[11] as usize,
-        sound: s[12] as usize,
-        missing: s[13] as usize,
-        refused: s[14] as usize,
-    };
-    Listing { standing, tally }
+    Listing {
+        standing: states::standing_in(s),
+        tally: Tally {
+            state: states::receiver_in(s),
+            records: s[11] as usize,
+            sound: s[12] as usize,
+            missing: s[13] as usize,
+            refused: s[14] as usize,
+        },
+    }
 }
 
 // The numbers of a list, which give it back.
 fn numbers_of(listing: Listing) -> [u64; 15]
     ensures { (result ≡ list_numbers listing) × (listing_from result ≡ listing) }
 {
-    let standing = listing.standing;
-    let tally = listing.tally;
-    let state = tally.state;
-    [
-        standing.stage as u64,
-        standing.fault as u64,
-        standing.count as u64,
-        standing.left,
-        standing.records,
-        state.format as u64,
-        state.channels as u64,
-        state.order as u64,
-        state.started as u64,
-        state.last as u64,
-        state.count as u64,
-        tally.records as u64,
-        tally.sound as u64,
-        tally.missing as u64,
-        tally.refused as u64,
-    ]
+    let Listing { standing, tally } = listing;
+    let mut numbers = [0u64; 15];
+    states::put_numbers(
+        standing,
+        tally.state,
+        &[
+            tally.records as u64,
+            tally.sound as u64,
+            tally.missing as u64,
+            tally.refused as u64,
+        ],
+        &mut numbers,
+    );
+    numbers
 }
 
 // A list before the first octet of a log, of which it takes up to 4,294,967,295. Refuses nothing, and returns 0.
@@ -72,10 +67,8 @@ pub fn rime_list_take(
         *written = 0;
         return 21;
     }
-    let lent = *state;
-    let printed = listing::take(listing_of(lent), held, piece, text);
-    let listed = printed.listed;
-    *written = listed.octets as u64;
+    let printed = listing::take(listing_of(state), held, piece, text);
+    *written = printed.listed.octets as u64;
     *state = numbers_of(printed.listing);
     0
 }
@@ -89,9 +82,7 @@ pub fn rime_list_end(state: &[u64; 15], held: &[u8; 49], text: &mut [u8], writte
         *written = 0;
         return 21;
     }
-    let lent = *state;
-    let octets = *held;
-    let listed = listing::end(listing_of(lent), octets, text);
+    let listed = listing::end(listing_of(state), *held, text);
     *written = listed.octets as u64;
     0
 }

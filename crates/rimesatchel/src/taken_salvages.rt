@@ -7,23 +7,20 @@ ghost use Rattle.rimesatchel.specs.TakenSalvages.{salvaging_from, salvage_number
 use crate::states;
 use salvaging::{Salvaging, Tally};
 
-fn salvaging_of(s: [u64; 16]) -> Salvaging
-    ensures { result ≡ salvaging_from s }
+#[tactic(auto, unfolding(crate::specs::TakenSalvages::salvaging_from))]
+fn salvaging_of(s: &[u64; 16]) -> Salvaging
+    ensures { result ≡ salvaging_from s.now }
 {
-    let standing = states::standing_of(s[0], s[1], s[2], s[3], s[4]);
-    let state = states::receiver_of(s[5], s[6], s[7], s[8], s[9], s[10]);
-    let refusal = states::low(s[12]);
-    let tally = Tally {
-        state,
-        refusal,
-        taken: s[13] as usize,
-        kept: s[14] as usize,
-        left_out: s[15] as usize,
-    };
     Salvaging {
-        standing,
+        standing: states::standing_in(s),
         octets: s[11] as usize,
-        tally,
+        tally: Tally {
+            state: states::receiver_in(s),
+            refusal: states::low(s[12]),
+            taken: s[13] as usize,
+            kept: s[14] as usize,
+            left_out: s[15] as usize,
+        },
     }
 }
 
@@ -31,27 +28,25 @@ fn salvaging_of(s: [u64; 16]) -> Salvaging
 fn numbers_of(salvaging: Salvaging) -> [u64; 16]
     ensures { (result ≡ salvage_numbers salvaging) × (salvaging_from result ≡ salvaging) }
 {
-    let standing = salvaging.standing;
-    let tally = salvaging.tally;
-    let state = tally.state;
-    [
-        standing.stage as u64,
-        standing.fault as u64,
-        standing.count as u64,
-        standing.left,
-        standing.records,
-        state.format as u64,
-        state.channels as u64,
-        state.order as u64,
-        state.started as u64,
-        state.last as u64,
-        state.count as u64,
-        salvaging.octets as u64,
-        tally.refusal as u64,
-        tally.taken as u64,
-        tally.kept as u64,
-        tally.left_out as u64,
-    ]
+    let Salvaging {
+        standing,
+        octets,
+        tally,
+    } = salvaging;
+    let mut numbers = [0u64; 16];
+    states::put_numbers(
+        standing,
+        tally.state,
+        &[
+            octets as u64,
+            tally.refusal as u64,
+            tally.taken as u64,
+            tally.kept as u64,
+            tally.left_out as u64,
+        ],
+        &mut numbers,
+    );
+    numbers
 }
 
 // A salvage before the first octet of a log of any length. Refuses nothing, and returns 0.
@@ -67,10 +62,7 @@ pub fn rime_salvage_start(state: &mut [u64; 16], held: &mut [u8; 49]) -> u8
 fn has_both(piece: usize, out: usize, notes: usize) -> bool
     ensures { result ≡ leb (most_out piece) out && leb (most_notes piece) notes }
 {
-    if !states::has_room(3, 49, piece, out) {
-        return false;
-    }
-    states::has_room(216, 50, piece, notes)
+    states::has_room(3, 49, piece, out) && states::has_room(216, 50, piece, notes)
 }
 
 // Takes a piece of the log. Of what it makes whole the header and the sound records go into `out`, and a line for each record left
@@ -91,11 +83,8 @@ pub fn rime_salvage_take(
         *written = [0u64; 2];
         return 21;
     }
-    let lent = *state;
-    let wrote = salvaging::take(salvaging_of(lent), held, piece, out, notes);
-    let saved = wrote.saved;
-    let noted = wrote.noted;
-    *written = [saved.octets as u64, noted.octets as u64];
+    let wrote = salvaging::take(salvaging_of(state), held, piece, out, notes);
+    *written = [wrote.saved.octets as u64, wrote.noted.octets as u64];
     *state = numbers_of(wrote.salvaging);
     0
 }
@@ -114,9 +103,7 @@ pub fn rime_salvage_end(
         *written = 0;
         return 21;
     }
-    let lent = *state;
-    let octets = *held;
-    let noted = salvaging::end(salvaging_of(lent), octets, notes);
+    let noted = salvaging::end(salvaging_of(state), *held, notes);
     *written = noted.octets as u64;
     0
 }

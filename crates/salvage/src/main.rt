@@ -69,8 +69,7 @@ fn take_read(
         out.old notes.old result held.new out.new notes.new
         × Whole result.saved (length out.new) × Whole result.noted (length notes.new) }
 {
-    let n = turn.octets;
-    salvaging::take(salvaging, held, &buffer[..n], out, notes)
+    salvaging::take(salvaging, held, &buffer[..turn.octets], out, notes)
 }
 
 // Writes what is said last.
@@ -105,9 +104,7 @@ fn save(
     while source::goes_on(turn, true) {
         turn = source::read(rt, b"salvage", name, from, buffer, turn.left);
         let wrote = take_read(salvaging, held, buffer, turn, out, notes);
-        let saved = wrote.saved;
-        let noted = wrote.noted;
-        if !print_both(rt, out, saved, notes, noted) {
+        if !print_both(rt, out, wrote.saved, notes, wrote.noted) {
             return;
         }
         salvaging = wrote.salvaging;

@@ -1,7 +1,7 @@
 -- Laws of the way along a piece: what was written so far, and the counts behind it.
 -- Assumes nothing.
 use Rattle.std.proofs.Common.{◌≡◌, ℕ, ◌+◌, ◌%◌, ◌^◌, ◌<◌, ◌≤◌, true, List, [], ◌++◌, length, sym, refl, ap, ◌∙◌}
-use Rattle.pieces.specs.declared.Found.{Found}
+use Rattle.pieces.specs.Found.{Found}
 use Rattle.pieces.specs.declared.Standing.{Standing}
 use Rattle.pieces.specs.Limit.{Part}
 use Rattle.pieces.specs.Steps.{Steps, found_parts}

@@ -1,19 +1,16 @@
 -- Laws of what is written of a log's parts, and of the counts behind them.
 -- Assumes nothing.
-use Rattle.std.proofs.Common.{◌≡◌, ℕ, ◌+◌, ◌-◌, ◌%◌, ◌^◌, ◌≤◌, true, false, cond, eqb, ltb, List, [], ◌∷◌, ◌++◌, length, take, sym, refl, ap, ◌∙◌, append_assoc, append-nil, eq-eqb, ne_eqb}
+use Rattle.std.proofs.Common.{◌≡◌, ℕ, ◌+◌, ◌-◌, ◌%◌, ◌^◌, Bool, true, false, cond, eqb, ltb, List, [], ◌∷◌, ◌++◌, length, take, sym, refl, ap, ◌∙◌, append_assoc, append-nil, eq-eqb, ne_eqb}
 use Rattle.runs.proofs.Laws.{split}
-use Rattle.cell_log.specs.declared.Header.{Header}
-use Rattle.cell_log.specs.declared.Record.{Record}
+use Rattle.cell_log.specs.Answers.{Header}
 use Rattle.cell_log.specs.Records.{header_of, record_at, cell_at}
 use Rattle.cell_log.specs.Written.{record_octets}
 use Rattle.receiver.specs.declared.Received.{Received}
 use Rattle.receiver.specs.Receiver.{judged_of}
 use Rattle.reading.specs.Records.{Whole, front_of}
-use Rattle.pieces.specs.declared.Found.{Found}
-use Rattle.pieces.specs.Limit.{Part, head, whole, refused, broken, end_part}
-use Rattle.pieces.specs.Steps.{taking_of, found_parts, is_record, found_octets}
-use Rattle.pieces.specs.Taken.{Taking, end_fault, end_parts}
-use Rattle.pieces.proofs.Walks.{found_record, no_record}
+use Rattle.pieces.specs.Limit.{Part, head, whole, refused, end_part}
+use Rattle.pieces.specs.Steps.{taking_of}
+use Rattle.pieces.specs.Taken.{fault_part, Taking, end_fault, end_parts}
 use Rattle.text.specs.declared.Put.{Put}
 use Rattle.text.specs.Put.{Puts}
 use Rattle.text.proofs.Laws.{puts_same, puts_none}
@@ -59,30 +56,18 @@ unfolding tally_by
 tally_joined t [] b = refl
 tally_joined t (p ∷ a) b = tally_joined (part_tally t p) a b
 
--- the counts past a record, as the code works them out
-module _ (t : Tally) (got : Received) where
-  pub after_sound : {taken kept : ℕ} → got.refusal ≡ 0 → taken ≡ (t.taken + 49) % 2 ^ 64 → kept ≡ (t.kept + 1) % 2 ^ 64
-      → record { state = got.state; refusal = t.refusal; taken = taken; kept = kept; left_out = t.left_out } ≡ after_of t got
-  unfolding after_of
-  after_sound ok a b = rw (a, b, eq-eqb got.refusal 0 ok)
-
-  pub after_refused : {taken left : ℕ} → (got.refusal ≡ 0 → ⊥) → taken ≡ (t.taken + 49) % 2 ^ 64 → left ≡ (t.left_out + 1) % 2 ^ 64
-      → record { state = got.state; refusal = t.refusal; taken = taken; kept = t.kept; left_out = left } ≡ after_of t got
-  unfolding after_of
-  after_refused some a b = rw (a, b, ne_eqb got.refusal 0 some)
-
 -- a record, as the code reads and judges it
 module _ (t : Tally) (octets : List ℕ) where
   abbrev w : Whole
   w = front_of octets
 
-  judged_is : {r : Record} {cell : List ℕ} {got : Received} → r ≡ record_at octets 0 → cell ≡ cell_at octets 0
-      → got ≡ judged_of t.state cell r.indication → got ≡ judged_whole t.state w
+  judged_is : {said : Bool} {cell : List ℕ} {got : Received} → said ≡ (record_at octets 0).indication → cell ≡ cell_at octets 0
+      → got ≡ judged_of t.state cell said → got ≡ judged_whole t.state w
   unfolding front_of
-  judged_is f e g = g ∙ (λ i. judged_of t.state (e i) (f i).indication)
+  judged_is f e g = g ∙ (λ i. judged_of t.state (e i) (f i))
 
-  module _ {r : Record} {cell : List ℕ} {got : Received} {tally : Tally} (read : r ≡ record_at octets 0) (part : cell ≡ cell_at octets 0)
-      (judged : got ≡ judged_of t.state cell r.indication) (counted : tally ≡ after_of t got)
+  module _ {said : Bool} {cell : List ℕ} {got : Received} {tally : Tally} (read : said ≡ (record_at octets 0).indication)
+      (part : cell ≡ cell_at octets 0) (judged : got ≡ judged_of t.state cell said) (counted : tally ≡ after_of t got)
     where
       is : got ≡ judged_whole t.state w
       is = judged_is read part judged
@@ -95,14 +80,14 @@ module _ (t : Tally) (octets : List ℕ) where
       tally_is = counted ∙ ap (after_of t) is
 
       pub tells_sound : {out out₁ notes : List ℕ} {saved saved₁ noted : Put} → got.refusal ≡ 0
-          → Puts out saved out₁ saved₁ (record_octets r.indication cell)
+          → Puts out saved out₁ saved₁ (record_octets said cell)
           → TellsOne t (whole w) out saved out₁ saved₁ notes noted notes noted tally
       unfolding part_octets part_text front_of
       tells_sound {notes = notes} {noted = noted} ok puts =
           let test : eqb (judged_whole t.state w).refusal 0 ≡ true = eq-eqb (judged_whole t.state w).refusal 0 (refusal_is ∙ ok) in
           record {
             saves = puts_same
-                ((λ i. record_octets (read i).indication (part i))
+                ((λ i. record_octets (read i) (part i))
                 ∙ sym (ap (λ b. cond b (record_octets w.indication w.cell) []) test)) puts;
             notes_it = puts_same
                 (sym (ap (λ b. cond b [] (refused_line ((t.kept + t.left_out) % 2 ^ 64) (judged_whole t.state w).refusal)) test))
@@ -125,14 +110,10 @@ module _ (t : Tally) (octets : List ℕ) where
             counts = tally_is;
           }
 
--- what was found, by its kind
-module _ (t : Tally) (f : Found) (held piece : List ℕ) (place : ℕ) where
-  abbrev found : List Part
-  found = found_parts f held piece place
-
-  -- one part was found
-  tells : {out out₁ notes notes₁ : List ℕ} {saved saved₁ noted noted₁ : Put} {tally : Tally} {p : Part} → found ≡ p ∷ []
-      → TellsOne t p out saved out₁ saved₁ notes noted notes₁ noted₁ tally → Tells t found out saved out₁ saved₁ notes noted notes₁ noted₁ tally
+-- one part, and none
+module _ (t : Tally) {parts : List Part} where
+  pub tells : {out out₁ notes notes₁ : List ℕ} {saved saved₁ noted noted₁ : Put} {tally : Tally} {p : Part} → parts ≡ p ∷ []
+      → TellsOne t p out saved out₁ saved₁ notes noted notes₁ noted₁ tally → Tells t parts out saved out₁ saved₁ notes noted notes₁ noted₁ tally
   unfolding octets_by text_by tally_by
   tells {p = p} is one =
       record {
@@ -141,60 +122,43 @@ module _ (t : Tally) (f : Found) (held piece : List ℕ) (place : ℕ) where
         counts = one.counts ∙ ap (tally_by t) (sym is);
       }
 
-  -- a record, in the piece or held
-  pub tells_record : {out out₁ notes notes₁ octets : List ℕ} {saved saved₁ noted noted₁ : Put} {tally : Tally}
-      → (f.what ≡ 2 → place + 49 ≤ length piece) → is_record f.what ≡ true → octets ≡ found_octets f.what held piece place
-      → TellsOne t (whole (front_of octets)) out saved out₁ saved₁ notes noted notes₁ noted₁ tally
-      → Tells t found out saved out₁ saved₁ notes noted notes₁ noted₁ tally
-  tells_record room is_one is one =
-      tells (found_record f held piece place room is_one ∙ ap (λ (l : List ℕ). whole (front_of l) ∷ []) (sym is)) one
+  pub tells_none : {out notes : List ℕ} {saved noted : Put} → parts ≡ [] → Tells t parts out saved out saved notes noted notes noted t
+  unfolding octets_by text_by tally_by
+  tells_none {out} {notes} {saved} {noted} is =
+      record {
+        saves = puts_same (ap (octets_by t) (sym is)) (puts_none out saved);
+        notes_it = puts_same (ap (text_by t) (sym is)) (puts_none notes noted);
+        counts = ap (tally_by t) (sym is);
+      }
 
-  pub tells_header : {out out₁ notes : List ℕ} {saved saved₁ noted : Put} {tally : Tally} {h : Header} → f.what ≡ 1
-      → h ≡ header_of (take 3 held) → Puts out saved out₁ saved₁ (head_octets h) → tally ≡ fresh_tally h
-      → Tells t found out saved out₁ saved₁ notes noted notes noted tally
-  unfolding found_parts part_octets part_text part_tally
-  tells_header {notes = notes} {noted = noted} one is puts counts =
-      tells {p = head (header_of (take 3 held))} (rw (eq-eqb f.what 1 one))
-      (record {
-        saves = puts_same (ap head_octets is) puts;
-        notes_it = puts_none notes noted;
-        counts = counts ∙ ap fresh_tally is;
-      })
+pub one_header : {t : Tally} (held : List ℕ) {out out₁ notes : List ℕ} {saved saved₁ noted : Put} {tally : Tally} {h : Header}
+    → h ≡ record (header_of (take 3 held)) { refusal = 0 } → Puts out saved out₁ saved₁ (head_octets h) → tally ≡ fresh_tally h
+    → TellsOne t (head (header_of (take 3 held))) out saved out₁ saved₁ notes noted notes noted tally
+unfolding part_octets part_text part_tally
+one_header held {notes = notes} {noted = noted} same puts counts =
+    record {
+      saves = puts_same (ap head_octets same) puts;
+      notes_it = puts_none notes noted;
+      counts = counts ∙ ap fresh_tally same;
+    }
 
-  module _ (none : is_record f.what ≡ false) (not-1 : f.what ≡ 1 → ⊥) where
-    pub tells_nothing : {out notes : List ℕ} {saved noted : Put} → (f.what ≡ 4 → ⊥)
-        → Tells t found out saved out saved notes noted notes noted t
-    unfolding found_parts octets_by text_by tally_by
-    tells_nothing {out} {notes} {saved} {noted} not-4 =
-        let nothing : found_parts f held piece place ≡ [] =
-        rw (ne_eqb f.what 1 not-1, (no_record f.what none).0, (no_record f.what none).1, ne_eqb f.what 4 not-4) in
-        record {
-          saves = puts_same (ap (octets_by t) (sym nothing)) (puts_none out saved);
-          notes_it = puts_same (ap (text_by t) (sym nothing)) (puts_none notes noted);
-          counts = ap (tally_by t) (sym nothing);
-        }
+module _ (t : Tally) (stage fault : ℕ) where
+  fault_writes : [] ≡ part_octets t (fault_part stage fault)
+  unfolding part_octets
+  fault_writes = split (eqb stage 2) (λ e. rw e) (λ e. rw e)
 
-    module _ (four : f.what ≡ 4) where
-      found_fault : {p : Part} → cond (eqb f.standing.stage 2) (refused f.standing.fault) (broken f.standing.fault) ≡ p
-          → found ≡ p ∷ []
-      unfolding found_parts
-      found_fault is =
-          rw (ne_eqb f.what 1 not-1, (no_record f.what none).0, (no_record f.what none).1, eq-eqb f.what 4 four)
-          (ap (λ (p : Part). p ∷ []) is)
+  fault_says : [] ≡ part_text t (fault_part stage fault)
+  unfolding part_text
+  fault_says = split (eqb stage 2) (λ e. rw e) (λ e. rw e)
 
-      pub tells_header_refused : {out notes : List ℕ} {saved noted : Put} {tally : Tally} → f.standing.stage ≡ 2
-          → tally ≡ refused_by t f.standing.fault → Tells t found out saved out saved notes noted notes noted tally
-      unfolding part_octets part_text part_tally
-      tells_header_refused {out} {notes} {saved} {noted} two counts =
-          tells {p = refused f.standing.fault} (found_fault {p = refused f.standing.fault} (rw (eq-eqb f.standing.stage 2 two)))
-          (record { saves = puts_none out saved; notes_it = puts_none notes noted; counts = counts })
-
-      pub tells_broken : {out notes : List ℕ} {saved noted : Put} → (f.standing.stage ≡ 2 → ⊥)
-          → Tells t found out saved out saved notes noted notes noted t
-      unfolding part_octets part_text part_tally
-      tells_broken {out} {notes} {saved} {noted} other =
-          tells {p = broken f.standing.fault} (found_fault {p = broken f.standing.fault} (rw (ne_eqb f.standing.stage 2 other)))
-          (record { saves = puts_none out saved; notes_it = puts_none notes noted; counts = refl })
+  pub one_fault : {out notes : List ℕ} {saved noted : Put} {tally : Tally} → tally ≡ part_tally t (fault_part stage fault)
+      → TellsOne t (fault_part stage fault) out saved out saved notes noted notes noted tally
+  one_fault {out} {notes} {saved} {noted} counts =
+      record {
+        saves = puts_same fault_writes (puts_none out saved);
+        notes_it = puts_same fault_says (puts_none notes noted);
+        counts = counts;
+      }
 
 -- at the log's end
 module _ (s : Salvaging) (held : List ℕ) where

@@ -11,8 +11,8 @@ mod lines; // lines.rt: the lines that are said
 mod parts; // parts.rt: what is written of a log's parts, and the counts
 
 // The receiver's state and what is known so far: the header's refusal (0: none), the octets of the header and of the whole records,
-// the records kept, and those left out.
-#[derive(Clone, Copy)]
+// the records kept, and those left out. The refusal stays a number: counts that come from C have any octet for it (`SalvageTaken`).
+#[derive(Clone, Copy, Debug, PartialEq, Eq, Hash)]
 pub struct Tally {
     pub state: Receiver,
     pub refusal: u8,
@@ -22,7 +22,7 @@ pub struct Tally {
 }
 
 // A salvage under way: where its log stands, the octets of the log so far, and the counts.
-#[derive(Clone, Copy)]
+#[derive(Clone, Copy, Debug, PartialEq, Eq, Hash)]
 pub struct Salvaging {
     pub standing: Standing,
     pub octets: usize,
@@ -30,7 +30,7 @@ pub struct Salvaging {
 }
 
 // What was written for a piece, of the new log and of the notes, and the salvage to go on with.
-#[derive(Clone, Copy)]
+#[derive(Clone, Copy, Debug, PartialEq, Eq, Hash)]
 pub struct Wrote {
     pub saved: Put,
     pub noted: Put,
@@ -42,10 +42,8 @@ pub fn start() -> Salvaging
     ensures { result ≡ start_of }
 {
     let standing = pieces::start(18446744073709551615);
-    let opened = receiver::opened(0, 0, 0);
-    let state = opened.state;
     let tally = Tally {
-        state,
+        state: receiver::opened(0, 0, 0).state,
         refusal: 0,
         taken: 0,
         kept: 0,
@@ -71,9 +69,11 @@ pub fn take(
     ensures { Takes salvaging held.old piece.now out.old notes.old result
         held.new out.new notes.new }
 {
-    pieces::sized(*held);
-    let mut standing = salvaging.standing;
-    let mut tally = salvaging.tally;
+    let Salvaging {
+        mut standing,
+        octets,
+        mut tally,
+    } = salvaging;
     let mut saved = Put {
         octets: 0,
         whole: true,
@@ -92,13 +92,12 @@ pub fn take(
         noted = stepped.noted;
         place = found.next;
     }
-    let octets = std::num::wrapping_add_usize(salvaging.octets, piece.len());
     Wrote {
         saved,
         noted,
         salvaging: Salvaging {
             standing,
-            octets,
+            octets: octets.wrapping_add(piece.len()),
             tally,
         },
     }
@@ -108,11 +107,16 @@ pub fn take(
 fn ended(salvaging: Salvaging, held: [u8; 49]) -> Tally
     ensures { result ≡ end_tally salvaging held }
 {
-    let standing = salvaging.standing;
-    let tally = salvaging.tally;
-    let refusal = pieces::end(standing, held);
+    let Salvaging {
+        standing,
+        tally,
+        ..
+    } = salvaging;
     if standing.stage == 0 {
-        return parts::refused_by(tally, refusal);
+        return Tally {
+            refusal: pieces::end(standing, held),
+            ..tally
+        };
     }
     tally
 }

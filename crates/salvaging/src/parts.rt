@@ -1,21 +1,24 @@
 // What is written of a log's parts, and the counts behind them.
 ghost use Rattle.std.specs.Prelude.{◌≡◌, ◌+◌, ◌-◌, ◌≤◌, length, take};
-ghost use Rattle.cell_log.specs.Records.{header_of};
-ghost use Rattle.cell_log.specs.Written.{octet_of, record_octets};
+ghost use Rattle.cell_log.specs.Records.{header_answered, header_of};
+ghost use Rattle.cell_log.specs.Written.{record_octets};
 ghost use Rattle.reading.specs.Records.{front_of};
 ghost use Rattle.pieces.specs.Limit.{whole};
+ghost use Rattle.pieces.specs.Found.{number_of, numbered};
 ghost use Rattle.pieces.specs.Steps.{found_parts};
+ghost use Rattle.pieces.specs.Taken.{fault_part};
 ghost use Rattle.text.specs.Put.{Puts};
-ghost use Rattle.salvaging.specs.Taking.{fresh_tally, after_of, refused_by, head_octets, last_text, Tells, TellsOne};
+ghost use Rattle.salvaging.specs.Taking.{fresh_tally, after_of, part_tally, head_octets, last_text, Tells, TellsOne};
 
 use crate::{Tally, lines};
 use cell_log::Header;
-use pieces::Found;
+use listing::lines::{log_refused_line, refused_line};
+use pieces::{Found, Standing, What};
 use receiver::Received;
 use text::{Put, put_all};
 
 // What was written so far, and the counts to go on with.
-#[derive(Clone, Copy)]
+#[derive(Clone, Copy, Debug, PartialEq, Eq, Hash)]
 pub(crate) struct Stepped {
     pub saved: Put,
     pub noted: Put,
@@ -23,18 +26,16 @@ pub(crate) struct Stepped {
 }
 
 fn header_of(held: [u8; 49]) -> Header
-    ensures { result ≡ header_of (take 3 held) }
+    ensures { header_answered (Ok result) ≡ record (header_of (take 3 held)) { refusal = 0 } }
 {
-    cell_log::read_header(&held[..3])
+    cell_log::header_numbers(&held[..3])
 }
 
 fn fresh(header: Header) -> Tally
-    ensures { result ≡ fresh_tally header }
+    ensures { result ≡ fresh_tally (header_answered (Ok header)) }
 {
-    let opened = receiver::opened(header.format, header.channels, header.order);
-    let state = opened.state;
     Tally {
-        state,
+        state: receiver::opened(header.format, header.channels, header.order).state,
         refusal: 0,
         taken: 3,
         kept: 0,
@@ -42,49 +43,45 @@ fn fresh(header: Header) -> Tally
     }
 }
 
-// The counts where the header is refused.
-pub(crate) fn refused_by(tally: Tally, refusal: u8) -> Tally
-    ensures { result ≡ refused_by tally refusal }
-{
-    let state = tally.state;
-    Tally {
-        state,
-        refusal,
-        taken: tally.taken,
-        kept: tally.kept,
-        left_out: tally.left_out,
-    }
-}
-
 // The counts past a record that the receiver judged. No log is so long that one of them wraps.
+#[tactic(auto, unfolding(crate::specs::Taking::after_of))]
 fn after(tally: Tally, got: Received) -> Tally
     ensures { result ≡ after_of tally got }
 {
-    let state = got.state;
-    let taken = std::num::wrapping_add_usize(tally.taken, 49);
+    let past = Tally {
+        state: got.state,
+        taken: tally.taken.wrapping_add(49),
+        ..tally
+    };
     if got.refusal == 0 {
-        let kept = std::num::wrapping_add_usize(tally.kept, 1);
         return Tally {
-            state,
-            refusal: tally.refusal,
-            taken,
-            kept,
-            left_out: tally.left_out,
+            kept: tally.kept.wrapping_add(1),
+            ..past
         };
     }
-    let left_out = std::num::wrapping_add_usize(tally.left_out, 1);
     Tally {
-        state,
-        refusal: tally.refusal,
-        taken,
-        kept: tally.kept,
-        left_out,
+        left_out: tally.left_out.wrapping_add(1),
+        ..past
     }
+}
+
+// The counts past a fault: the header's refusal is kept, and behind a broken record nothing changes.
+#[tactic(auto, unfolding(crate::specs::Taking::part_tally))]
+fn past_fault(tally: Tally, standing: Standing) -> Tally
+    ensures { result ≡ part_tally tally (fault_part standing.stage standing.fault) }
+{
+    if standing.stage == 2 {
+        return Tally {
+            refusal: standing.fault,
+            ..tally
+        };
+    }
+    tally
 }
 
 // A header that was taken: each of its numbers is one octet.
 fn put_header(out: &mut [u8], at: Put, header: Header) -> Put
-    ensures { Puts out.old at out.new result (head_octets header) }
+    ensures { Puts out.old at out.new result (head_octets (header_answered (Ok header))) }
 {
     let octets = [
         (header.format % 256) as u8,
@@ -94,17 +91,10 @@ fn put_header(out: &mut [u8], at: Put, header: Header) -> Put
     put_all(out, at, &octets)
 }
 
-fn octet_of(indication: bool) -> u8
-    ensures { result ≡ octet_of indication }
-{
-    if indication { 1 } else { 0 }
-}
-
 fn put_record(out: &mut [u8], at: Put, indication: bool, cell: &[u8]) -> Put
     ensures { Puts out.old at out.new result (record_octets indication cell.now) }
 {
-    let octets = [octet_of(indication)];
-    let past = put_all(out, at, &octets);
+    let past = put_all(out, at, &[u8::from(indication)]);
     put_all(out, past, cell)
 }
 
@@ -120,23 +110,21 @@ fn record_step(
     ensures { TellsOne tally (whole (front_of octets)) out.old saved out.new result.saved
         notes.old noted notes.new result.noted result.tally }
 {
-    let record = cell_log::read_record(&octets, 0);
+    let indication = cell_log::read_indication(&octets, 0);
     let cell = cell_log::read_cell(&octets, 0);
-    let got = receiver::judged(tally.state, cell, record.indication);
+    let got = receiver::judged(tally.state, cell, indication);
     let counted = after(tally, got);
     if got.refusal == 0 {
-        let past = put_record(out, saved, record.indication, cell);
         return Stepped {
-            saved: past,
+            saved: put_record(out, saved, indication, cell),
             noted,
             tally: counted,
         };
     }
-    let index = std::num::wrapping_add_usize(tally.kept, tally.left_out);
-    let past = lines::refused_line(notes, noted, index, got.refusal as usize);
+    let index = tally.kept.wrapping_add(tally.left_out);
     Stepped {
         saved,
-        noted: past,
+        noted: refused_line(notes, noted, index, got.refusal as usize),
         tally: counted,
     }
 }
@@ -153,61 +141,43 @@ pub(crate) fn step(
     piece: &[u8],
     place: usize,
 ) -> Stepped
-    requires { found.what ≡ 2 → place + 49 ≤ length piece.now }
-    ensures { Tells tally (found_parts found held.now piece.now place) out.old saved
+    requires { number_of found.what ≡ 2 → place + 49 ≤ length piece.now }
+    ensures { Tells tally (found_parts (numbered found) held.now piece.now place) out.old saved
         out.new result.saved notes.old noted notes.new result.noted result.tally }
 {
-    if pieces::is_record(found.what) {
-        let octets = pieces::record_octets(found.what, held, piece, place);
+    if let Some(octets) = pieces::record_octets(found.what, held, piece, place) {
         return record_step(out, notes, saved, noted, tally, octets);
     }
-    if found.what == 1 {
-        let header = header_of(*held);
-        let past = put_header(out, saved, header);
-        let begun = fresh(header);
-        return Stepped {
-            saved: past,
+    match found.what {
+        What::Header => {
+            let header = header_of(*held);
+            Stepped {
+                saved: put_header(out, saved, header),
+                noted,
+                tally: fresh(header),
+            }
+        }
+        What::Fault => Stepped {
+            saved,
             noted,
-            tally: begun,
-        };
-    }
-    if found.what != 4 {
-        return Stepped {
+            tally: past_fault(tally, found.standing),
+        },
+        _ => Stepped {
             saved,
             noted,
             tally,
-        };
-    }
-    let standing = found.standing;
-    if standing.stage == 2 {
-        let told = refused_by(tally, standing.fault);
-        return Stepped {
-            saved,
-            noted,
-            tally: told,
-        };
-    }
-    Stepped {
-        saved,
-        noted,
-        tally,
+        },
     }
 }
 
-// The octets of a log that are neither its header's nor a whole record's.
-fn cut_of(octets: usize, taken: usize) -> usize
-    ensures { result ≡ octets - taken }
-{
-    if octets < taken { 0 } else { octets - taken }
-}
-
-// What is said last: the header's refusal, or the counts.
+// What is said last: the header's refusal, or the counts. Cut are the octets of a log that are neither its header's nor a whole
+// record's.
 pub(crate) fn last_line(notes: &mut [u8], at: Put, octets: usize, tally: Tally) -> Put
     ensures { Puts notes.old at notes.new result (last_text octets tally) }
 {
     if tally.refusal != 0 {
-        return lines::log_refused_line(notes, at, tally.refusal as usize);
+        return log_refused_line(notes, at, tally.refusal as usize);
     }
-    let cut = cut_of(octets, tally.taken);
+    let cut = octets.saturating_sub(tally.taken);
     lines::end_line(notes, at, tally.kept, tally.left_out, cut)
 }

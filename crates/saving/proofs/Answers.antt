@@ -13,8 +13,7 @@ use Rattle.runs.specs.Refusals.{or_else}
 use Rattle.runs.specs.Runs.{over, written}
 use Rattle.runs.proofs.Laws.{split}
 use Rattle.formats.specs.Formats.{settings_refusal}
-use Rattle.cell_log.specs.declared.Header.{Header}
-use Rattle.cell_log.specs.declared.keep.Kept.{Kept}
+use Rattle.cell_log.specs.Answers.{Header, Kept}
 use Rattle.cell_log.specs.Records.{header_of}
 use Rattle.cell_log.specs.Written.{Keeps, header_octets, header_refused_of}
 use Rattle.cell_log.proofs.Headers as headers

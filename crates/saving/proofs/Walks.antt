@@ -12,8 +12,7 @@ use lib.ListN.{length, take, drop, length-append, length-drop}
 use lib.Seq.{length-take-le}
 use Rattle.runs.specs.Runs.{written}
 use Rattle.runs.proofs.Laws.{split}
-use Rattle.cell_log.specs.declared.Record.{Record}
-use Rattle.cell_log.specs.declared.keep.Kept.{Kept}
+use Rattle.cell_log.specs.Answers.{Record, Kept}
 use Rattle.cell_log.specs.Records.{record_at, cell_at}
 use Rattle.cell_log.specs.Written.{Keeps, record_refusal, record_octets}
 use Rattle.cell_log.proofs.Places.{record_cases, cell_facts}
@@ -39,18 +38,6 @@ counts_one b e = rw e
 
 counts_other : (b : Bool) → b ≡ false → ◌≡◌ {A = ℕ} (cond (not b) 1 0) 1
 counts_other b e = rw e
-
--- past a record, as the code works it out
-module _ (here : Standing) (next : ℕ) (got : Received) where
-  pub after_sound : got.refusal ≡ 0
-      → record { place = next; kept = here.kept + 1; left_out = here.left_out; state = got.state } ≡ after_of here next got
-  unfolding after_of
-  after_sound e = let none : here.left_out + 0 ≡ here.left_out = omega arith in rw (eq-eqb got.refusal 0 e, none)
-
-  pub after_refused : (got.refusal ≡ 0 → ⊥)
-      → record { place = next; kept = here.kept; left_out = here.left_out + 1; state = got.state } ≡ after_of here next got
-  unfolding after_of
-  after_refused some = let none : here.kept + 0 ≡ here.kept = omega arith in rw (ne_eqb got.refusal 0 some, none)
 
 -- the record here, and what is made of it
 module _ (log : List ℕ) (here : Standing) where
@@ -140,6 +127,10 @@ pub room_again : {log : List ℕ} {state : Receiver} {first : Standing} {out lis
 room_again {log = log} {out = out} {list = list} e = subst (λ (st : Receiver). Room log st out list) (sym (started e))
 
 module _ {log : List ℕ} {state : Receiver} {here : Standing} {found : Record} (w : Walking log state here found) where
+  -- what is read there is one answer, however it is had
+  pub seen : {found' : Record} → found' ≡ record_at log here.place → Walking log state here found'
+  seen f = record { read = f; within = w.within; far = w.far; kept = w.kept; left = w.left; rest = w.rest }
+
   module _ (none : found.what ≡ 1 → ⊥) where
     pub none_here : (record_at log here.place).what ≡ 1 → ⊥
     none_here one = none (ap (λ (r : Record). r.what) w.read ∙ one)

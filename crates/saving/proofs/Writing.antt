@@ -1,15 +1,13 @@
 -- Laws of entries written one after the other into a lent run, over plain values.
 -- Assumes nothing.
-use mathlib.Core.List.{List, [], ◌∷◌, ◌++◌, append_assoc, append-nil}
+use mathlib.Core.List.{List, [], ◌++◌, append_assoc, append-nil}
 use mathlib.Core.Path.{◌≡◌, sym, ◌∙◌, ap, ap₂}
 use Prim.Native.Nat.{ℕ, ◌+◌, ◌≤◌}
 use native.Mathlib.Nat.{zero-add}
-use native.Mathlib.Numerals.{add-one}
 use native.Mathlib.Omega.{arith}
-use lib.ListN.{length, take, drop, set, length-append, take-append-drop}
-use lib.Seq.{length-take-le, take_at, drop-append-add, drop-drop, sets}
+use lib.ListN.{length, take, drop, length-append, take-append-drop}
+use lib.Seq.{length-take-le, take_at, drop-append-add, drop-drop}
 use Rattle.runs.specs.Runs.{over, written}
-use Rattle.runs.proofs.Filling.{stored}
 
 module _ (run : List ℕ) where
   pub written_none : (at : ℕ) → written run at [] ≡ run
@@ -22,12 +20,6 @@ module _ (run : List ℕ) where
   pub written_front : (new : List ℕ) → written run 0 new ≡ over new run
   unfolding over
   written_front new = rw (zero-add (length new))
-
-  -- two entries stored, one after the other
-  pub two_stored : (at a b : ℕ) → at + 2 ≤ length run → set (set run at a) (at + 1) b ≡ written run at (a ∷ b ∷ [])
-  two_stored at a b room =
-      let same : set (set run at a) (at + 1) b ≡ sets run at (a ∷ b ∷ []) = rw (add-one at) in same
-      ∙ stored (a ∷ b ∷ []) run at room
 
   module _ (at : ℕ) (a b : List ℕ) (inside : at ≤ length run) where
     abbrev before : List ℕ

@@ -11,7 +11,7 @@ ghost use Rattle.saving.specs.Salvage.{salvage_refusal, Salvages};
 use receiver::{Received, Receiver};
 
 // The refusal (0: none); the octets of the new log, the records left out, and the octets cut, all zero where it is refused.
-#[derive(Clone, Copy)]
+#[derive(Clone, Copy, Debug, PartialEq, Eq, Hash)]
 pub struct Salvaged {
     pub refusal: u8,
     pub octets: usize,
@@ -20,7 +20,7 @@ pub struct Salvaged {
 }
 
 // Where a walk through a log stands: the place, the records kept and left out so far, and the receiver's state.
-#[derive(Clone, Copy)]
+#[derive(Clone, Copy, Debug, PartialEq, Eq, Hash)]
 struct Standing {
     pub place: usize,
     pub kept: usize,
@@ -29,26 +29,25 @@ struct Standing {
 }
 
 // Past a record that the receiver judged.
+#[tactic(auto, unfolding(crate::specs::Code::after_of))]
 fn after(here: Standing, next: usize, got: Received) -> Standing
     requires { here.kept + here.left_out < here.place }
     ensures { result ≡ after_of here next got }
 {
-    let state = got.state;
+    let past = Standing {
+        place: next,
+        state: got.state,
+        ..here
+    };
     if got.refusal == 0 {
-        let kept = here.kept + 1;
         return Standing {
-            place: next,
-            kept,
-            left_out: here.left_out,
-            state,
+            kept: here.kept + 1,
+            ..past
         };
     }
-    let left_out = here.left_out + 1;
     Standing {
-        place: next,
-        kept: here.kept,
-        left_out,
-        state,
+        left_out: here.left_out + 1,
+        ..past
     }
 }
 
@@ -64,21 +63,21 @@ fn start(state: Receiver) -> Standing
     }
 }
 
+// Two walks, this and `write`, as neither output may be written where one is too short: in one with a closure for what is done of each
+// record the proof would know nothing of what the closure wrote.
 // Counts the records, and stops at the first framing fault or the end.
 fn count(log: &[u8], state: Receiver) -> Standing
     requires { 3 ≤ length log.now }
     ensures { Counts log.now state result }
 {
     let mut here = start(state);
-    let mut found = cell_log::read_record(log, here.place);
-    while found.what == 1 {
+    while let Ok(Some(record)) = cell_log::read_record(log, here.place) {
         let got = receiver::judged(
             here.state,
             cell_log::read_cell(log, here.place),
-            found.indication,
+            record.indication,
         );
-        here = after(here, found.next, got);
-        found = cell_log::read_record(log, here.place);
+        here = after(here, record.next, got);
     }
     here
 }
@@ -90,16 +89,11 @@ fn has_room(log: &[u8], state: Receiver, out: usize, list: usize) -> bool
     ensures { result ≡ eqb (salvage_refusal log.now out list) 0 }
 {
     let size = log.len();
-    if size <= out {
-        if size / 49 * 2 <= list {
-            return true;
-        }
+    if size <= out && size / 49 * 2 <= list {
+        return true;
     }
     let counted = count(log, state);
-    if out < 3 + 49 * counted.kept {
-        return false;
-    }
-    2 * counted.left_out <= list
+    3 + 49 * counted.kept <= out && 2 * counted.left_out <= list
 }
 
 // Two numbers at a place of a lent list.
@@ -107,8 +101,7 @@ fn put_two(list: &mut [u64], place: usize, first: u64, second: u64)
     requires { place + 2 ≤ length list.old }
     ensures { list.new ≡ written list.old place (first ∷ second ∷ []) }
 {
-    list[place] = first;
-    list[place + 1] = second;
+    list[place..place + 2].copy_from_slice(&[first, second]);
 }
 
 // Puts a record where it belongs: a sound one into the new log, another into the list.
@@ -118,7 +111,7 @@ fn put(out: &mut [u8], list: &mut [u64], here: Standing, refusal: u8, indication
         list.new }
 {
     if refusal == 0 {
-        cell_log::keep::write_record(out, 3 + 49 * here.kept, indication, cell);
+        let _ = cell_log::keep::write_record(out, 3 + 49 * here.kept, indication, cell);
         return;
     }
     let index = here.kept + here.left_out;
@@ -132,13 +125,11 @@ fn write(log: &[u8], state: Receiver, out: &mut [u8], list: &mut [u64]) -> Stand
         out.new list.new }
 {
     let mut here = start(state);
-    let mut found = cell_log::read_record(log, here.place);
-    while found.what == 1 {
+    while let Ok(Some(record)) = cell_log::read_record(log, here.place) {
         let cell = cell_log::read_cell(log, here.place);
-        let got = receiver::judged(here.state, cell, found.indication);
-        put(out, list, here, got.refusal, found.indication, cell);
-        here = after(here, found.next, got);
-        found = cell_log::read_record(log, here.place);
+        let got = receiver::judged(here.state, cell, record.indication);
+        put(out, list, here, got.refusal, record.indication, cell);
+        here = after(here, record.next, got);
     }
     here
 }
@@ -160,23 +151,21 @@ fn refused(refusal: u8) -> Salvaged
 pub fn salvage(log: &[u8], out: &mut [u8], list: &mut [u64]) -> Salvaged
     ensures { Salvages log.now out.old list.old result out.new list.new }
 {
-    let header = cell_log::read_header(log);
-    if header.refusal != 0 {
-        return refused(header.refusal);
-    }
+    let header = match cell_log::read_header(log) {
+        Ok(header) => header,
+        Err(refusal) => return refused(refusal.into()),
+    };
     let opened = receiver::opened(header.format, header.channels, header.order);
     let state = opened.state;
     if !has_room(log, state, out.len(), list.len()) {
         return refused(21);
     }
-    cell_log::keep::write_header(out, header.format, header.channels, header.order);
+    let _ = cell_log::keep::write_header(out, header.format, header.channels, header.order);
     let end = write(log, state, out, list);
-    let octets = 3 + 49 * end.kept;
-    let cut = log.len() - end.place;
     Salvaged {
         refusal: 0,
-        octets,
+        octets: 3 + 49 * end.kept,
         left_out: end.left_out,
-        cut,
+        cut: log.len() - end.place,
     }
 }

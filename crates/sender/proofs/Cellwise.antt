@@ -8,7 +8,7 @@ use lib.ListN as L
 use Rattle.runs.specs.Runs.{written}
 use Rattle.runs.proofs.Laws.{split, then_later, past, past_both, neither}
 use Rattle.formats.specs.declared.Format.{Format}
-use Rattle.formats.specs.declared.Settled.{Settled}
+use Rattle.formats.specs.Settled.{Settled}
 use Rattle.formats.specs.Formats.{settings_refusal}
 use Rattle.formats.specs.Settings.{settings_of, settled}
 use Rattle.formats.specs.Sound.{Limits}
@@ -149,10 +149,6 @@ module _ (st : Sender) (indication : Bool) (samples ancillary : List ℕ) {set :
     unfolding cell_after
     cell_is second_is filled =
         (writes_taken call blank given none_of second_is refl filled).cell_after_lem ∙ rw (eq-eqb (refusal_of call (length blank)) 0 (sym none_of))
-
--- one cell fewer to come
-pub one_fewer : {n most : ℕ} → n < most → most - (n + 1) < most - n
-one_fewer h = omega (arith, h)
 
 -- the state behind one cell more, and the octets of its record behind the others
 behind_more : (st : Sender) (done : List SentCell) (c : SentCell) → state_behind st (done ++ (c ∷ [])) ≡ c.state

@@ -6,9 +6,9 @@ use Rattle.runs.specs.Runs.{joined, octets_of}
 use Rattle.runs.proofs.Filling.{filled_on}
 use Rattle.runs.proofs.Laws.{length_octets}
 use Rattle.formats.specs.declared.Format.{Format}
-use Rattle.formats.specs.declared.Settled.{Settled}
+use Rattle.formats.specs.Settled.{Settled}
+use Rattle.formats.specs.Sound.{Sound, Limits}
 use Rattle.guards.specs.Guards.{v_of, guard_of}
-use Rattle.guards.specs.Code.{seven_guards}
 use Rattle.cells.specs.Cells.{overhead_of, subframe_of}
 use Rattle.cells.specs.Code.{step_on}
 use Rattle.cells.specs.Placement.{entry_of_slot, carried}
@@ -16,7 +16,7 @@ use Rattle.cells.proofs.Placement.{entry_lt, entry_next}
 use Rattle.cells.proofs.Places.{step_fits}
 use Rattle.cells.proofs.Subframes.{guard_zero, slot_room}
 use Rattle.sender.specs.Packing.{Packable, Named, entry_at, slot_by, filled_to, idle_number}
-use Rattle.sender.proofs.Subframes.{guarded_is, plain_is, plain_fits}
+use Rattle.sender.proofs.Subframes.{guarded_is}
 
 -- a cell filled up to `slot`, of the slots before `end` that a loop fills
 pub record Filling (set : Settled) (sequence : ℕ) (samples ancillary cell₀ : List ℕ) (end : ℕ) (cell : List ℕ) (slot : ℕ) : Type 0 where
@@ -57,13 +57,6 @@ module _ (set : Settled) (sequence : ℕ) (samples ancillary cell₀ : List ℕ)
         so_far.is
         ∙ ap (filled_to set sequence samples ancillary cell₀) (let last : slot ≡ end = omega (arith, so_far.within) in last)
 
--- the same for any settings whose order and numbers are these: where a loop has the numbers and not the settings
-abbrev pub FillingBy : Bool → ℕ → ℕ → ℕ → ℕ → ℕ → List ℕ → List ℕ → List ℕ → List ℕ → ℕ → Type 0
-FillingBy by sample-bits ancillary-bits overhead width sequence samples ancillary cell₀ cell slot =
-    (set : Settled) → Packable set samples ancillary → set.by_channel ≡ by
-    → Named set.format sample-bits ancillary-bits overhead width
-    → Filling set sequence samples ancillary cell₀ (length samples) cell slot
-
 -- the sequencing bits, one taken off in each slot
 pub bits_begun : (sequence : ℕ) → sequence ≡ sequence / 2 ^ 0
 bits_begun sequence = sym (div-one sequence)
@@ -93,9 +86,6 @@ module _ {set : Settled} {samples ancillary : List ℕ} (p : Packable set sample
 
   -- what they bound, by the numbers that a call names
   module _ {sample-bits ancillary-bits overhead width : ℕ} (named : Named set.format sample-bits ancillary-bits overhead width) where
-    bits_from : 8 ≤ sample-bits
-    bits_from = omega (arith, named.sample_is, p.limits.sound.sample_from)
-
     bits_to : sample-bits ≤ 40
     bits_to = omega (arith, named.sample_is, p.limits.sound.sample_to)
 
@@ -108,7 +98,7 @@ module _ {set : Settled} {samples ancillary : List ℕ} (p : Packable set sample
     pub small_at : (i : ℕ) → get_or samples i 0 < 2 ^ sample-bits
     small_at i = rw named.sample_is (p.small i)
 
-    few_at : (i : ℕ) {few : ℕ} → few ≡ get_or ancillary i 0 → few < 2 ^ ancillary-bits
+    pub few_at : (i : ℕ) {few : ℕ} → few ≡ get_or ancillary i 0 → few < 2 ^ ancillary-bits
     few_at i e = rw (e, named.ancillary_is) (p.few i)
 
     pub used_room : {slot : ℕ} → slot < length samples → slot * width + width ≤ 48
@@ -118,8 +108,19 @@ module _ {set : Settled} {samples ancillary : List ℕ} (p : Packable set sample
         → (slot * width + width ≤ room) × (width ≤ 6)
     put_ready less same all = (omega (arith, used_room less), width_to)
 
+  -- what the loop's calls ask
+  pub slot_ready : (i : ℕ) {few bit : ℕ} → few ≡ get_or ancillary i 0 → bit < 2
+      → Sound set.format × (get_or samples i 0 < 2 ^ set.format.sample_bits) × (few < 2 ^ set.format.ancillary_bits) × (bit < 2)
+  slot_ready i few-is small-bit = (p.limits.sound, p.small i, rw few-is (p.few i), small-bit)
+
+  pub slot_put : {slot room whole : ℕ} → slot < length samples → room ≡ whole → whole ≡ 48
+      → (slot * set.format.width + set.format.width ≤ room) × (set.format.width ≤ 6)
+  slot_put {slot} less same all =
+      let inside : slot < set.format.slots = omega (arith, used_in_lem) in
+      (omega (arith, same, all, slot_room p.limits.sound inside), p.limits.sound.width_to)
+
   -- a used slot's subframe
-  used_number : {slot at few bit sequencing number : ℕ} → at ≡ entry_at set slot → slot < length samples → few ≡ get_or ancillary at 0
+  pub used_number : {slot at few bit sequencing number : ℕ} → at ≡ entry_at set slot → slot < length samples → few ≡ get_or ancillary at 0
       → bit ≡ sequencing
       → number ≡ subframe_of set.format (get_or samples at 0) few bit
       → number ≡ subframe_of set.format (carried_at set samples slot) (carried_at set ancillary slot) sequencing
@@ -131,12 +132,8 @@ module _ {set : Settled} {samples ancillary : List ℕ} (p : Packable set sample
       ∙ ap (λ (i : ℕ). subframe_of set.format (get_or samples i 0) (get_or ancillary i 0) sequencing) at_is
       ∙ rw (lt-ltb slot (set.channels * set.times) used)
 
-  -- what the loops' calls ask, and the number that they put, with overhead and without
+  -- the same with overhead, by the numbers that a call names
   module _ {sample-bits ancillary-bits width : ℕ} (named : Named set.format sample-bits ancillary-bits 4 width) where
-    pub guard_ready : {table : List ℕ} → table ≡ seven_guards → (i : ℕ)
-        → (table ≡ seven_guards) × (8 ≤ sample-bits) × (sample-bits ≤ 40) × (get_or samples i 0 < 2 ^ sample-bits)
-    guard_ready same i = (same, bits_from named, bits_to named, small_at named i)
-
     pub subframe_ready : (i : ℕ) {guard few bit : ℕ} → guard ≡ guard_of sample-bits (get_or samples i 0) (v_of ancillary-bits 0)
         → few ≡ get_or ancillary i 0 → bit < 2
         → (sample-bits ≤ 40) × (ancillary-bits ≤ 4) × (get_or samples i 0 < 2 ^ sample-bits)
@@ -152,19 +149,6 @@ module _ {set : Settled} {samples ancillary : List ℕ} (p : Packable set sample
     guarded_number {at = at} {few = few} {bit = bit} at_is less few-is bit_is e =
         used_number at_is less few-is bit_is (e ∙ guarded_is (get_or samples at 0) few bit named)
 
-  module _ {sample-bits ancillary-bits width : ℕ} (named : Named set.format sample-bits ancillary-bits 0 width) where
-    short : sample-bits + ancillary-bits ≤ 63
-    short = omega (arith, bits_to named, few_to named)
-
-    pub plain_room : (i : ℕ) {few : ℕ} → few ≡ get_or ancillary i 0 → (get_or samples i 0 * 2 ^ ancillary-bits) % 2 ^ 64 + few < 2 ^ 64
-    plain_room i {few} few-is = plain_fits (get_or samples i 0) few 0 named short (small_at named i) (few_at named i few-is)
-
-    pub plain_number : (sequencing : ℕ) {slot at few : ℕ} → at ≡ entry_at set slot → slot < length samples → few ≡ get_or ancillary at 0
-        → (get_or samples at 0 * 2 ^ ancillary-bits) % 2 ^ 64 + few
-        ≡ subframe_of set.format (carried_at set samples slot) (carried_at set ancillary slot) sequencing
-    plain_number sequencing {at = at} {few = few} at_is less few-is =
-        used_number at_is less few-is refl (plain_is (get_or samples at 0) few sequencing named short (small_at named at))
-
   -- and an unused one's
   pub idle_number_lem : (bit : ℕ) {slot number : ℕ} → length samples ≤ slot → number ≡ idle_number set.format.overhead_bits bit
       → number ≡ subframe_of set.format (carried_at set samples slot) (carried_at set ancillary slot) bit
@@ -173,43 +157,47 @@ module _ {set : Settled} {samples ancillary : List ℕ} (p : Packable set sample
       let after : set.channels * set.times ≤ slot = omega (arith, p.samples_length) in
       e ∙ sym (idle_is set.format bit) ∙ rw (le-ltb slot (set.channels * set.times) after)
 
-  -- in order 0 slot k carries entry k
+-- settings' entries, from slot to slot: in order 0 slot k carries entry k, in order 1 the entries go on by C
+module _ (set : Settled) where
   pub in_order : set.by_channel ≡ false → {slot : ℕ} → slot ≡ entry_at set slot
   unfolding entry_of_slot
   in_order is = rw is
 
-  -- in order 1 the entries go on by C
-  module _ (is : set.by_channel ≡ true) where
-    pub entry_first : 0 ≡ entry_at set 0
-    unfolding entry_of_slot
-    entry_first =
-        sym
-        (ap (λ (b : Bool). entry_of_slot b set.channels set.times 0) is
-        ∙ ap₂ (λ (low high : ℕ). low * set.channels + high) (zero-mod set.times) (zero-div set.times)
-        ∙ omega (arith, zero-mul set.channels))
+  pub entry_first : 0 ≡ entry_at set 0
+  unfolding entry_of_slot
+  entry_first = first set.by_channel
+    where
+      first : (b : Bool) → 0 ≡ entry_of_slot b set.channels set.times 0
+      first true =
+          sym
+          (ap₂ (λ (low high : ℕ). low * set.channels + high) (zero-mod set.times) (zero-div set.times)
+          ∙ omega (arith, zero-mul set.channels))
+      first false = refl
 
-    module _ {slot entry : ℕ} (here : entry ≡ entry_at set slot) (less : slot < length samples) where
+  module _ (limits : Limits set) {used : ℕ} (used_is : used ≡ set.channels * set.times) {slot entry : ℕ} (less : slot < used)
+      (here : entry ≡ entry_at set slot)
+    where
       used_slot : slot < set.channels * set.times
-      used_slot = omega (arith, p.samples_length)
+      used_slot = omega (arith, used_is)
 
-      pub entry_in : entry < length samples
-      entry_in =
-          omega (arith, here, entry_lt set.channels set.times p.limits.times_from set.by_channel used_slot, p.samples_length)
+      pub entry_in : entry < used
+      entry_in = omega (arith, here, entry_lt set.channels set.times limits.times_from set.by_channel used_slot, used_is)
 
-      pub entry_on : {next : ℕ} → next ≡ step_on set.channels (length samples) entry % 2 ^ 64 → next ≡ entry_at set (slot + 1)
-      entry_on e =
+      pub entry_on : set.by_channel ≡ true → {next : ℕ} → next ≡ step_on set.channels used entry % 2 ^ 64 → next ≡ entry_at set (slot + 1)
+      entry_on is e =
           let short : set.channels ≤ 48
           = omega (
             arith,
-            p.limits.used_to,
+            limits.used_to,
             mul-one set.channels,
             mul_comm set.channels set.times,
             mul_comm set.channels 1,
-            mul-le-mul_right {m = 1} {n = set.times} set.channels p.limits.times_from,
+            mul-le-mul_right {m = 1} {n = set.times} set.channels limits.times_from,
           ) in
+          let few : used ≤ 48 = omega (arith, used_is, limits.used_to) in
           e
-          ∙ step_fits set.channels (length samples) entry_in used_few short
-          ∙ ap₂ (step_on set.channels) p.samples_length
+          ∙ step_fits set.channels used entry_in few short
+          ∙ ap₂ (step_on set.channels) used_is
           (here ∙ ap (λ (b : Bool). entry_of_slot b set.channels set.times slot) is)
-          ∙ entry_next set.channels set.times p.limits.times_from used_slot
+          ∙ entry_next set.channels set.times limits.times_from used_slot
           ∙ ap (λ (b : Bool). entry_of_slot b set.channels set.times (slot + 1)) (sym is)

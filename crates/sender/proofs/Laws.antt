@@ -6,7 +6,7 @@ use lib.Bits.{bit_or, or_lt, or_add_and, and_le_l, and_le_r}
 use Rattle.runs.specs.Refusals.{or_else}
 use Rattle.runs.proofs.Laws.{split, first_refuses, then_later, past, past_both, neither, both_true, one_shifted}
 use Rattle.formats.specs.declared.Format.{Format}
-use Rattle.formats.specs.declared.Settled.{Settled}
+use Rattle.formats.specs.Settled.{Settled}
 use Rattle.formats.specs.Formats.{settings_refusal}
 use Rattle.formats.specs.Settings.{settings_of, settled}
 use Rattle.formats.specs.Sound.{Limits}
@@ -330,22 +330,8 @@ module _ (c : Call) (cell : List ℕ) where
             (passes state c.indication c.samples c.ancillary (length cell) (sym writes.refused ∙ taken)).number_to,
           )
 
-      pub sends_taken : {second : ℕ} → second ≡ second_now state c.indication
-          → Sends c.state c.indication c.samples c.ancillary cell
-          (record {
-            refusal = 0;
-            state =
-                record {
-                  format = state.format;
-                  channels = state.channels;
-                  order = state.order;
-                  number = (state.number + 1) % 16;
-                  wanted = state.wanted;
-                  second = second;
-                  sent = true;
-                };
-          })
-          cell₁
-      unfolding sent_of after
-      sends_taken second_is =
-          record { answered = rw (← writes.refused, taken, second_is); cell_after_lem = writes.cell_after_lem }
+      pub sends_taken : {next : Sender} → next ≡ after state c.indication
+          → Sends c.state c.indication c.samples c.ancillary cell (record { refusal = 0; state = next }) cell₁
+      unfolding sent_of
+      sends_taken next_is =
+          record { answered = rw (← writes.refused, taken, next_is); cell_after_lem = writes.cell_after_lem }

@@ -5,7 +5,7 @@ use native.Mathlib.Nat.{le_step}
 use Rattle.runs.specs.Runs.{joined, octets_of}
 use Rattle.runs.proofs.Filling.{filled}
 use Rattle.runs.proofs.Laws.{split, length_joined, length_octets}
-use Rattle.formats.specs.declared.Settled.{Settled}
+use Rattle.formats.specs.Settled.{Settled}
 use Rattle.formats.specs.Code.{is_usual}
 use Rattle.formats.specs.Settings.{settings_of}
 use Rattle.formats.proofs.Laws.{usual_is, usual_set}
@@ -26,17 +26,7 @@ joined_same g h (suc n) same =
     ap₂ (λ (before part : List ℕ). before ++ part) (joined_same g h n (λ k less. same k (le_step less))) (same n (le_refl (suc n)))
 
 module _ (set : Settled) (samples ancillary : List ℕ) where
-  -- without overhead the sequencing bits aren't sent
-  pub no_bits : set.format.overhead_bits ≡ 0 → (sequence other : ℕ) (cell : List ℕ) {cell₁ : List ℕ}
-      → cell₁ ≡ filled_to set sequence samples ancillary cell (length samples)
-      → cell₁ ≡ filled_to set other samples ancillary cell (length samples)
-  unfolding slot_by subframe_of overhead_of
-  no_bits none sequence other cell e =
-      e
-      ∙ ap (λ (part : List ℕ). part ++ drop (length samples * set.format.width) cell)
-      (joined_same (slot_by set sequence samples ancillary) (slot_by set other samples ancillary) (length samples) (λ k less. rw none))
-
-  -- so a cell may be filled by any, or by 0
+  -- without overhead the sequencing bits aren't sent: a cell may be filled by any, or by 0
   pub bits_in : (number second : ℕ) {sequence : ℕ} {cell : List ℕ} → sequence ≡ sequence_in set.format number second
       → cell ≡ filled_cell set sequence samples ancillary
       → cell ≡ filled_cell set (sequence_of (entry_of (number % 16)) second) samples ancillary

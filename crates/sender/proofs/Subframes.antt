@@ -1,6 +1,6 @@
 -- Laws of one subframe: the code's arithmetic on it, with overhead and without.
 -- Assumes nothing.
-use Rattle.std.proofs.Common.{◌≡◌, ℕ, ◌+◌, ◌-◌, ◌*◌, ◌/◌, ◌%◌, ◌^◌, ◌<◌, ◌≤◌, cond, eqb, List, get_or, sym, refl, ap, ◌∙◌, subst, ap₂, mul_assoc, mul-one, arith, eqb→eq, pow_mono, pow-add, shl_exact, eq-eqb, ne_eqb, eqb-true}
+use Rattle.std.proofs.Common.{◌≡◌, ℕ, ◌+◌, ◌-◌, ◌*◌, ◌/◌, ◌%◌, ◌^◌, ◌<◌, ◌≤◌, cond, eqb, sym, refl, ap, ◌∙◌, subst, ap₂, mul_assoc, mul-one, arith, eqb→eq, pow_mono, pow-add, shl_exact, eq-eqb, ne_eqb, eqb-true}
 use borrow.Author.Tests.{eqb-false}
 use lib.Arith.{digits_lt}
 use lib.Bits.{bit_xor}
@@ -9,8 +9,7 @@ use Rattle.runs.proofs.Arms.{NoneOf, or_listed, others, singles}
 use Rattle.runs.proofs.Laws.{every_at, split}
 use Rattle.formats.specs.declared.Format.{Format}
 use Rattle.guards.specs.Guards.{VOrNone, v_in, v_of, nine_of, protected_bits, ten_guard, guard_of}
-use Rattle.guards.specs.Code.{seven_guards}
-use Rattle.guards.proofs.Laws.{v_none, v_some, nine_lt, nine_top, seven_guard, with_v_lem, ten_guard_lt, guard_le}
+use Rattle.guards.proofs.Laws.{v_none, v_some, nine_lt, nine_top, with_v_lem, ten_guard_lt, guard_le}
 use Rattle.cells.specs.Cells.{guard_in, overhead_of, subframe_of}
 use Rattle.sender.specs.Packing.{Named, low_part}
 
@@ -69,14 +68,10 @@ module _ (bits few : ℕ) {sample : ℕ} (from : 8 ≤ bits) (small : sample < 2
   pub nine_fits : nine < 512
   nine_fits = rw (nine_top bits from small) (nine_lt bits sample)
 
-  pub guard_looked : {table : List ℕ} {ten guard : ℕ} → table ≡ seven_guards → ten ≡ protected_bits nine (v_of few 0) → ten < 1024
-      → guard ≡ get_or table (bit_xor ten (ten / 128) % 128) 0 → guard ≡ guard_of bits sample (v_of few 0)
+  pub guard_of_nine : {ten : ℕ} → ten ≡ protected_bits nine (v_of few 0) → ten_guard ten ≡ guard_of bits sample (v_of few 0)
   unfolding guard_of
-  guard_looked {ten = ten} same ten-is less e =
-      e
-      ∙ ap (λ (l : List ℕ). get_or l (bit_xor ten (ten / 128) % 128) 0) same
-      ∙ seven_guard less
-      ∙ ap ten_guard (ten-is ∙ ap (λ (n : ℕ). protected_bits n (v_of few 0)) (nine_top bits from small))
+  guard_of_nine ten-is =
+      ap ten_guard (ten-is ∙ ap (λ (n : ℕ). protected_bits n (v_of few 0)) (nine_top bits from small))
 
   pub twice_fits : bits ≤ 40 → sample * 2 < 2 ^ 64
   twice_fits to =
@@ -174,9 +169,3 @@ module _ {f : Format} {sample-bits ancillary-bits width : ℕ} (sample ancillary
         (λ (o : ℕ).
         (sample * 2 ^ f.ancillary_bits + ancillary) * 2 ^ o + cond (eqb o 0) 0 (bit * 8 + guard_in f sample ancillary))
         named.overhead_is
-
-    pub plain_fits : ancillary < 2 ^ ancillary-bits → (sample * 2 ^ ancillary-bits) % 2 ^ 64 + ancillary < 2 ^ 64
-    plain_fits ha =
-        let both : 2 ^ sample-bits * 2 ^ ancillary-bits ≡ 2 ^ (sample-bits + ancillary-bits) = sym (pow-add 2 sample-bits ancillary-bits) in
-        let far : 2 ^ (sample-bits + ancillary-bits) ≤ 2 ^ 63 = pow_mono {i = sample-bits + ancillary-bits} {j = 63} short in
-        omega (arith, plain_moved, both, digits_lt hs ha)

@@ -3,7 +3,7 @@
 use Rattle.std.specs.Prelude.{◌≡◌, ℕ, ◌+◌, ◌*◌, ◌%◌, ◌<◌, ◌≤◌, Bool, true, false, cond, List, length, take, ◌==◌, nat_lt}
 use Rattle.runs.specs.Runs.{written}
 use Rattle.formats.specs.declared.Format.{Format}
-use Rattle.formats.specs.declared.Settled.{Settled}
+use Rattle.formats.specs.Settled.{Settled}
 use Rattle.formats.specs.Settings.{settings_of}
 use Rattle.numbers.specs.Code.{sequence_of}
 use Rattle.numbers.specs.Numbers.{entry_of}

@@ -4,7 +4,7 @@
 use Rattle.std.specs.Prelude.{◌≡◌, ℕ, ◌+◌, ◌*◌, ◌/◌, ◌%◌, ◌^◌, ◌<◌, Bool, true, cond, not, ◌||◌, List, ◌++◌, length, drop, ◌==◌, nat_lt, slice_index}
 use Rattle.runs.specs.Runs.{tab, joined, octets_of}
 use Rattle.formats.specs.declared.Format.{Format}
-use Rattle.formats.specs.declared.Settled.{Settled}
+use Rattle.formats.specs.Settled.{Settled}
 use Rattle.formats.specs.Code.{is_usual}
 use Rattle.formats.specs.Sound.{Limits}
 use Rattle.cells.specs.Cells.{cell_of, subframe_of}

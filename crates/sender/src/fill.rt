@@ -1,17 +1,18 @@
-// Filling a cell's used slots: one loop for each order with overhead, and one for each order without.
-//
-// A loop is called with a format's numbers as constants, and the compiler then makes a loop for that format alone. The promise is
-// said by the settings: the constants are the numbers of their format.
-ghost use Rattle.std.specs.Prelude.{◌≡◌, ◌+◌, ◌*◌, ◌%◌, ◌^◌, ◌<◌, ◌≤◌, true, false, length};
+// Filling a cell's used slots: one loop for every format and both orders. Where it is called with a format's numbers as constants,
+// the compiler makes a loop for that format alone.
+ghost use Rattle.std.specs.Prelude.{◌≡◌, ◌+◌, ◌*◌, ◌%◌, ◌^◌, ◌<◌, ◌≤◌, length};
+ghost use Rattle.formats.specs.Settings.{settled_as};
+ghost use Rattle.formats.specs.Sound.{Sound, Limits};
 ghost use Rattle.guards.specs.Guards.{v_of, protected_bits, guard_of};
-ghost use Rattle.guards.specs.Code.{seven_guards};
-ghost use Rattle.sender.specs.Packing.{Packable, Named, filled_to, low_part};
+ghost use Rattle.cells.specs.Cells.{subframe_of};
+ghost use Rattle.sender.specs.Packing.{Packable, entry_at, filled_to, low_part};
 
 use crate::octets::put;
-use cells::{next_place, wide};
-use formats::Settled;
+use cells::next_place;
+use formats::{Format, Layout};
 
 // The ancillary bits in their place in a subframe's last octet, and what V adds to the protection bits.
+// The arms stay: they are one load, and as a sum of products they take 60 instructions more in a cell.
 fn low_of(ancillary: u64) -> u64
     ensures { result ≡ ancillary % 16 * 16 + ancillary % 16 % 2 * 3 }
 {
@@ -58,20 +59,19 @@ fn protected(ancillary_bits: u64, nine: u64) -> u64
     nine * 2
 }
 
-// The protection bits of a sample where V is 0 or there is none, looked up in the table of `guards::sevens`.
-fn guard_in(table: &[u8; 128], sample_bits: u64, ancillary_bits: u64, sample: u64) -> u64
-    requires { (table.now ≡ seven_guards) × (8 ≤ sample_bits) × (sample_bits ≤ 40) × (sample < 2 ^ sample_bits) }
+// The protection bits of a sample where V is 0 or there is none.
+fn guard_in(sample_bits: u64, ancillary_bits: u64, sample: u64) -> u64
+    requires { (8 ≤ sample_bits) × (sample_bits ≤ 40) × (sample < 2 ^ sample_bits) }
     ensures { result ≡ guard_of sample_bits sample (v_of ancillary_bits 0) }
 {
     let nine = (sample * 2) >> (sample_bits - 8);
     let ten = protected(ancillary_bits, nine);
-    let place = ((ten ^ (ten >> 7)) % 128) as usize;
-    wide(table[place])
+    u64::from(guards::of_ten(ten))
 }
 
 // A subframe with overhead as a number. `guard` has the sample's protection bits where V is 0 or there is none; the sample's length
 // is for the promise alone.
-pub(crate) fn subframe(
+pub(crate) fn guarded(
     sample_bits: u64,
     ancillary_bits: u64,
     sample: u64,
@@ -86,106 +86,44 @@ pub(crate) fn subframe(
     (sample << (ancillary_bits + 4)) + (low + bit * 8)
 }
 
-// With overhead in order 0: slot k carries entry k.
-pub(crate) fn guarded_in_order(
-    set: Settled,
-    table: &[u8; 128],
-    sample_bits: u64,
-    ancillary_bits: u64,
-    width: usize,
-    sequence: u64,
-    samples: &[u64],
-    ancillary: &[u8],
-    cell: &mut [u8],
-)
-    requires { Packable set samples.now ancillary.now × (set.by_channel ≡ false) × Named set.format sample_bits ancillary_bits 4 width × (length cell.old ≡ 48) × (table.now ≡ seven_guards) }
-    ensures { cell.new ≡ filled_to set sequence samples.now ancillary.now cell.old (length samples.now) }
+// A subframe as a number. Without overhead the sequencing bit isn't sent.
+fn subframe(format: Format, sample: u64, ancillary: u64, bit: u64) -> u64
+    requires { Sound format × (sample < 2 ^ format.sample_bits) × (ancillary < 2 ^ format.ancillary_bits) × (bit < 2) }
+    ensures { result ≡ subframe_of format sample ancillary bit }
 {
-    let mut rest = sequence;
-    let mut slot = 0;
-    while slot < samples.len() {
-        let bit = rest % 2;
-        rest = rest / 2;
-        let sample = samples[slot];
-        let guard = guard_in(table, sample_bits, ancillary_bits, sample);
-        let few = wide(ancillary[slot]);
-        let number = subframe(sample_bits, ancillary_bits, sample, guard, few, bit);
-        put(cell, slot * width, width, number);
-        slot += 1;
+    let few = format.ancillary_bits;
+    if format.overhead_bits == 0 {
+        return (sample << few) + ancillary;
     }
+    let guard = guard_in(format.sample_bits, few, sample);
+    guarded(format.sample_bits, few, sample, guard, ancillary, bit)
 }
 
-// With overhead in order 1: the entry goes on by C from slot to slot.
-pub(crate) fn guarded_by_channel(
-    set: Settled,
-    table: &[u8; 128],
-    sample_bits: u64,
-    ancillary_bits: u64,
-    width: usize,
-    sequence: u64,
-    samples: &[u64],
-    ancillary: &[u8],
-    cell: &mut [u8],
-)
-    requires { Packable set samples.now ancillary.now × (set.by_channel ≡ true) × Named set.format sample_bits ancillary_bits 4 width × (length cell.old ≡ 48) × (table.now ≡ seven_guards) }
-    ensures { cell.new ≡ filled_to set sequence samples.now ancillary.now cell.old (length samples.now) }
+// The next slot's entry: in order 1 it goes on by C.
+fn next_entry(set: Layout, used: usize, slot: usize, entry: usize) -> usize
+    requires { Limits (settled_as set) × (used ≡ set.channels * set.times) × (slot < used) × (entry ≡ entry_at (settled_as set) slot) }
+    ensures { result ≡ entry_at (settled_as set) (slot + 1) }
 {
+    if set.by_channel {
+        return next_place(set.channels, used, entry);
+    }
+    slot + 1
+}
+
+// The used slots.
+#[inline(always)]
+pub(crate) fn fill(set: Layout, sequence: u64, samples: &[u64], ancillary: &[u8], cell: &mut [u8])
+    requires { Packable (settled_as set) samples.now ancillary.now × (length cell.old ≡ 48) }
+    ensures { cell.new ≡ filled_to (settled_as set) sequence samples.now ancillary.now cell.old (length samples.now) }
+{
+    let format = set.format;
     let mut entry = 0;
     let mut rest = sequence;
-    let mut slot = 0;
-    while slot < samples.len() {
+    for slot in 0..samples.len() {
         let bit = rest % 2;
-        rest = rest / 2;
-        let sample = samples[entry];
-        let guard = guard_in(table, sample_bits, ancillary_bits, sample);
-        let few = wide(ancillary[entry]);
-        let number = subframe(sample_bits, ancillary_bits, sample, guard, few, bit);
-        put(cell, slot * width, width, number);
-        entry = next_place(set.channels, samples.len(), entry);
-        slot += 1;
-    }
-}
-
-// Without overhead in order 0. The sequencing bits aren't sent: the promise has 0 for them.
-pub(crate) fn plain_in_order(
-    set: Settled,
-    ancillary_bits: u64,
-    width: usize,
-    samples: &[u64],
-    ancillary: &[u8],
-    cell: &mut [u8],
-)
-    requires { Packable set samples.now ancillary.now × (set.by_channel ≡ false) × Named set.format set.format.sample_bits ancillary_bits 0 width × (length cell.old ≡ 48) }
-    ensures { cell.new ≡ filled_to set 0 samples.now ancillary.now cell.old (length samples.now) }
-{
-    let mut slot = 0;
-    while slot < samples.len() {
-        let few = wide(ancillary[slot]);
-        let number = (samples[slot] << ancillary_bits) + few;
-        put(cell, slot * width, width, number);
-        slot += 1;
-    }
-}
-
-// Without overhead in order 1.
-pub(crate) fn plain_by_channel(
-    set: Settled,
-    ancillary_bits: u64,
-    width: usize,
-    samples: &[u64],
-    ancillary: &[u8],
-    cell: &mut [u8],
-)
-    requires { Packable set samples.now ancillary.now × (set.by_channel ≡ true) × Named set.format set.format.sample_bits ancillary_bits 0 width × (length cell.old ≡ 48) }
-    ensures { cell.new ≡ filled_to set 0 samples.now ancillary.now cell.old (length samples.now) }
-{
-    let mut entry = 0;
-    let mut slot = 0;
-    while slot < samples.len() {
-        let few = wide(ancillary[entry]);
-        let number = (samples[entry] << ancillary_bits) + few;
-        put(cell, slot * width, width, number);
-        entry = next_place(set.channels, samples.len(), entry);
-        slot += 1;
+        rest /= 2;
+        let number = subframe(format, samples[entry], u64::from(ancillary[entry]), bit);
+        put(cell, slot * format.width, format.width, number);
+        entry = next_entry(set, samples.len(), slot, entry);
     }
 }

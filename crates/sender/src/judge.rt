@@ -1,6 +1,6 @@
 // What the sender refuses, in the table's order, and which second number it writes.
 ghost use Rattle.std.specs.Prelude.{◌≡◌, ◌≤◌, length};
-ghost use Rattle.formats.specs.Settings.{settings_of};
+ghost use Rattle.formats.specs.Settings.{settled_as, settings_of};
 ghost use Rattle.sender.specs.Sender.{
   open_state,
   state_refusal,
@@ -15,26 +15,19 @@ ghost use Rattle.sender.specs.Packing.{
 };
 
 use crate::Sender;
-use formats::{Format, Settled};
+use formats::{Format, Layout};
 
 // Check 4, of numbers as they stand.
 #[tactic(auto, unfolding(crate::specs::Packing::numbers_refused_by))]
 pub(crate) fn numbers(format: Format, number: u32, wanted: bool, second: u32) -> bool
     ensures { result ≡ numbers_refused_by format number wanted second }
 {
-    if 15 < number {
-        return true;
-    }
-    if 15 < second {
-        return true;
-    }
-    if wanted {
-        if format.overhead_bits == 0 {
-            return true;
-        }
-        return format.slots == 8;
-    }
-    second != 0
+    let refused = if wanted {
+        15 < second || format.overhead_bits == 0 || format.slots == 8
+    } else {
+        second != 0
+    };
+    15 < number || refused
 }
 
 // Checks 1 to 4.
@@ -48,11 +41,10 @@ pub(crate) fn state_refusal(
 ) -> u8
     ensures { result ≡ state_refusal (open_state octet channels order number wanted second) }
 {
-    let set = formats::settings(octet, channels, order);
-    let refusal = set.refusal;
-    if refusal != 0 {
-        return refusal;
-    }
+    let set = match formats::settings(octet, channels, order) {
+        Ok(set) => set,
+        Err(refusal) => return refusal.into(),
+    };
     let format = set.format;
     if numbers(format, number, wanted, second) {
         return 4;
@@ -62,7 +54,7 @@ pub(crate) fn state_refusal(
 
 // The bits that any sample has, and those that any ancillary number has. They are below a power of two just where all the numbers
 // are.
-#[derive(Clone, Copy)]
+#[derive(Clone, Copy, Debug, PartialEq, Eq, Hash)]
 struct AllBits {
     samples: u64,
     ancillary: u8,
@@ -74,11 +66,10 @@ fn united(samples: &[u64], ancillary: &[u8]) -> AllBits
 {
     let mut all = 0;
     let mut few = 0;
-    let mut i = 0;
-    while i < samples.len() {
-        all = all | samples[i];
-        few = few | ancillary[i];
-        i += 1;
+    // By index: with `zip` a call takes 30 instructions more, and with a `fold` of each run 20.
+    for i in 0..samples.len() {
+        all |= samples[i];
+        few |= ancillary[i];
     }
     AllBits {
         samples: all,
@@ -91,13 +82,7 @@ fn united(samples: &[u64], ancillary: &[u8]) -> AllBits
 fn lengths_refused(used: usize, samples: &[u64], ancillary: &[u8], room: usize) -> bool
     ensures { result ≡ lengths_refused_by used samples.now ancillary.now room }
 {
-    if room != 48 {
-        return true;
-    }
-    if samples.len() != used {
-        return true;
-    }
-    ancillary.len() != used
+    room != 48 || samples.len() != used || ancillary.len() != used
 }
 
 // Check 6.
@@ -106,28 +91,22 @@ pub(crate) fn values_refused(format: Format, samples: &[u64], ancillary: &[u8]) 
     ensures { result ≡ values_refused_by format samples.now ancillary.now }
 {
     let bits = united(samples, ancillary);
-    if 1 << format.sample_bits <= bits.samples {
-        return true;
-    }
-    1 << format.ancillary_bits <= cells::wide(bits.ancillary)
+    1 << format.sample_bits <= bits.samples
+        || 1 << format.ancillary_bits <= u64::from(bits.ancillary)
 }
 
 // Checks 1 to 7 of a call of `send`, by the settings of its state.
 pub(crate) fn send_refusal(
-    set: Settled,
+    set: Layout,
     state: Sender,
     indication: bool,
     samples: &[u64],
     ancillary: &[u8],
     room: usize,
 ) -> u8
-    requires { set ≡ settings_of state.format state.channels state.order }
+    requires { settled_as set ≡ settings_of state.format state.channels state.order }
     ensures { result ≡ send_refusal state indication samples.now ancillary.now room }
 {
-    let refusal = set.refusal;
-    if refusal != 0 {
-        return refusal;
-    }
     let format = set.format;
     if numbers(
         format,
@@ -154,14 +133,8 @@ pub(crate) fn send_refusal(
 pub(crate) fn second_now(state: Sender, indication: bool) -> u8
     ensures { result ≡ second_now state indication }
 {
-    if !state.wanted {
-        return state.second;
+    if state.wanted && indication && state.sent {
+        return state.second.wrapping_add(1) % 16;
     }
-    if !indication {
-        return state.second;
-    }
-    if !state.sent {
-        return state.second;
-    }
-    std::num::wrapping_add_u8(state.second, 1) % 16
+    state.second
 }

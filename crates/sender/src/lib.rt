@@ -1,7 +1,7 @@
 #![tactic(auto)]
 // The sender's box, document 01: opening and sending, refusals 1 to 7.
-ghost use Rattle.std.specs.Prelude.{◌≡◌};
-ghost use Rattle.sender.specs.Sender.{second_now, opened_of, Sends};
+ghost use Rattle.std.specs.Prelude.{◌≡◌, ◌<◌};
+ghost use Rattle.sender.specs.Sender.{second_now, opened_of, after, Sends};
 ghost use Rattle.sender.specs.Packing.{Writes};
 
 mod fill;
@@ -13,7 +13,7 @@ mod usual;
 
 // A sender's state, in the paper's words: the subframe octet, C, the order, the next cell's number, whether second numbers are
 // kept, the last one (the given start before the first cell), and whether a cell was sent.
-#[derive(Clone, Copy)]
+#[derive(Clone, Copy, Debug, PartialEq, Eq, Hash)]
 pub struct Sender {
     pub format: u8,
     pub channels: u8,
@@ -25,14 +25,14 @@ pub struct Sender {
 }
 
 // An opening's answer: the refusal (0: none) and the state to begin with.
-#[derive(Clone, Copy)]
+#[derive(Clone, Copy, Debug, PartialEq, Eq, Hash)]
 pub struct Ready {
     pub refusal: u8,
     pub state: Sender,
 }
 
 // A call's answer: the refusal (0: none) and the state to go on with.
-#[derive(Clone, Copy)]
+#[derive(Clone, Copy, Debug, PartialEq, Eq, Hash)]
 pub struct Sent {
     pub refusal: u8,
     pub state: Sender,
@@ -79,6 +79,20 @@ pub fn opened(
     }
 }
 
+// The state after a cell. The indication is for the promise alone.
+#[tactic(auto, unfolding(crate::specs::Sender::after))]
+fn after(state: Sender, indication: bool, second: u8) -> Sender
+    requires { (state.number < 16) × (second ≡ second_now state indication) }
+    ensures { result ≡ after state indication }
+{
+    Sender {
+        number: (state.number + 1) % 16,
+        second,
+        sent: true,
+        ..state
+    }
+}
+
 // Writes the next cell of any call, or gives its refusal.
 fn write_any(
     state: Sender,
@@ -91,11 +105,14 @@ fn write_any(
     requires { second ≡ second_now state indication }
     ensures { Writes state indication samples.now ancillary.now cell.old result cell.new }
 {
-    let set = formats::settings(
+    let set = match formats::settings(
         state.format as u32,
         state.channels as u32,
         state.order as u32,
-    );
+    ) {
+        Ok(set) => set,
+        Err(refusal) => return refusal.into(),
+    };
     let refusal = judge::send_refusal(set, state, indication, samples, ancillary, cell.len());
     if refusal != 0 {
         return refusal;
@@ -141,14 +158,6 @@ pub fn send(
     }
     Sent {
         refusal: 0,
-        state: Sender {
-            format: state.format,
-            channels: state.channels,
-            order: state.order,
-            number: (state.number + 1) % 16,
-            wanted: state.wanted,
-            second,
-            sent: true,
-        },
+        state: after(state, indication, second),
     }
 }

@@ -1,21 +1,20 @@
 // Cells sent one after the other into a log, as many as there are entries and room for.
 //
-// Whether a number is too large is asked of all entries at once; only where one is, of each cell. The usual settings have a loop of
-// their own, and `row_usual` and `row_any` differ in what writes a record.
+// Whether a number is too large is asked of all entries at once; only where one is, of each cell.
 ghost use Rattle.std.specs.Prelude.{◌≡◌, ◌-◌, ◌/◌, ◌%◌, ◌<◌, ◌≤◌, true, false, ◌&&◌, length, ◌==◌};
 ghost use Rattle.formats.specs.Code.{is_usual};
-ghost use Rattle.formats.specs.Settings.{settings_of};
+ghost use Rattle.formats.specs.Settings.{settled_as, settings_of};
 ghost use Rattle.cell_log.specs.Written.{octet_of};
 ghost use Rattle.sender.specs.Many.{batch_not, SendsMany};
 ghost use Rattle.sender.specs.ManyCode.{Bounds, WritesMany, stop_by};
 ghost use Rattle.sender.specs.Packing.{values_refused_by};
 ghost use Rattle.sender.specs.Sender.{state_refusal, second_now, after};
 
-use crate::{Sender, judge, pack, usual};
-use formats::{Format, Settled};
+use crate::{Sender, after, judge, pack, usual};
+use formats::{Format, Layout};
 
 // The refusal of the call (0: none); the state to go on with, the next place, the entries taken, why it stopped, and the cells.
-#[derive(Clone, Copy)]
+#[derive(Clone, Copy, Debug, PartialEq, Eq, Hash)]
 pub struct Batch {
     pub refusal: u8,
     pub state: Sender,
@@ -26,7 +25,7 @@ pub struct Batch {
 }
 
 // How many cells were written, and the state after them.
-#[derive(Clone, Copy)]
+#[derive(Clone, Copy, Debug, PartialEq, Eq, Hash)]
 struct Reached {
     state: Sender,
     cells: usize,
@@ -49,62 +48,25 @@ fn refused(refusal: u8, state: Sender) -> Batch
 fn indicated(indications: bool, number: u8) -> bool
     ensures { result ≡ indications && (number % 8 == 0) }
 {
-    if !indications {
-        return false;
-    }
-    number % 8 == 0
-}
-
-fn octet_of(indication: bool) -> u8
-    ensures { result ≡ octet_of indication }
-{
-    if indication { 1 } else { 0 }
-}
-
-fn least_of(first: usize, second: usize) -> usize
-    ensures { (result ≤ first) × (result ≤ second) × (result < second → result ≡ first) }
-{
-    if first < second {
-        return first;
-    }
-    second
+    indications && number % 8 == 0
 }
 
 // How many records have room from a place on.
 fn records_from(octets: usize, place: usize) -> usize
     ensures { result ≡ (octets - place) / 49 }
 {
-    if octets < place {
-        return 0;
-    }
-    (octets - place) / 49
+    octets.saturating_sub(place) / 49
 }
 
 fn stop_of(cells: usize, most: usize, whole: usize) -> u8
     ensures { result ≡ stop_by cells most whole }
 {
     if cells < most {
-        return 6;
-    }
-    if cells == whole {
-        return 0;
-    }
-    12
-}
-
-// The state after a cell. The indication is for the promise alone.
-fn behind(state: Sender, indication: bool, second: u8) -> Sender
-    requires { (state.number < 16) × (second ≡ second_now state indication) }
-    ensures { result ≡ after state indication }
-{
-    Sender {
-        format: state.format,
-        channels: state.channels,
-        order: state.order,
-        number: (state.number + 1) % 16,
-        wanted: state.wanted,
-        second,
-        sent: true,
+        6
+    } else if cells == whole {
+        0
+    } else {
+        12
     }
 }
 
@@ -113,15 +75,12 @@ fn too_large(sound: bool, format: Format, samples: &[u64], ancillary: &[u8]) -> 
     requires { (format.sample_bits ≤ 40) × (format.ancillary_bits ≤ 4) × (length ancillary.now ≡ length samples.now) × (sound ≡ true → values_refused_by format samples.now ancillary.now ≡ false) }
     ensures { result ≡ values_refused_by format samples.now ancillary.now }
 {
-    if sound {
-        return false;
-    }
-    judge::values_refused(format, samples, ancillary)
+    !sound && judge::values_refused(format, samples, ancillary)
 }
 
-// At most so many cells, written one after the other.
-fn row_any(
-    set: Settled,
+// At most so many cells, written one after the other. The compiler makes a loop of its own for the usual settings.
+fn row_of<const USUAL: bool>(
+    set: Layout,
     state: Sender,
     indications: bool,
     samples: &[u64],
@@ -131,87 +90,54 @@ fn row_any(
     most: usize,
     sound: bool,
 ) -> Reached
-    requires { Bounds set state samples.now ancillary.now log.old place most sound }
+    requires { Bounds (settled_as set) state samples.now ancillary.now log.old place most sound × (USUAL ≡ true → is_usual state.format state.channels state.order ≡ true) }
     ensures { WritesMany indications state samples.now ancillary.now log.old place most result log.new }
 {
     let used = set.channels * set.times;
     let mut now = state;
     let mut at = 0;
     let mut to = place;
-    let mut cells = 0;
-    while cells < most {
+    for cells in 0..most {
         let past = at + used;
+        let end = to + 49;
         if too_large(sound, set.format, &samples[at..past], &ancillary[at..past]) {
             return Reached { state: now, cells };
         }
         let indication = indicated(indications, now.number);
         let second = judge::second_now(now, indication);
-        let start = to + 1;
-        let end = to + 49;
-        log[to] = octet_of(indication);
-        let sequence = pack::sequence_in(set.format, now.number, second);
-        pack::pack(
-            set,
-            sequence,
-            &samples[at..past],
-            &ancillary[at..past],
-            &mut log[start..end],
-        );
-        now = behind(now, indication, second);
-        at = past;
-        to = end;
-        cells += 1;
-    }
-    Reached { state: now, cells }
-}
-
-// The same of the usual settings.
-fn row_usual(
-    set: Settled,
-    state: Sender,
-    indications: bool,
-    samples: &[u64],
-    ancillary: &[u8],
-    log: &mut [u8],
-    place: usize,
-    most: usize,
-    sound: bool,
-) -> Reached
-    requires { Bounds set state samples.now ancillary.now log.old place most sound × (is_usual state.format state.channels state.order ≡ true) }
-    ensures { WritesMany indications state samples.now ancillary.now log.old place most result log.new }
-{
-    let mut now = state;
-    let mut at = 0;
-    let mut to = place;
-    let mut cells = 0;
-    while cells < most {
-        let past = at + 12;
-        if too_large(sound, set.format, &samples[at..past], &ancillary[at..past]) {
-            return Reached { state: now, cells };
+        log[to] = u8::from(indication);
+        let cell = &mut log[to + 1..end];
+        if USUAL {
+            let sequence = numbers::sequence_of(now.number, second);
+            usual::fill_usual(
+                set,
+                sequence,
+                &samples[at..past],
+                &ancillary[at..past],
+                cell,
+            );
+        } else {
+            let sequence = pack::sequence_in(set.format, now.number, second);
+            pack::pack(
+                set,
+                sequence,
+                &samples[at..past],
+                &ancillary[at..past],
+                cell,
+            );
         }
-        let indication = indicated(indications, now.number);
-        let second = judge::second_now(now, indication);
-        let start = to + 1;
-        let end = to + 49;
-        log[to] = octet_of(indication);
-        let sequence = numbers::sequence_of(now.number, second);
-        usual::fill_usual(
-            set,
-            sequence,
-            &samples[at..past],
-            &ancillary[at..past],
-            &mut log[start..end],
-        );
-        now = behind(now, indication, second);
+        now = after(now, indication, second);
         at = past;
         to = end;
-        cells += 1;
     }
-    Reached { state: now, cells }
+    Reached {
+        state: now,
+        cells: most,
+    }
 }
 
 fn row(
-    set: Settled,
+    set: Layout,
     state: Sender,
     indications: bool,
     samples: &[u64],
@@ -221,11 +147,11 @@ fn row(
     most: usize,
     sound: bool,
 ) -> Reached
-    requires { Bounds set state samples.now ancillary.now log.old place most sound }
+    requires { Bounds (settled_as set) state samples.now ancillary.now log.old place most sound }
     ensures { WritesMany indications state samples.now ancillary.now log.old place most result log.new }
 {
     if formats::is_usual(state.format, state.channels, state.order) {
-        return row_usual(
+        return row_of::<true>(
             set,
             state,
             indications,
@@ -237,7 +163,7 @@ fn row(
             sound,
         );
     }
-    row_any(
+    row_of::<false>(
         set,
         state,
         indications,
@@ -252,7 +178,7 @@ fn row(
 
 // The cells of a state and runs that nothing is wrong with.
 fn walk(
-    set: Settled,
+    set: Layout,
     state: Sender,
     indications: bool,
     samples: &[u64],
@@ -260,13 +186,13 @@ fn walk(
     log: &mut [u8],
     place: usize,
 ) -> Batch
-    requires { (set ≡ settings_of state.format state.channels state.order) × (state_refusal state ≡ 0) × (length ancillary.now ≡ length samples.now) }
+    requires { (settled_as set ≡ settings_of state.format state.channels state.order) × (state_refusal state ≡ 0) × (length ancillary.now ≡ length samples.now) }
     ensures { SendsMany indications state samples.now ancillary.now log.old place result log.new }
 {
     let used = set.channels * set.times;
     let whole = samples.len() / used;
     let room = records_from(log.len(), place);
-    let most = least_of(whole, room);
+    let most = whole.min(room);
     let past = most * used;
     let sound = !judge::values_refused(set.format, &samples[..past], &ancillary[..past]);
     let sent = row(
@@ -309,15 +235,14 @@ pub fn send(
 ) -> Batch
     ensures { SendsMany indications state samples.now ancillary.now log.old place result log.new }
 {
-    let set = formats::settings(
+    let set = match formats::settings(
         state.format as u32,
         state.channels as u32,
         state.order as u32,
-    );
-    let refusal = set.refusal;
-    if refusal != 0 {
-        return refused(refusal, state);
-    }
+    ) {
+        Ok(set) => set,
+        Err(refusal) => return refused(refusal.into(), state),
+    };
     let format = set.format;
     if judge::numbers(
         format,

@@ -1,128 +1,103 @@
-// Packing a cell: the used slots by the loop of its order, then the unused ones.
-//
-// The four functions that pick by the format call a loop with the format's numbers as constants. Their last arm takes the numbers
-// from the settings instead: it would serve any other format too, at more cost.
-ghost use Rattle.std.specs.Prelude.{◌≡◌, ◌<◌, true, false, length, ◌≢◌};
+// Packing a cell: the used slots, by a loop for each format and order, then the unused ones.
+ghost use Rattle.std.specs.Prelude.{◌≡◌, ◌<◌, length, ◌≢◌};
+ghost use Rattle.formats.specs.Settings.{settled_as};
 ghost use Rattle.sender.specs.ManyCode.{sequence_in};
 ghost use Rattle.sender.specs.Packing.{
   Packable,
+  Named,
   idle_number,
   filled_to,
   filled_cell,
 };
 
-use crate::fill::{guarded_by_channel, guarded_in_order, plain_by_channel, plain_in_order};
+use crate::fill::fill;
 use crate::octets::put;
-use formats::{Format, Settled};
+use formats::{Format, Layout};
 
-// The used slots with overhead in order 0.
-fn pack_guarded_in_order(
-    set: Settled,
+// The used slots of settings whose format has these numbers. It is called with constants: the compiler then makes a loop for that
+// format in each order.
+#[inline(always)]
+fn fill_named(
+    set: Layout,
+    sample_bits: u64,
+    ancillary_bits: u64,
+    overhead_bits: u64,
+    width: usize,
     sequence: u64,
     samples: &[u64],
     ancillary: &[u8],
     cell: &mut [u8],
 )
-    requires { Packable set samples.now ancillary.now × (set.by_channel ≡ false) × (set.format.overhead_bits ≢ 0) × (length cell.old ≡ 48) }
-    ensures { cell.new ≡ filled_to set sequence samples.now ancillary.now cell.old (length samples.now) }
+    requires { Packable (settled_as set) samples.now ancillary.now × Named set.format sample_bits ancillary_bits overhead_bits width × (length cell.old ≡ 48) }
+    ensures { cell.new ≡ filled_to (settled_as set) sequence samples.now ancillary.now cell.old (length samples.now) }
 {
-    let bits = set.format.sample_bits;
-    let few = set.format.ancillary_bits;
-    let width = set.format.width;
-    let table = guards::sevens();
-    match bits {
-        8 => guarded_in_order(set, &table, 8, 4, 2, sequence, samples, ancillary, cell),
-        12 => guarded_in_order(set, &table, 12, 0, 2, sequence, samples, ancillary, cell),
-        16 => guarded_in_order(set, &table, 16, 4, 3, sequence, samples, ancillary, cell),
-        20 => guarded_in_order(set, &table, 20, 0, 3, sequence, samples, ancillary, cell),
-        24 => guarded_in_order(set, &table, 24, 4, 4, sequence, samples, ancillary, cell),
-        28 => guarded_in_order(set, &table, 28, 0, 4, sequence, samples, ancillary, cell),
-        40 => guarded_in_order(set, &table, 40, 4, 6, sequence, samples, ancillary, cell),
-        _ => guarded_in_order(
-            set, &table, bits, few, width, sequence, samples, ancillary, cell,
-        ),
+    let format = Format {
+        sample_bits,
+        ancillary_bits,
+        overhead_bits,
+        width,
+        slots: set.format.slots,
+    };
+    if set.by_channel {
+        let known = Layout {
+            format,
+            by_channel: true,
+            ..set
+        };
+        return fill(known, sequence, samples, ancillary, cell);
+    }
+    let known = Layout {
+        format,
+        by_channel: false,
+        ..set
+    };
+    fill(known, sequence, samples, ancillary, cell);
+}
+
+// The used slots with overhead. The last arm would serve any other format too, at more cost.
+fn pack_guarded(set: Layout, sequence: u64, samples: &[u64], ancillary: &[u8], cell: &mut [u8])
+    requires { Packable (settled_as set) samples.now ancillary.now × (set.format.overhead_bits ≢ 0) × (length cell.old ≡ 48) }
+    ensures { cell.new ≡ filled_to (settled_as set) sequence samples.now ancillary.now cell.old (length samples.now) }
+{
+    match set.format.sample_bits {
+        8 => fill_named(set, 8, 4, 4, 2, sequence, samples, ancillary, cell),
+        12 => fill_named(set, 12, 0, 4, 2, sequence, samples, ancillary, cell),
+        16 => fill_named(set, 16, 4, 4, 3, sequence, samples, ancillary, cell),
+        20 => fill_named(set, 20, 0, 4, 3, sequence, samples, ancillary, cell),
+        24 => fill_named(set, 24, 4, 4, 4, sequence, samples, ancillary, cell),
+        28 => fill_named(set, 28, 0, 4, 4, sequence, samples, ancillary, cell),
+        40 => fill_named(set, 40, 4, 4, 6, sequence, samples, ancillary, cell),
+        _ => fill(set, sequence, samples, ancillary, cell),
     }
 }
 
-// The same in order 1.
-fn pack_guarded_by_channel(
-    set: Settled,
-    sequence: u64,
-    samples: &[u64],
-    ancillary: &[u8],
-    cell: &mut [u8],
-)
-    requires { Packable set samples.now ancillary.now × (set.by_channel ≡ true) × (set.format.overhead_bits ≢ 0) × (length cell.old ≡ 48) }
-    ensures { cell.new ≡ filled_to set sequence samples.now ancillary.now cell.old (length samples.now) }
+// The same without overhead.
+fn pack_plain(set: Layout, sequence: u64, samples: &[u64], ancillary: &[u8], cell: &mut [u8])
+    requires { Packable (settled_as set) samples.now ancillary.now × (set.format.overhead_bits ≡ 0) × (length cell.old ≡ 48) }
+    ensures { cell.new ≡ filled_to (settled_as set) sequence samples.now ancillary.now cell.old (length samples.now) }
 {
-    let bits = set.format.sample_bits;
-    let few = set.format.ancillary_bits;
-    let width = set.format.width;
-    let table = guards::sevens();
-    match bits {
-        8 => guarded_by_channel(set, &table, 8, 4, 2, sequence, samples, ancillary, cell),
-        12 => guarded_by_channel(set, &table, 12, 0, 2, sequence, samples, ancillary, cell),
-        16 => guarded_by_channel(set, &table, 16, 4, 3, sequence, samples, ancillary, cell),
-        20 => guarded_by_channel(set, &table, 20, 0, 3, sequence, samples, ancillary, cell),
-        24 => guarded_by_channel(set, &table, 24, 4, 4, sequence, samples, ancillary, cell),
-        28 => guarded_by_channel(set, &table, 28, 0, 4, sequence, samples, ancillary, cell),
-        40 => guarded_by_channel(set, &table, 40, 4, 6, sequence, samples, ancillary, cell),
-        _ => guarded_by_channel(
-            set, &table, bits, few, width, sequence, samples, ancillary, cell,
-        ),
-    }
-}
-
-// The used slots without overhead in order 0.
-fn pack_plain_in_order(set: Settled, samples: &[u64], ancillary: &[u8], cell: &mut [u8])
-    requires { Packable set samples.now ancillary.now × (set.by_channel ≡ false) × (set.format.overhead_bits ≡ 0) × (length cell.old ≡ 48) }
-    ensures { cell.new ≡ filled_to set 0 samples.now ancillary.now cell.old (length samples.now) }
-{
-    let few = set.format.ancillary_bits;
-    let width = set.format.width;
-    match width {
-        1 => plain_in_order(set, 0, 1, samples, ancillary, cell),
-        2 => plain_in_order(set, few, 2, samples, ancillary, cell),
-        3 => plain_in_order(set, few, 3, samples, ancillary, cell),
-        4 => plain_in_order(set, few, 4, samples, ancillary, cell),
-        _ => plain_in_order(set, few, width, samples, ancillary, cell),
-    }
-}
-
-// The same in order 1.
-fn pack_plain_by_channel(set: Settled, samples: &[u64], ancillary: &[u8], cell: &mut [u8])
-    requires { Packable set samples.now ancillary.now × (set.by_channel ≡ true) × (set.format.overhead_bits ≡ 0) × (length cell.old ≡ 48) }
-    ensures { cell.new ≡ filled_to set 0 samples.now ancillary.now cell.old (length samples.now) }
-{
-    let few = set.format.ancillary_bits;
-    let width = set.format.width;
-    match width {
-        1 => plain_by_channel(set, 0, 1, samples, ancillary, cell),
-        2 => plain_by_channel(set, few, 2, samples, ancillary, cell),
-        3 => plain_by_channel(set, few, 3, samples, ancillary, cell),
-        4 => plain_by_channel(set, few, 4, samples, ancillary, cell),
-        _ => plain_by_channel(set, few, width, samples, ancillary, cell),
+    match set.format.sample_bits {
+        8 => fill_named(set, 8, 0, 0, 1, sequence, samples, ancillary, cell),
+        12 => fill_named(set, 12, 4, 0, 2, sequence, samples, ancillary, cell),
+        16 => fill_named(set, 16, 0, 0, 2, sequence, samples, ancillary, cell),
+        20 => fill_named(set, 20, 4, 0, 3, sequence, samples, ancillary, cell),
+        24 => fill_named(set, 24, 0, 0, 3, sequence, samples, ancillary, cell),
+        28 => fill_named(set, 28, 4, 0, 4, sequence, samples, ancillary, cell),
+        32 => fill_named(set, 32, 0, 0, 4, sequence, samples, ancillary, cell),
+        _ => fill(set, sequence, samples, ancillary, cell),
     }
 }
 
 // The used slots.
-fn pack_used(set: Settled, sequence: u64, samples: &[u64], ancillary: &[u8], cell: &mut [u8])
-    requires { Packable set samples.now ancillary.now × (length cell.old ≡ 48) }
-    ensures { cell.new ≡ filled_to set sequence samples.now ancillary.now cell.old (length samples.now) }
+fn pack_used(set: Layout, sequence: u64, samples: &[u64], ancillary: &[u8], cell: &mut [u8])
+    requires { Packable (settled_as set) samples.now ancillary.now × (length cell.old ≡ 48) }
+    ensures { cell.new ≡ filled_to (settled_as set) sequence samples.now ancillary.now cell.old (length samples.now) }
 {
     if set.format.overhead_bits == 0 {
-        if set.by_channel {
-            pack_plain_by_channel(set, samples, ancillary, cell);
-            return;
-        }
-        pack_plain_in_order(set, samples, ancillary, cell);
-        return;
+        pack_plain(set, sequence, samples, ancillary, cell);
+    } else {
+        pack_guarded(set, sequence, samples, ancillary, cell);
     }
-    if set.by_channel {
-        pack_guarded_by_channel(set, sequence, samples, ancillary, cell);
-        return;
-    }
-    pack_guarded_in_order(set, sequence, samples, ancillary, cell);
 }
 
 // The subframe of an unused slot: sample and ancillary are 0, their protection bits 111.
@@ -138,23 +113,21 @@ fn idle_subframe(overhead_bits: u64, bit: u64) -> u64
 }
 
 // The unused slots of a cell whose used slots are filled. The ancillary numbers are for the promise alone.
-fn fill_idle(set: Settled, sequence: u64, samples: &[u64], ancillary: &[u8], cell: &mut [u8])
-    requires { Packable set samples.now ancillary.now × (length cell.old ≡ 48) × (cell.old ≡ filled_to set sequence samples.now ancillary.now cell.old (length samples.now)) }
-    ensures { cell.new ≡ filled_to set sequence samples.now ancillary.now cell.old set.format.slots }
+fn fill_idle(set: Layout, sequence: u64, samples: &[u64], ancillary: &[u8], cell: &mut [u8])
+    requires { Packable (settled_as set) samples.now ancillary.now × (length cell.old ≡ 48) × (cell.old ≡ filled_to (settled_as set) sequence samples.now ancillary.now cell.old (length samples.now)) }
+    ensures { cell.new ≡ filled_to (settled_as set) sequence samples.now ancillary.now cell.old set.format.slots }
 {
-    let mut slot = samples.len();
-    while slot < set.format.slots {
+    for slot in samples.len()..set.format.slots {
         let bit = (sequence >> slot) % 2;
         let number = idle_subframe(set.format.overhead_bits, bit);
         put(cell, slot * set.format.width, set.format.width, number);
-        slot += 1;
     }
 }
 
 // All slots of a cell with these sequencing bits.
-pub(crate) fn pack(set: Settled, sequence: u64, samples: &[u64], ancillary: &[u8], cell: &mut [u8])
-    requires { Packable set samples.now ancillary.now × (length cell.old ≡ 48) }
-    ensures { cell.new ≡ filled_cell set sequence samples.now ancillary.now }
+pub(crate) fn pack(set: Layout, sequence: u64, samples: &[u64], ancillary: &[u8], cell: &mut [u8])
+    requires { Packable (settled_as set) samples.now ancillary.now × (length cell.old ≡ 48) }
+    ensures { cell.new ≡ filled_cell (settled_as set) sequence samples.now ancillary.now }
 {
     pack_used(set, sequence, samples, ancillary, cell);
     fill_idle(set, sequence, samples, ancillary, cell);

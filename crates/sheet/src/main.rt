@@ -5,10 +5,25 @@
 ghost use Rattle.std.specs.Prelude.{◌≡◌, ◌<◌, ◌≤◌, true, length, take};
 ghost use Rattle.table.specs.Taking.{Takes};
 
-use source::{Reader, Source, Turn};
+use source::{Argument, Reader, Source, Turn};
 use std::io;
 use stops::Stop;
 use table::{Ended, Sheet};
+
+// The numbers of the rows of 4,096 logs, ten each, and of where they stopped, three each.
+const ROWS: usize = 40960;
+
+const KEPT: usize = 12288;
+
+// What is lent to `table`: the octets of a record that isn't whole yet, each log's row, and where each log stopped. And the buffer
+// of a read.
+#[derive(Drop)]
+struct Room {
+    held: [u8; 49],
+    buffer: [u8; 65536],
+    rows: [u32; ROWS],
+    kept: [u64; KEPT],
+}
 
 // Says what failed, and the system's reason.
 fn told(rt: &HostRuntime, what: &[u8], why: &io::Error) {
@@ -30,7 +45,7 @@ fn print(rt: &HostRuntime, line: &[u8], whole: bool) -> bool
 
 // Writes a line of a sheet. The row of all logs together has ten numbers.
 fn print_line(rt: &HostRuntime, ended: Ended, rows: &[u32], index: usize) -> bool
-    requires { 10 ≡ length ended.answer.totals }
+    requires { 10 ≡ length ended.totals }
 {
     let mut text = [0u8; 512];
     let line = table::line(&mut text, ended, rows, index);
@@ -41,53 +56,44 @@ fn print_line(rt: &HostRuntime, ended: Ended, rows: &[u32], index: usize) -> boo
 // Writes the lines of a sheet that ends here.
 fn print_sheet(rt: &HostRuntime, sheet: Sheet, rows: &[u32]) {
     let ended = table::end(sheet);
-    let lines = ended.lines;
-    let mut i = 0;
-    while i < lines {
+    for i in 0..ended.lines {
         if !print_line(rt, ended, rows, i) {
             return;
         }
-        i += 1;
     }
 }
 
 // Takes just what a read delivered: the first octets of the buffer, as many as came.
-fn take_read(
-    sheet: Sheet,
-    held: &mut [u8; 49],
-    rows: &mut [u32],
-    kept: &mut [u64],
-    buffer: &[u8],
-    turn: Turn,
-) -> Sheet
-    requires { turn.octets ≤ length buffer.now }
-    ensures { Takes sheet held.old rows.old kept.old (take turn.octets buffer.now)
-        result held.new rows.new kept.new }
+fn take_read(sheet: Sheet, room: &mut Room, turn: Turn) -> Sheet
+    requires { turn.octets ≤ length room.old.buffer }
+    ensures { Takes sheet room.old.held room.old.rows room.old.kept (take turn.octets room.old.buffer)
+        result room.new.held room.new.rows room.new.kept }
 {
     let n = turn.octets;
-    table::take(sheet, held, rows, kept, &buffer[..n])
+    table::take(
+        sheet,
+        &mut room.held,
+        &mut room.rows,
+        &mut room.kept,
+        &room.buffer[..n],
+    )
 }
 
-// Reads to the end, or to a refusal. `name` is what a failed read is told of; `read` is false then.
+// Reads to the end, or to a refusal. `name` is what a failed read is told of; there is no sheet then.
 fn read_all(
     rt: &HostRuntime,
     start: Sheet,
     from: &mut Reader,
     name: &[u8],
-    held: &mut [u8; 49],
-    buffer: &mut [u8],
-    rows: &mut [u32],
-    kept: &mut [u64],
-    read: &mut bool,
-) -> Sheet {
+    room: &mut Room,
+) -> Option<Sheet> {
     let mut sheet = start;
     let mut turn = source::first();
     while source::goes_on(turn, table::reads_on(sheet)) {
-        turn = source::read(rt, b"sheet", name, from, buffer, turn.left);
-        sheet = take_read(sheet, held, rows, kept, buffer, turn);
+        turn = source::read(rt, b"sheet", name, from, &mut room.buffer, turn.left);
+        sheet = take_read(sheet, room, turn);
     }
-    *read = source::well(turn);
-    sheet
+    source::well(turn).then_some(sheet)
 }
 
 // The file that an argument names; argument 0 is standard input.
@@ -100,35 +106,15 @@ fn opened(rt: &HostRuntime, index: usize, name: &mut [u8]) -> Source
     source::named(rt, b"sheet", b"[FILE..]", index, name)
 }
 
-// Reads what an argument names. Where that fails, `read` is false then.
-fn read_source(
-    rt: &HostRuntime,
-    sheet: Sheet,
-    index: usize,
-    held: &mut [u8; 49],
-    buffer: &mut [u8],
-    rows: &mut [u32],
-    kept: &mut [u64],
-    read: &mut bool,
-) -> Sheet {
+// Reads what an argument names. Where that fails there is no sheet.
+fn read_source(rt: &HostRuntime, sheet: Sheet, index: usize, room: &mut Room) -> Option<Sheet> {
     let mut name = [0u8; 4096];
     let mut source = opened(rt, index, &mut name);
     if source.is_nothing() {
-        *read = false;
-        return sheet;
+        return None;
     }
     let length = source.length;
-    let behind = read_all(
-        rt,
-        sheet,
-        &mut source.from,
-        &name[..length],
-        held,
-        buffer,
-        rows,
-        kept,
-        read,
-    );
+    let behind = read_all(rt, sheet, &mut source.from, &name[..length], room);
     source::done(source);
     behind
 }
@@ -154,68 +140,38 @@ fn say_stop(rt: &HostRuntime, log: usize, files: usize, stop: Stop) {
 }
 
 fn say_stops(rt: &HostRuntime, sheet: Sheet, files: usize, kept: &[u64]) {
-    let input = sheet.input;
-    let logs = input.logs;
-    let mut i = 0;
-    while i < logs {
-        say_stop(rt, i, files, stops::kept(kept, i));
-        i += 1;
+    for log in 0..sheet.input.logs {
+        say_stop(rt, log, files, stops::kept(kept, log));
     }
 }
 
 // Makes the sheet of the logs on standard input.
-fn from_input(
-    rt: &HostRuntime,
-    held: &mut [u8; 49],
-    buffer: &mut [u8],
-    rows: &mut [u32],
-    kept: &mut [u64],
-) {
-    let mut read = true;
-    let sheet = read_source(rt, table::start(0), 0, held, buffer, rows, kept, &mut read);
-    if read {
-        say_stops(rt, sheet, 0, kept);
-        print_sheet(rt, sheet, rows);
+fn from_input(rt: &HostRuntime, room: &mut Room) {
+    if let Some(sheet) = read_source(rt, table::start(0), 0, room) {
+        say_stops(rt, sheet, 0, &room.kept);
+        print_sheet(rt, sheet, &room.rows);
     }
 }
 
 // Reads the log in the file that an argument names.
-fn read_file(
-    rt: &HostRuntime,
-    sheet: Sheet,
-    index: usize,
-    held: &mut [u8; 49],
-    buffer: &mut [u8],
-    rows: &mut [u32],
-    kept: &mut [u64],
-    read: &mut bool,
-) -> Sheet {
-    let opened = table::open_log(sheet);
-    let behind = read_source(rt, opened, index, held, buffer, rows, kept, read);
-    table::next_log(behind, *held, rows, kept)
+fn read_file(rt: &HostRuntime, sheet: Sheet, index: usize, room: &mut Room) -> Option<Sheet> {
+    let behind = read_source(rt, table::open_log(sheet), index, room)?;
+    Some(table::next_log(behind, room.held, &mut room.rows, &mut room.kept))
 }
 
 // Makes the sheet of so many files. Where one can't be read, there is none.
-fn from_files(
-    rt: &HostRuntime,
-    files: usize,
-    held: &mut [u8; 49],
-    buffer: &mut [u8],
-    rows: &mut [u32],
-    kept: &mut [u64],
-) {
-    let mut read = true;
+fn from_files(rt: &HostRuntime, files: usize, room: &mut Room) {
     let mut sheet = table::start(files);
-    let mut i = if table::reads_on(sheet) { 0 } else { files };
-    while i < files {
-        i += 1;
-        sheet = read_file(rt, sheet, i, held, buffer, rows, kept, &mut read);
-        if !read {
-            return;
+    if table::reads_on(sheet) {
+        for index in 1..=files {
+            let Some(behind) = read_file(rt, sheet, index, room) else {
+                return;
+            };
+            sheet = behind;
         }
     }
-    say_stops(rt, sheet, files, kept);
-    print_sheet(rt, sheet, rows);
+    say_stops(rt, sheet, files, &room.kept);
+    print_sheet(rt, sheet, &room.rows);
 }
 
 // How many files the arguments name. 0: standard input is to be read, since there is no argument, or `-` alone.
@@ -226,32 +182,28 @@ fn files_named(rt: &HostRuntime) -> usize {
     }
     let mut name = [0u8; 4096];
     let length = source::word(rt, 1, &mut name).unwrap_or(0);
-    if source::kind(&name[..length]) == 2 {
+    if source::kind(&name[..length]) == Argument::Standard {
         return 0;
     }
     1
 }
 
 // Makes the sheet of the logs on standard input or of the files that the arguments name.
-fn make_sheet(
-    rt: &HostRuntime,
-    held: &mut [u8; 49],
-    buffer: &mut [u8],
-    rows: &mut [u32],
-    kept: &mut [u64],
-) {
+fn make_sheet(rt: &HostRuntime, room: &mut Room) {
     let files = files_named(rt);
     if files == 0 {
-        from_input(rt, held, buffer, rows, kept);
+        from_input(rt, room);
     } else {
-        from_files(rt, files, held, buffer, rows, kept);
+        from_files(rt, files, room);
     }
 }
 
 fn main(rt: HostRuntime) {
-    let mut held = [0u8; 49];
-    let mut buffer = [0u8; 65536];
-    let mut rows = [0u32; 40960];
-    let mut kept = [0u64; 12288];
-    make_sheet(&rt, &mut held, &mut buffer, &mut rows, &mut kept);
+    let mut room = Room {
+        held: [0; 49],
+        buffer: [0; 65536],
+        rows: [0; ROWS],
+        kept: [0; KEPT],
+    };
+    make_sheet(&rt, &mut room);
 }

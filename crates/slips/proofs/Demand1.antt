@@ -7,6 +7,8 @@ use Rattle.runs.proofs.Laws.{split}
 use Rattle.numbers.specs.Numbers.{difference_of}
 use Rattle.slips.specs.Slips.{starts_of}
 use Rattle.slips.specs.Watch.{
+  Watch,
+  Stepped,
   watch_refused,
   report_refused,
   may_after,
@@ -18,8 +20,6 @@ use Rattle.slips.specs.Watch.{
   step_refusal,
   step_of,
 }
-use Rattle.slips.specs.declared.Watch.{Watch}
-use Rattle.slips.specs.declared.Stepped.{Stepped}
 use Rattle.slips.proofs.Steps.{step_4, step_31, step_taken}
 
 sure_takes : (w : Watch) (number second by : ℕ) → (sure_step w number second by).refusal ≡ 0

@@ -9,9 +9,7 @@ use borrow.Author.Tests.{eqb-true, eqb-false, le-ltb}
 use Rattle.runs.proofs.Laws.{split}
 use Rattle.numbers.specs.Numbers.{difference_of}
 use Rattle.slips.specs.Slips.{starts_of, behind_of}
-use Rattle.slips.specs.Watch.{begun, in_step_of, out_of_step, told, may_after, slipped, sure_step, new_step}
-use Rattle.slips.specs.declared.Watch.{Watch}
-use Rattle.slips.specs.declared.Stepped.{Stepped}
+use Rattle.slips.specs.Watch.{Watch, Stepped, begun, in_step_of, out_of_step, told, may_after, slipped, sure_step, new_step}
 use Rattle.slips.specs.Reports.{Report, watched_from, no_watch, Spaced, SpacedOut}
 use Rattle.slips.proofs.Laws.{CanBe, sure_can, not_refused}
 use Rattle.slips.proofs.Rows.{Follow, Chain, Counted, second_up, goes_on}

@@ -2,15 +2,13 @@
 -- Assumes nothing.
 use mathlib.Core.Bool.{Bool, true, false, true≢false, not, ◌&&◌}
 use mathlib.Core.Path.{◌≡◌, sym, ◌∙◌, ap}
-use Prim.Native.Nat.{ℕ, suc, ◌+◌, ◌*◌, ◌≤◌, ◌<◌}
-use native.Mathlib.Numerals.{add-one}
+use Prim.Native.Nat.{ℕ, suc, ◌+◌, ◌*◌, ◌≤◌}
 use native.Mathlib.Omega.{arith}
-use lib.Dec.{eqb, ltb}
-use borrow.Author.Tests.{eq-eqb, ne_eqb, lt-ltb, le-ltb, eqb-true, eqb-false, ltb-true, ltb-false}
+use lib.Dec.{eqb}
+use borrow.Author.Tests.{eq-eqb, ne_eqb, le-ltb, eqb-true, eqb-false, ltb-false}
 use Rattle.runs.proofs.Laws.{split, neither}
 use Rattle.numbers.specs.Numbers.{difference_of}
-use Rattle.slips.specs.Watch.{is_too_large, some_set, unlike, watch_refused, report_refused}
-use Rattle.slips.specs.declared.Watch.{Watch}
+use Rattle.slips.specs.Watch.{Watch, is_too_large, some_set, unlike, watch_refused, report_refused}
 
 none_there : (n : ℕ) → not (eqb n 0) ≡ false → n ≡ 0
 none_there n e = split (eqb n 0) (λ t. eqb-true n 0 t) (λ f. absurd (true≢false (sym (ap not f) ∙ e)))
@@ -155,9 +153,6 @@ can_be_lem w e =
     let some : w.started ≡ 0 → ⊥ = eqb-false _ 0 f in
     none_unlike w s (omega arith) (rw f at e1.1))
 
-pub refused_else : (w : Watch) → (CanBe w → ⊥) → watch_refused w ≡ true
-refused_else w never = split (watch_refused w) (λ t. t) (λ f. absurd (never (can_be_lem w f)))
-
 not_large : (w : Watch) → CanBe w → is_too_large w ≡ false
 unfolding is_too_large
 not_large w k =
@@ -233,10 +228,6 @@ follows w missing number second e =
           (λ f. absurd (true≢false (sym (ap not f) ∙ d)));
     }
 
-pub refused_31 : (w : Watch) (missing number second : ℕ) → (Follows w missing number second → ⊥) → report_refused w missing number second ≡ true
-refused_31 w missing number second never =
-    split (report_refused w missing number second) (λ t. t) (λ f. absurd (never (follows w missing number second f)))
-
 pub follows_first : (w : Watch) (number second : ℕ) → w.started ≡ 0 → number ≤ 15 → second ≤ 15 → report_refused w 0 number second ≡ false
 unfolding report_refused
 follows_first w number second z a b = rw (le-ltb 15 number a, le-ltb 15 second b, eq-eqb w.started 0 z)
@@ -290,52 +281,3 @@ module _ (w : Watch) (number : w.number ≤ 15) where
         may_waits = omega arith;
         other_to = omega arith;
       }
-
--- where all else is as it can be, one number decides
-pub none_decides : (w : Watch) (n : ℕ) → (n ≡ 0 → CanBe w) → (CanBe w → n ≡ 0) → not (eqb n 0) ≡ watch_refused w
-none_decides w n can must =
-    split (eqb n 0)
-    (λ t. rw t (sym (not_refused w (can (eqb-true n 0 t)))))
-    (λ f. rw f (sym (refused_else w (λ k. eqb-false n 0 f (must k)))))
-
-pub small_decides : (w : Watch) (n : ℕ) → (n ≤ 15 → CanBe w) → (CanBe w → n ≤ 15) → ltb 15 n ≡ watch_refused w
-small_decides w n can must =
-    split (ltb 15 n)
-    (λ t. let large : 15 < n = ltb-true 15 n t in rw t (sym (refused_else w (λ k. let small = must k in omega arith))))
-    (λ f. rw f (sym (not_refused w (can (ltb-false 15 n f)))))
-
--- and one that can't be refuses
-pub some_refuses : (w : Watch) (n : ℕ) → (n ≡ 0 → ⊥) → (CanBe w → ⊥) → not (eqb n 0) ≡ watch_refused w
-some_refuses w n some never = rw (ne_eqb n 0 some) (sym (refused_else w never))
-
-pub not_1_refuses : (w : Watch) (n : ℕ) → (n ≡ 1 → ⊥) → (CanBe w → ⊥) → not (eqb n 1) ≡ watch_refused w
-not_1_refuses w n other never = rw (ne_eqb n 1 other) (sym (refused_else w never))
-
-pub large_refuses : (w : Watch) (n : ℕ) → 15 < n → (CanBe w → ⊥) → ltb 15 n ≡ watch_refused w
-large_refuses w n large never = rw (lt-ltb 15 n large) (sym (refused_else w never))
-
--- a first report: none may be missing
-pub first_decides : (w : Watch) (missing number second : ℕ) → w.started ≡ 0 → number ≤ 15 → second ≤ 15
-    → not (eqb missing 0) ≡ report_refused w missing number second
-unfolding report_refused
-first_decides w missing number second z a b =
-    split (eqb missing 0)
-    (λ t.
-    let none : missing ≡ 0 = eqb-true missing 0 t in
-    rw (t, le-ltb 14 missing (omega arith), le-ltb 15 number a, le-ltb 15 second b, eq-eqb w.started 0 z))
-    (λ f. ap not f ∙ sym (refused_31 w missing number second (λ x. eqb-false missing 0 f (x.at_first z))))
-
--- the last of a report's checks: missing + 1 is the difference
-pub difference_decides : (w : Watch) (missing number second d : ℕ) → (w.started ≡ 0 → ⊥) → number ≤ 15 → second ≤ 15
-    → d ≡ difference_of number w.number → not (eqb (missing + 1) d) ≡ report_refused w missing number second
-unfolding report_refused
-difference_decides w missing number second d some a b is =
-    let e : suc missing ≡ missing + 1 = sym (add-one missing) in
-    split (eqb (missing + 1) d)
-    (λ t.
-    let same : suc missing ≡ difference_of number w.number = e ∙ eqb-true _ _ t ∙ is in
-    let few : missing ≤ 14 = omega (arith, difference_to number w.number) in
-    rw (t, le-ltb 14 missing few, le-ltb 15 number a, le-ltb 15 second b, ne_eqb w.started 0 some, eq-eqb (suc missing) _ same))
-    (λ f.
-    let other : suc missing ≡ difference_of number w.number → ⊥ = λ same. eqb-false _ _ f (sym e ∙ same ∙ sym is) in
-    rw f (sym (refused_31 w missing number second (λ x. other (x.later some)))))

@@ -1,9 +1,11 @@
 pub mod Demand1
 pub mod Exactly
+pub mod Known
 pub mod Laws
 pub mod One
 pub mod Rows
 pub mod Steps
 pub mod Told
+pub mod Unfolded
 pub mod Watched
 pub mod Wrong

@@ -6,9 +6,12 @@ use Prim.Native.Nat.{ℕ, suc, ◌+◌, ◌≤◌}
 use native.Mathlib.Omega.{arith}
 use lib.Dec.{eqb}
 use borrow.Author.Tests.{eq-eqb, ne_eqb, le-ltb}
+use Rattle.runs.proofs.Laws.{split}
 use Rattle.numbers.specs.Numbers.{difference_of}
 use Rattle.slips.specs.Slips.{starts_of, behind_of}
+use Rattle.slips.proofs.Laws.{CanBe, can_be_lem, not_refused}
 use Rattle.slips.specs.Watch.{
+  Watch,
   watch_refused,
   report_refused,
   begun,
@@ -21,10 +24,10 @@ use Rattle.slips.specs.Watch.{
   slipped,
   sure_step,
   new_step,
+  step_refusal,
   taken_step,
   step_of,
 }
-use Rattle.slips.specs.declared.Watch.{Watch}
 
 module _ (w : Watch) (number second by : ℕ) where
   pub sure_in_step : difference_of second w.second ≡ may_after w.may by
@@ -64,18 +67,6 @@ pub agrees_with_lem : (w : Watch) (second by : ℕ) → w.waits ≡ 1 → differ
 unfolding agrees_with
 agrees_with_lem w second by one e = rw (eq-eqb w.waits 1 one, eq-eqb (difference_of second w.other) by e)
 
-pub agrees_not : (w : Watch) (second by : ℕ) → (difference_of second w.other ≡ by → ⊥) → w.waits ≡ 1 → agrees_with w second by ≡ false
-unfolding agrees_with
-agrees_not w second by e one = rw (eq-eqb w.waits 1 one, ne_eqb (difference_of second w.other) by e)
-
-pub slipped_none : (number second cells : ℕ) → cells ≡ 0 → slipped number second cells ≡ told (in_step_of number second) 0 0
-unfolding slipped
-slipped_none number second cells e = rw e
-
-pub slipped_some : (number second cells : ℕ) → (cells ≡ 0 → ⊥) → slipped number second cells ≡ told (in_step_of number second) 1 cells
-unfolding slipped
-slipped_some number second cells e = rw (ne_eqb cells 0 e)
-
 -- the two kinds of a sure watch
 pub settled_in : (w : Watch) (number second by : ℕ) → w.waits ≡ 0 → w.may ≡ 0 → by ≤ 2 → difference_of second w.second ≡ by
     → sure_step w number second by ≡ told (in_step_of number second) 0 0
@@ -90,11 +81,6 @@ settled_out w number second by none no-may few e =
     let m : may_after w.may by ≡ by = ap (λ (m : ℕ). may_after m by) no-may ∙ may_at_first by few in
     sure_out w number second by (λ same. e (same ∙ m)) (waits_not w second by none)
     ∙ ap (λ (m : ℕ). told (out_of_step number w.second m second) 3 (behind_of (difference_of second w.second) m)) m
-
-pub waiting_in : (w : Watch) (number second by : ℕ) → w.waits ≡ 1 → difference_of second w.second ≡ may_after w.may by
-    → sure_step w number second by ≡ told (in_step_of number second) 2 0
-waiting_in w number second by one e =
-    sure_in_step w number second by e ∙ ap (λ (b : ℕ). told (in_step_of number second) (cond (eqb b 1) 2 0) 0) one
 
 -- the whole step
 module _ (w : Watch) (missing number second : ℕ) where
@@ -124,3 +110,29 @@ module _ (w : Watch) (missing number second : ℕ) where
         → step_of w missing number second ≡ sure_step w number second (starts_of w.number (suc missing))
     unfolding taken_step
     step_sure some sure = step_taken ∙ rw (ne_eqb w.started 0 some, ne_eqb w.sure 0 sure)
+
+  -- what is refused, and what isn't
+  pub step_refused : {n : ℕ} → n ≡ step_refusal w missing number second → (n ≡ 0 → ⊥) → refused n w ≡ step_of w missing number second
+  unfolding step_refusal step_of
+  step_refused is some =
+      split (watch_refused w)
+      (λ e. rw (is, e))
+      (λ e.
+      split (report_refused w missing number second)
+      (λ f. rw (is, e, f))
+      (λ f. absurd (some (is ∙ rw (e, f)))))
+
+  module _ (none : step_refusal w missing number second ≡ 0) where
+    pub can_be_then : CanBe w
+    unfolding step_refusal
+    can_be_then = split (watch_refused w) (λ e. absurd (let four : ◌≡◌ {A = ℕ} 4 0 = rw e at none in omega arith)) (λ e. can_be_lem w e)
+
+    pub follows_then : report_refused w missing number second ≡ false
+    unfolding step_refusal
+    follows_then =
+        split (report_refused w missing number second)
+        (λ f. absurd (let some : ◌≡◌ {A = ℕ} 31 0 = rw (not_refused w can_be_then, f) at none in omega arith))
+        (λ f. f)
+
+    pub taken_then : taken_step w missing number second ≡ step_of w missing number second
+    taken_then = sym (step_taken (not_refused w can_be_then) follows_then)

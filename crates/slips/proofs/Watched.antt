@@ -11,9 +11,7 @@ use borrow.Author.Tests.{eqb-true, eqb-false, ne_eqb, le-ltb, lt-ltb, ltb-true, 
 use Rattle.runs.proofs.Laws.{split}
 use Rattle.numbers.specs.Numbers.{difference_of}
 use Rattle.slips.specs.Slips.{starts_of, behind_of}
-use Rattle.slips.specs.Watch.{report_refused, begun, in_step_of, out_of_step, told, may_after, agrees_with, slipped, sure_step, new_step, step_of}
-use Rattle.slips.specs.declared.Watch.{Watch}
-use Rattle.slips.specs.declared.Stepped.{Stepped}
+use Rattle.slips.specs.Watch.{Watch, Stepped, report_refused, begun, in_step_of, out_of_step, told, may_after, agrees_with, slipped, sure_step, new_step, step_of}
 use Rattle.slips.specs.Reports.{Report, watched_from, no_watch, NeverAhead}
 use Rattle.slips.proofs.Laws.{CanBe, nothing_can, new_can, sure_can, not_refused, follows_first, follows_later}
 use Rattle.slips.proofs.Rows.{Follow, Chain, second_up, number_up, goes_on}

@@ -1,3 +1,4 @@
+pub mod Known
 pub mod Reports
 pub mod Slips
 pub mod Watch

@@ -2,8 +2,7 @@
 -- Assumes nothing.
 use Rattle.std.specs.Prelude.{cond, List, [], ◌∷◌, ◌≡◌, ℕ, ◌+◌, ◌*◌, ◌/◌, ◌%◌, ◌-◌, ◌≤◌, eqb}
 use Rattle.slips.specs.Slips.{slip_of}
-use Rattle.slips.specs.Watch.{step_of}
-use Rattle.slips.specs.declared.Watch.{Watch}
+use Rattle.slips.specs.Watch.{Watch, step_of}
 
 pub record Report : Type 0 where
   pub missing : ℕ

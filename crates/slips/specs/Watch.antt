@@ -4,8 +4,23 @@
 use Rattle.std.specs.Prelude.{Bool, cond, not, ◌&&◌, ◌||◌, ℕ, suc, ◌+◌, eqb, ltb}
 use Rattle.numbers.specs.Numbers.{difference_of}
 use Rattle.slips.specs.Slips.{starts_of, behind_of}
-use Rattle.slips.specs.declared.Watch.{Watch}
-use Rattle.slips.specs.declared.Stepped.{Stepped}
+
+-- what is known of the cells before: "a yes or no is 1 or 0, every other octet a number modulo 16"
+pub record Watch : Type 0 where
+  pub started : ℕ
+  pub number : ℕ
+  pub sure : ℕ
+  pub second : ℕ
+  pub may : ℕ
+  pub waits : ℕ
+  pub other : ℕ
+
+-- what a step leaves and tells
+pub record Stepped : Type 0 where
+  pub refusal : ℕ
+  pub watch : Watch
+  pub what : ℕ
+  pub cells : ℕ
 
 -- "a yes or no above 1, a number above 15"
 unfoldable pub is_too_large : Watch → Bool

@@ -1,48 +1,62 @@
 #![tactic(auto)]
 // Slips, told by second numbers: cells that are missing beside those that the receiver tells missing.
-ghost use Rattle.std.specs.Prelude.{◌≡◌, ◌≤◌};
+ghost use Rattle.std.specs.Prelude.{ℕ, [], ◌∷◌, ◌≡◌, ◌≤◌, not, MatchOption, IfOk};
+ghost use Rattle.refusals.specs.Refusals.{refused_by};
 ghost use Rattle.slips.specs.Slips.{starts_of, behind_of};
 ghost use Rattle.slips.specs.Watch.{
   watch_refused,
-  report_refused,
-  begun,
   in_step_of,
   out_of_step,
-  told,
-  refused,
   may_after,
-  agrees_with,
-  slipped,
-  new_step,
   sure_step,
+  taken_step,
+  step_refusal,
   step_of,
 };
+ghost use Rattle.slips.specs.Known.{known_of, what_of, cells_of, leaves_and_tells, stepped_of, stepped_from, watch_in, octets_in, Reads};
 
 use numbers::difference;
+use refusals::Refusal;
 
-// What is known of the cells before: a yes or no is 1 or 0, every other octet a number modulo 16.
-#[derive(Clone, Copy)]
-pub struct Watch {
-    pub started: u8,
-    pub number: u8,
-    pub sure: u8,
-    pub second: u8,
-    pub may: u8,
-    pub waits: u8,
-    pub other: u8,
+// What is known of the cells before, every number modulo 16.
+#[derive(Clone, Copy, Debug, PartialEq, Eq, Hash)]
+pub enum Watch {
+    // no cell was taken yet
+    New,
+    // the first cell, or one that didn't agree with the one before it: the next one decides
+    Begun {
+        number: u8,
+        second: u8,
+    },
+    // the last cell's second number is sure
+    InStep {
+        number: u8,
+        second: u8,
+    },
+    // the last cell has another second number than it should by `second`, the last one that was in step, where up to `may` blocks
+    // started since: the next one decides
+    OutOfStep {
+        number: u8,
+        second: u8,
+        may: u8,
+        other: u8,
+    },
 }
 
-// What a step leaves and tells. `what`: 0 nothing; 1 at least so many cells more are missing before the cell taken before this one; 2
-// that cell was out of step alone; 3 this cell is out of step, and the next one decides.
-#[derive(Clone, Copy)]
-pub struct Stepped {
-    pub refusal: u8,
-    pub watch: Watch,
-    pub what: u8,
-    pub cells: u8,
+// What a step tells.
+#[derive(Clone, Copy, Debug, PartialEq, Eq, Hash)]
+pub enum Slip {
+    Nothing,
+    // at least so many cells more are missing before the cell taken before this one
+    Missing(u8),
+    // the cell taken before this one was out of step alone
+    Alone,
+    // this cell is out of step, by at least so many cells, and the next one decides
+    Undecided(u8),
 }
 
 // How many of the numbers after the last one, counted on past 15, are multiples of 8.
+#[tactic(auto, unfolding(crate::specs::Slips::starts_of))]
 fn starts(last: u8, steps: u8) -> u8
     requires { (last ≤ 15) × (steps ≤ 15) }
     ensures { (result ≡ starts_of last steps) × (result ≤ 2) }
@@ -51,234 +65,231 @@ fn starts(last: u8, steps: u8) -> u8
 }
 
 // At least so many cells are missing beside those told, where second numbers went up by this and may have gone up by that.
+#[tactic(auto, unfolding(crate::specs::Slips::behind_of))]
 fn behind(told: u8, may: u8) -> u8
     requires { told ≤ 15 }
     ensures { result ≡ behind_of told may }
 {
     if told <= may {
-        return 0;
+        0
+    } else {
+        (told - may + 1) / 2 * 16
     }
-    (told - may + 1) / 2 * 16
 }
 
+#[tactic(auto, unfolding(crate::specs::Watch::may_after))]
 fn may_after(may: u8, by: u8) -> u8
     requires { (may ≤ 15) × (by ≤ 2) }
     ensures { result ≡ may_after may by }
 {
-    if 15 < may + by {
-        return 15;
-    }
-    may + by
+    (may + by).min(15)
 }
 
-// Of a watch that is sure.
-fn sure_refused(watch: Watch) -> bool
-    requires { (watch.sure ≡ 1) × (watch.number ≤ 15) × (watch.second ≤ 15) }
-    ensures { result ≡ watch_refused watch }
-{
-    if watch.started != 1 {
-        return true;
+impl Watch {
+    // The number of the cell taken last.
+    fn number(self) -> Option<u8>
+        ensures { MatchOption result ((known_of self).started ≡ 0) (λ n. ((known_of self).started ≡ 1) × (n ≡ (known_of self).number)) }
+    {
+        match self {
+            Watch::New => None,
+            Watch::Begun { number, .. }
+            | Watch::InStep { number, .. }
+            | Watch::OutOfStep { number, .. } => Some(number),
+        }
     }
-    if watch.waits == 0 {
-        return watch.may != 0 || watch.other != 0;
-    }
-    watch.waits != 1 || (15 < watch.may || 15 < watch.other)
-}
 
-// Whether a watch can't be, so that it is refused 4.
-fn watch_refused(watch: Watch) -> bool
-    ensures { result ≡ watch_refused watch }
-{
-    if 15 < watch.number {
-        return true;
+    // Whether every number in it is below 16.
+    #[tactic(auto, unfolding(crate::proofs::Unfolded::watches))]
+    fn is_sound(self) -> bool
+        ensures { result ≡ not (watch_refused (known_of self)) }
+    {
+        match self {
+            Watch::New => true,
+            Watch::Begun { number, second } | Watch::InStep { number, second } => number <= 15
+                && second <= 15,
+            Watch::OutOfStep {
+                number,
+                second,
+                may,
+                other,
+            } => number <= 15 && second <= 15 && may <= 15 && other <= 15,
+        }
     }
-    if 15 < watch.second {
-        return true;
-    }
-    if watch.sure == 1 {
-        return sure_refused(watch);
-    }
-    if watch.sure != 0 {
-        return true;
-    }
-    if watch.second != 0 {
-        return true;
-    }
-    if watch.may != 0 {
-        return true;
-    }
-    if watch.waits == 0 {
-        return watch.started != 0 || (watch.number != 0 || watch.other != 0);
-    }
-    watch.waits != 1 || (watch.started != 1 || 15 < watch.other)
-}
 
-// Whether a report can't follow, so that it is refused 31.
-fn report_refused(watch: Watch, missing: u8, number: u8, second: u8) -> bool
-    ensures { result ≡ report_refused watch missing number second }
-{
-    if 15 < number {
-        return true;
+    // A watch with a number above 15, then a report that can't follow.
+    #[tactic(auto, unfolding(crate::proofs::Unfolded::refusals))]
+    fn checked(self, missing: u8, number: u8, second: u8) -> Result<(), Refusal>
+        ensures { refused_by result ≡ step_refusal (known_of self) missing number second }
+    {
+        if !self.is_sound() {
+            return Err(Refusal::State);
+        }
+        let follows = match self.number() {
+            None => missing == 0,
+            Some(last) => missing <= 14 && missing + 1 == difference(number, last),
+        };
+        if 15 < number || 15 < second || !follows {
+            return Err(Refusal::Report);
+        }
+        Ok(())
     }
-    if 15 < second {
-        return true;
-    }
-    if watch.started == 0 {
-        return missing != 0;
-    }
-    missing as u32 + 1 != difference(number, watch.number) as u32
-}
 
-fn agrees_with(watch: Watch, second: u8, by: u8) -> bool
-    ensures { result ≡ agrees_with watch second by }
-{
-    if watch.waits != 1 {
-        return false;
+    // The watch brought forward by a report that follows, and what it tells.
+    #[tactic(auto, using(crate::proofs::Laws::follows), unfolding(crate::proofs::Unfolded::steps))]
+    fn forward(self, missing: u8, number: u8, second: u8) -> (Watch, Slip)
+        requires { step_refusal (known_of self) missing number second ≡ 0 }
+        ensures { leaves_and_tells result.0 result.1 ≡ taken_step (known_of self) missing number second }
+    {
+        match self {
+            Watch::New => (Watch::Begun { number, second }, Slip::Nothing),
+            Watch::Begun {
+                number: last,
+                second: other,
+            } => {
+                if difference(second, other) == starts(last, missing + 1) {
+                    (Watch::InStep { number, second }, Slip::Nothing)
+                } else {
+                    (Watch::Begun { number, second }, Slip::Nothing)
+                }
+            }
+            Watch::InStep {
+                number: last,
+                second: kept,
+            } => in_step(kept, number, second, starts(last, missing + 1)),
+            Watch::OutOfStep {
+                number: last,
+                second: kept,
+                may,
+                other,
+            } => out_of_step(kept, may, other, number, second, starts(last, missing + 1)),
+        }
     }
-    difference(second, watch.other) == by
-}
 
-fn begun_with(number: u8, second: u8) -> Watch
-    ensures { result ≡ begun number second }
-{
-    Watch {
-        started: 1,
-        number,
-        sure: 0,
-        second: 0,
-        may: 0,
-        waits: 1,
-        other: second,
+    // Takes what the receiver reported of the next cell that it took, and tells what it means. Refused, State for a watch that can't be
+    // or Report for a report that can't follow, the watch stays as it was.
+    pub fn step(&mut self, missing: u8, number: u8, second: u8) -> Result<Slip, Refusal>
+        ensures { stepped_of result self.new ≡ step_of (known_of self.old) missing number second }
+    {
+        self.checked(missing, number, second)?;
+        let (after, slip) = self.forward(missing, number, second);
+        *self = after;
+        Ok(slip)
     }
-}
 
-fn in_step(number: u8, second: u8) -> Watch
-    ensures { result ≡ in_step_of number second }
-{
-    Watch {
-        started: 1,
-        number,
-        sure: 1,
-        second,
-        may: 0,
-        waits: 0,
-        other: 0,
-    }
-}
-
-fn out_of_step(number: u8, kept: u8, may: u8, second: u8) -> Watch
-    ensures { result ≡ out_of_step number kept may second }
-{
-    Watch {
-        started: 1,
-        number,
-        sure: 1,
-        second: kept,
-        may,
-        waits: 1,
-        other: second,
+    // The watch as seven octets.
+    pub fn octets(self) -> [u8; 7]
+        ensures { result ≡ octets_in (known_of self) }
+    {
+        match self {
+            Watch::New => [0; 7],
+            Watch::Begun { number, second } => [1, number, 0, 0, 0, 1, second],
+            Watch::InStep { number, second } => [1, number, 1, second, 0, 0, 0],
+            Watch::OutOfStep {
+                number,
+                second,
+                may,
+                other,
+            } => [1, number, 1, second, may, 1, other],
+        }
     }
 }
 
-fn refused_with(refusal: u8, watch: Watch) -> Stepped
-    ensures { result ≡ refused refusal watch }
-{
-    Stepped {
-        refusal,
-        watch,
-        what: 0,
-        cells: 0,
+impl Slip {
+    // What is told, and how many cells, as two octets.
+    pub fn octets(self) -> [u8; 2]
+        ensures { result ≡ what_of self ∷ cells_of self ∷ [] }
+    {
+        match self {
+            Slip::Nothing => [0, 0],
+            Slip::Missing(cells) => [1, cells],
+            Slip::Alone => [2, 0],
+            Slip::Undecided(cells) => [3, cells],
+        }
     }
 }
 
-fn told_with(watch: Watch, what: u8, cells: u8) -> Stepped
-    ensures { result ≡ told watch what cells }
+// A step where the cell taken last was in step: `by` blocks start up to this one.
+#[tactic(auto, using(crate::proofs::Laws::difference_to), unfolding(crate::proofs::Unfolded::sure_steps))]
+fn in_step(kept: u8, number: u8, second: u8, by: u8) -> (Watch, Slip)
+    requires { by ≤ 2 }
+    ensures { (last : ℕ) → leaves_and_tells result.0 result.1 ≡ sure_step (in_step_of last kept) number second by }
 {
-    Stepped {
-        refusal: 0,
-        watch,
-        what,
-        cells,
-    }
-}
-
-fn slipped_by(number: u8, second: u8, cells: u8) -> Stepped
-    ensures { result ≡ slipped number second cells }
-{
-    let watch = in_step(number, second);
-    if cells == 0 {
-        return told_with(watch, 0, 0);
-    }
-    told_with(watch, 1, cells)
-}
-
-// A step of a watch that isn't sure yet.
-fn new_step(watch: Watch, number: u8, second: u8, by: u8) -> Stepped
-    ensures { result ≡ new_step watch number second by }
-{
-    if agrees_with(watch, second, by) {
-        return told_with(in_step(number, second), 0, 0);
-    }
-    told_with(begun_with(number, second), 0, 0)
-}
-
-// A step of a watch that is sure, the cell taken last being in step.
-fn settled_step(watch: Watch, number: u8, second: u8, by: u8) -> Stepped
-    requires { (watch.waits ≡ 0) × (watch.may ≡ 0) × (by ≤ 2) }
-    ensures { result ≡ sure_step watch number second by }
-{
-    let kept = watch.second;
     let up = difference(second, kept);
     if up == by {
-        return told_with(in_step(number, second), 0, 0);
+        return (Watch::InStep { number, second }, Slip::Nothing);
     }
-    told_with(out_of_step(number, kept, by, second), 3, behind(up, by))
+    let after = Watch::OutOfStep {
+        number,
+        second: kept,
+        may: by,
+        other: second,
+    };
+    (after, Slip::Undecided(behind(up, by)))
 }
 
-// A step of one that is sure, the cell taken last being out of step.
-fn waiting_step(watch: Watch, number: u8, second: u8, by: u8) -> Stepped
-    requires { (watch.waits ≡ 1) × (watch.may ≤ 15) × (by ≤ 2) }
-    ensures { result ≡ sure_step watch number second by }
+// A step where the cell taken last was out of step.
+#[tactic(auto, using(crate::proofs::Laws::difference_to), unfolding(crate::proofs::Unfolded::sure_steps))]
+fn out_of_step(kept: u8, may: u8, other: u8, number: u8, second: u8, by: u8) -> (Watch, Slip)
+    requires { (may ≤ 15) × (by ≤ 2) }
+    ensures { (last : ℕ) → leaves_and_tells result.0 result.1 ≡ sure_step (out_of_step last kept may other) number second by }
 {
-    let may = may_after(watch.may, by);
-    let up = difference(second, watch.second);
-    if up == may {
-        return told_with(in_step(number, second), 2, 0);
+    let may_now = may_after(may, by);
+    let up = difference(second, kept);
+    if up == may_now {
+        return (Watch::InStep { number, second }, Slip::Alone);
     }
-    if difference(second, watch.other) == by {
-        return slipped_by(
-            number,
-            second,
-            behind(difference(watch.other, watch.second), watch.may),
-        );
+    if difference(second, other) == by {
+        let slip = match behind(difference(other, kept), may) {
+            0 => Slip::Nothing,
+            cells => Slip::Missing(cells),
+        };
+        return (Watch::InStep { number, second }, slip);
     }
-    told_with(
-        out_of_step(number, watch.second, may, second),
-        3,
-        behind(up, may),
-    )
+    let after = Watch::OutOfStep {
+        number,
+        second: kept,
+        may: may_now,
+        other: second,
+    };
+    (after, Slip::Undecided(behind(up, may_now)))
 }
 
-// Takes the watch and what the receiver reported of the next cell that it took; gives the watch brought forward, and what it tells.
-// Refused, 4 for a watch that can't be or 31 for a report that can't follow, the watch is as it was and nothing is told.
-pub fn step(watch: Watch, missing: u8, number: u8, second: u8) -> Stepped
-    ensures { result ≡ step_of watch missing number second }
+// Seven octets as a watch: refused where it can't be.
+impl TryFrom<[u8; 7]> for Watch {
+    type Error = Refusal;
+
+    ghost try_from_gives = { Reads };
+
+    #[tactic(auto, unfolding(crate::proofs::Unfolded::watches))]
+    fn try_from(octets: [u8; 7]) -> Result<Watch, Refusal> {
+        let watch = match octets {
+            [0, 0, 0, 0, 0, 0, 0] => Watch::New,
+            [1, number, 0, 0, 0, 1, second] => Watch::Begun { number, second },
+            [1, number, 1, second, 0, 0, 0] => Watch::InStep { number, second },
+            [1, number, 1, second, may, 1, other] => Watch::OutOfStep {
+                number,
+                second,
+                may,
+                other,
+            },
+            _ => return Err(Refusal::State),
+        };
+        if watch.is_sound() {
+            Ok(watch)
+        } else {
+            Err(Refusal::State)
+        }
+    }
+}
+
+// A step of a watch that is kept as seven octets, by value: the octets to go on with, and what is told. Refused, State for octets that
+// can't be a watch or Report for a report that can't follow.
+pub fn step(watch: [u8; 7], missing: u8, number: u8, second: u8) -> Result<([u8; 7], Slip), Refusal>
+    ensures step { stepped_from watch result ≡ step_of (watch_in watch) missing number second }
+    ensures octets { IfOk result (λ r. r.0 ≡ octets_in (watch_in r.0)) }
 {
-    if watch_refused(watch) {
-        return refused_with(4, watch);
-    }
-    if report_refused(watch, missing, number, second) {
-        return refused_with(31, watch);
-    }
-    if watch.started == 0 {
-        return told_with(begun_with(number, second), 0, 0);
-    }
-    let by = starts(watch.number, missing + 1);
-    if watch.sure == 0 {
-        return new_step(watch, number, second, by);
-    }
-    if watch.waits == 0 {
-        return settled_step(watch, number, second, by);
-    }
-    waiting_step(watch, number, second, by)
+    let seen = Watch::try_from(watch)?;
+    seen.checked(missing, number, second)?;
+    let (after, slip) = seen.forward(missing, number, second);
+    Ok((after.octets(), slip))
 }

@@ -10,8 +10,7 @@ use lib.Dec.{eqb, ltb}
 use lib.IntN.{ℤ, pos, negsuc}
 use lib.Signed.{lt_z}
 use Rattle.runs.proofs.Laws.{both_true, split}
-use Rattle.source.specs.declared.turns.Turn.{Turn}
-use Rattle.source.specs.Turns.{without, came_of, clamp_len, turn_of, Reads}
+use Rattle.source.specs.Turns.{Turn, without, came_of, clamp_len, turn_of, Reads}
 
 -- a read that failed
 pub failed : (got : ℤ) (room left : ℕ) → lt_z got (pos 0) ≡ true → without 3 left ≡ turn_of got room left

@@ -10,9 +10,10 @@ use contract.Lifetimes.{Lfts}
 use lib.IntN.{ℤ, pos, negsuc}
 use Rattle.runs.proofs.Wrong.{Never, Place, lent}
 use Rattle.text.specs.Words.{words}
-use Rattle.source.specs.declared.turns.Turn.{Turn}
+use Rattle.source.specs.declared.turns.Next.TheVariants.{On, End, Failed}
+use Rattle.source.specs.Kinds as kinds
 use Rattle.source.specs.Kinds.{kind_of}
-use Rattle.source.specs.Turns.{without, came_of, turn_of}
+use Rattle.source.specs.Turns.{Turn, number_of, turned, came_of, turn_of}
 use Rattle.source.proofs.kind.Kinds as kind-kinds
 use Rattle.source.proofs.kind.Reads as kind-reads
 use Rattle.source.proofs.turns.answered.Kinds as answered-kinds
@@ -26,26 +27,26 @@ use Rattle.source.proofs.turns.well.Reads as well-reads
 
 module _ (κs : Lfts 1) (p : Place) where
   abbrev Word : List ℕ → (ℕ → Type 0) → Type 0
-  Word word Wrong = Never kind-kinds.ps kind-kinds.r kind-reads.Post κs (lent p word, tt) (λ x v. Wrong x)
+  Word word Wrong = Never kind-kinds.ps kind-kinds.r kind-reads.Post κs (lent p word, tt) (λ x v. Wrong (kinds.number_of x))
 
   -- `-` taken for a file, and an option taken for one
   pub dash_no_file : Word (words "-") (λ x. x ≡ 1)
   unfolding kind_of
-  dash_no_file x v wrong s = let right : x ≡ 2 = s in omega arith
+  dash_no_file x v wrong s = let right : kinds.number_of x ≡ 2 = s in omega arith
 
   pub option_no_file : Word (words "-v") (λ x. x ≡ 1)
   unfolding kind_of
-  option_no_file x v wrong s = let right : x ≡ 3 = s in omega arith
+  option_no_file x v wrong s = let right : kinds.number_of x ≡ 3 = s in omega arith
 
   -- a read into a buffer of three octets, with so many left
   abbrev Answered : ℤ → ℕ → (Turn → Type 0) → Type 0
   Answered got left Wrong =
-      Never answered-kinds.ps answered-kinds.r answered-reads.Post κs (got, (lent p (0 ∷ 0 ∷ 0 ∷ []), (left, tt))) (λ x v. Wrong x)
+      Never answered-kinds.ps answered-kinds.r answered-reads.Post κs (got, (lent p (0 ∷ 0 ∷ 0 ∷ []), (left, tt))) (λ x v. Wrong (turned x))
 
   -- a read that failed, taken for the log's end, or for octets that came
   pub failed_no_end : Answered (negsuc 0) 100 (λ x. x.what ≡ 2)
   unfolding turn_of
-  failed_no_end x v wrong s = let right : x.what ≡ 3 = ap (λ (t : Turn). t.what) s in omega arith
+  failed_no_end x v wrong s = let right : number_of x.what ≡ 3 = ap (λ (t : Turn). t.what) s in omega arith
 
   pub failed_brings_none : Answered (negsuc 0) 100 (λ x. x.octets ≡ 3)
   unfolding turn_of
@@ -54,16 +55,16 @@ module _ (κs : Lfts 1) (p : Place) where
   -- the log's end, behind which another read would follow, or which is taken for a failure
   pub end_goes_not_on : Answered (pos 0) 100 (λ x. x.what ≡ 1)
   unfolding turn_of came_of
-  end_goes_not_on x v wrong s = let right : x.what ≡ 2 = ap (λ (t : Turn). t.what) s in omega arith
+  end_goes_not_on x v wrong s = let right : number_of x.what ≡ 2 = ap (λ (t : Turn). t.what) s in omega arith
 
   pub end_no_failure : Answered (pos 0) 100 (λ x. x.what ≡ 3)
   unfolding turn_of came_of
-  end_no_failure x v wrong s = let right : x.what ≡ 2 = ap (λ (t : Turn). t.what) s in omega arith
+  end_no_failure x v wrong s = let right : number_of x.what ≡ 2 = ap (λ (t : Turn). t.what) s in omega arith
 
   -- octets that came, taken for the last; one of them left out; and not counted
   pub octets_no_end : Answered (pos 2) 100 (λ x. x.what ≡ 2)
   unfolding turn_of came_of
-  octets_no_end x v wrong s = let right : x.what ≡ 1 = ap (λ (t : Turn). t.what) s in omega arith
+  octets_no_end x v wrong s = let right : number_of x.what ≡ 1 = ap (λ (t : Turn). t.what) s in omega arith
 
   pub octets_all : Answered (pos 2) 100 (λ x. x.octets ≡ 1)
   unfolding turn_of came_of
@@ -76,7 +77,7 @@ module _ (κs : Lfts 1) (p : Place) where
   -- more octets than can be counted, taken for the log's end
   pub uncounted_no_end : Answered (pos 2) 1 (λ x. x.what ≡ 2)
   unfolding turn_of came_of
-  uncounted_no_end x v wrong s = let right : x.what ≡ 4 = ap (λ (t : Turn). t.what) s in omega arith
+  uncounted_no_end x v wrong s = let right : number_of x.what ≡ 4 = ap (λ (t : Turn). t.what) s in omega arith
 
 module _ (κs : Lfts 0) where
   -- a program that stops when a million octets are read
@@ -85,15 +86,15 @@ module _ (κs : Lfts 0) where
       let right : x.left ≡ 18446744073709551615 = ap (λ (t : Turn). t.left) s in omega arith
 
   -- a loop that goes on behind a failed read, or behind the caller's last wish
-  pub failed_goes_not_on : Never goes-on-kinds.ps goes-on-kinds.r goes-on-reads.Post κs (without 3 7, (true, tt)) (λ x v. x ≡ true)
+  pub failed_goes_not_on : Never goes-on-kinds.ps goes-on-kinds.r goes-on-reads.Post κs (record { what = Failed; octets = 0; left = 7 }, (true, tt)) (λ x v. x ≡ true)
   failed_goes_not_on x v wrong s = true≢false (sym wrong ∙ s)
 
-  pub unwanted_goes_not_on : Never goes-on-kinds.ps goes-on-kinds.r goes-on-reads.Post κs (without 1 7, (false, tt)) (λ x v. x ≡ true)
+  pub unwanted_goes_not_on : Never goes-on-kinds.ps goes-on-kinds.r goes-on-reads.Post κs (record { what = On; octets = 0; left = 7 }, (false, tt)) (λ x v. x ≡ true)
   unwanted_goes_not_on x v wrong s = true≢false (sym wrong ∙ s)
 
   -- a failed read that ended well, and an end that didn't
-  pub failed_not_well : Never well-kinds.ps well-kinds.r well-reads.Post κs (without 3 7, tt) (λ x v. x ≡ true)
+  pub failed_not_well : Never well-kinds.ps well-kinds.r well-reads.Post κs (record { what = Failed; octets = 0; left = 7 }, tt) (λ x v. x ≡ true)
   failed_not_well x v wrong s = true≢false (sym wrong ∙ s)
 
-  pub end_well : Never well-kinds.ps well-kinds.r well-reads.Post κs (without 2 7, tt) (λ x v. x ≡ false)
+  pub end_well : Never well-kinds.ps well-kinds.r well-reads.Post κs (record { what = End; octets = 0; left = 7 }, tt) (λ x v. x ≡ false)
   end_well x v wrong s = true≢false (sym s ∙ wrong)

@@ -2,7 +2,7 @@
 // Where a program reads a log from: the file that a word of its command line names, or standard input; and what it says where that
 // fails. What the system does is as its library's contracts assume.
 ghost use Rattle.std.specs.Prelude.{true, ◌≡◌, ◌≤◌, ◌↔◌, IsTrue, length};
-ghost use Rattle.source.specs.Kinds.{kind_of};
+ghost use Rattle.source.specs.Kinds.{number_of, kind_of};
 
 use std::fmt::InlineText;
 use std::fs::File;
@@ -15,7 +15,7 @@ mod reasons; // reasons.rt: why something failed, in the system's words
 mod turns; // turns.rt: what a program does behind a read
 mod words; // words.rt: the words of the command line
 
-pub use turns::{Turn, answered, first, goes_on, read, well};
+pub use turns::{Next, Turn, answered, first, goes_on, read, well};
 pub use words::{count, word};
 
 // What is read: standard input, or a file that was opened, and is closed where this is dropped. Or nothing, and why is said already.
@@ -52,21 +52,26 @@ impl Source {
     }
 }
 
-// What a word of the command line is: 1 a file's name; 2 `-`, which is standard input; 3 another word that begins with `-`.
+// What a word of the command line is.
+#[derive(Clone, Copy, Debug, PartialEq, Eq, Hash)]
+pub enum Argument {
+    // a file's name
+    File,
+    // `-`, which is standard input
+    Standard,
+    // another word that begins with `-`
+    Other,
+}
+
 #[tactic(auto, unfolding(crate::specs::Kinds::kind_of))]
-pub fn kind(word: &[u8]) -> u8
-    ensures { result ≡ kind_of word.now }
+pub fn kind(word: &[u8]) -> Argument
+    ensures { number_of result ≡ kind_of word.now }
 {
-    if word.len() == 0 {
-        return 1;
+    match word {
+        [b'-'] => Argument::Standard,
+        [b'-', ..] => Argument::Other,
+        _ => Argument::File,
     }
-    if word[0] != b'-' {
-        return 1;
-    }
-    if word.len() == 1 {
-        return 2;
-    }
-    3
 }
 
 // Writes octets to standard error. Where that fails there is nobody left to tell.
@@ -158,7 +163,7 @@ pub fn name_of(rt: &HostRuntime, index: usize, name: &mut [u8]) -> usize
     ensures { result ≤ length name.new }
 {
     let length = word(rt, index, name).unwrap_or(0);
-    if kind(&name[..length]) == 2 {
+    if kind(&name[..length]) == Argument::Standard {
         return words_in(name, b"standard input");
     }
     length
@@ -206,13 +211,13 @@ pub fn named(
             return nothing();
         }
     };
-    let what = kind(&name[..length]);
-    if what == 2 {
-        return input(rt, program, words, name);
-    }
-    if what == 3 {
-        usage(rt, program, words);
-        return nothing();
+    match kind(&name[..length]) {
+        Argument::Standard => return input(rt, program, words, name),
+        Argument::Other => {
+            usage(rt, program, words);
+            return nothing();
+        }
+        Argument::File => {}
     }
     match opened(rt, &name[..length]) {
         Ok(file) => Source {

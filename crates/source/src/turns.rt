@@ -1,34 +1,46 @@
 // What a program does behind a read. The four programs read in one loop, `while goes_on(turn, ..) { turn = read(..); .. }`, and what
 // makes it end, and whether it ended well, is here.
 ghost use Rattle.std.specs.Prelude.{◌&&◌, ◌≡◌, eqb, ltb, length};
-ghost use Rattle.source.specs.Turns.{first_turn, turn_of, clamp_len, Reads};
+ghost use Rattle.source.specs.Turns.{number_of, turned, first_turn, without, turn_of, clamp_len, Reads};
 
 use std::io;
 use std::io::Read;
 
-// What to do: 1 go on, 2 finish, since the input ends, 3 say that the read failed, 4 say that more octets came than can be counted.
-// Then how many octets came, which lie at the start of the buffer, and how many may still come.
-#[derive(Clone, Copy)]
+// What to do behind a read.
+#[derive(Clone, Copy, Debug, PartialEq, Eq, Hash)]
+pub enum Next {
+    // go on
+    On,
+    // finish, since the input ends
+    End,
+    // say that the read failed
+    Failed,
+    // say that more octets came than can be counted
+    Uncounted,
+}
+
+// What to do, how many octets came, which lie at the start of the buffer, and how many may still come.
+#[derive(Clone, Copy, Debug, PartialEq, Eq, Hash)]
 pub struct Turn {
-    pub what: u8,
+    pub what: Next,
     pub octets: usize,
     pub left: u64,
 }
 
 // Before the first read.
 pub fn first() -> Turn
-    ensures { result ≡ first_turn }
+    ensures { turned result ≡ first_turn }
 {
     Turn {
-        what: 1,
+        what: Next::On,
         octets: 0,
-        left: 18446744073709551615,
+        left: u64::MAX,
     }
 }
 
 // No octets came, and this is to be done.
-fn without(what: u8, left: u64) -> Turn
-    ensures { result ≡ record { what = what; octets = 0; left = left } }
+fn without(what: Next, left: u64) -> Turn
+    ensures { turned result ≡ without (number_of what) left }
 {
     Turn {
         what,
@@ -37,26 +49,25 @@ fn without(what: u8, left: u64) -> Turn
     }
 }
 
-// What is to be done when a read into this buffer answered `got`.
+// What is to be done when a read into this buffer answered `got`: a number, as the definition `turn_of` has it.
 #[tactic(auto, unfolding(crate::specs::Turns::turn_of, crate::specs::Turns::came_of))]
 pub fn answered(got: isize, buffer: &[u8], left: u64) -> Turn
-    ensures { result ≡ turn_of got (length buffer.now) left }
+    ensures { turned result ≡ turn_of got (length buffer.now) left }
 {
     if got < 0 {
-        return without(3, left);
+        return without(Next::Failed, left);
     }
     let octets = count(got, buffer);
     if octets == 0 {
-        return without(2, left);
+        return without(Next::End, left);
     }
     if left < octets as u64 {
-        return without(4, left);
+        return without(Next::Uncounted, left);
     }
-    let rest = left - octets as u64;
     Turn {
-        what: 1,
+        what: Next::On,
         octets,
-        left: rest,
+        left: left - octets as u64,
     }
 }
 
@@ -88,22 +99,21 @@ pub fn read<R: Read>(
     buffer: &mut [u8],
     left: u64,
 ) -> Turn
-    ensures { Reads left (length buffer.new) result }
+    ensures { Reads left (length buffer.new) (turned result) }
 {
     let outcome = from.read(buffer);
     let got = number_of(&outcome);
     let turn = answered(got, buffer, left);
-    if turn.what == 3 {
-        say_failure(rt, program, name, outcome);
-    }
-    if turn.what == 4 {
-        crate::said(
+    match turn.what {
+        Next::On | Next::End => {}
+        Next::Failed => say_failure(rt, program, name, outcome),
+        Next::Uncounted => crate::said(
             rt,
             program,
             name,
             b"more octets than can be counted\n",
             true,
-        );
+        ),
     }
     turn
 }
@@ -117,17 +127,14 @@ fn say_failure(rt: &HostRuntime, program: &[u8], name: &[u8], outcome: io::Resul
 
 // Whether to read on: where the last read brought octets, and the caller wants more.
 pub fn goes_on(turn: Turn, wanted: bool) -> bool
-    ensures { result ≡ (eqb turn.what 1 && wanted) }
+    ensures { result ≡ (eqb (number_of turn.what) 1 && wanted) }
 {
-    if turn.what != 1 {
-        return false;
-    }
-    wanted
+    matches!(turn.what, Next::On) && wanted
 }
 
 // Whether no read failed: what was read may be answered for.
 pub fn well(turn: Turn) -> bool
-    ensures { result ≡ ltb turn.what 3 }
+    ensures { result ≡ ltb (number_of turn.what) 3 }
 {
-    turn.what < 3
+    matches!(turn.what, Next::On | Next::End)
 }

@@ -3,7 +3,7 @@
 use mathlib.Core.Bool.{true, false, cond}
 use mathlib.Core.List.{List, [], ◌∷◌}
 use mathlib.Core.Path.{◌≡◌, refl, sym, ◌∙◌, ap}
-use Prim.Native.Nat.{ℕ, zero, suc, ◌+◌, ◌-◌, ◌*◌, ◌/◌, ◌%◌, ◌^◌, ◌≤◌, ◌<◌}
+use Prim.Native.Nat.{ℕ, zero, suc, ◌+◌, ◌*◌, ◌/◌, ◌%◌, ◌^◌, ◌≤◌, ◌<◌}
 use native.Mathlib.Nat.{pos_of_ne-zero, suc-mul, zero-mul, mul-le-mul_right, pow-suc, div-one}
 use native.Mathlib.Omega.{arith}
 use borrow.Author.Tests.{eqb-true, eqb-false, ltb-true, ltb-false, lt-ltb, le-ltb, ne_eqb, eq-eqb}
@@ -11,6 +11,7 @@ use lib.Arith.{digits_div, digits_mod}
 use lib.Dec.{ltb, eqb}
 use lib.ListN.{length, get_or, set}
 use lib.Pow.{shr-shr}
+use Rattle.std.specs.Prelude.{min}
 use lib.Seq.{set-get_or, get_or-set_same}
 use Rattle.runs.proofs.Laws.{split}
 use Rattle.status.specs.Bits.{bit_of, octet_with, with_bit, zeros}
@@ -19,8 +20,8 @@ use Rattle.status.specs.Eight.{low_bits, entry, Adding, with_eight}
 use Rattle.status.specs.Run.{is_last, ended, gone_on, ran_from, cut_to64, ran_not, as_whole}
 use Rattle.status.specs.Step.{step_of, added_to, is_refused, fit_of, unfinished, finished, c_of, b_of}
 use Rattle.status.specs.declared.step.Block.{Block}
-use Rattle.status.specs.declared.step.Stepped.{Stepped}
-use Rattle.status.specs.declared.run.Ran.{Ran}
+use Rattle.status.specs.Step.{Stepped}
+use Rattle.status.specs.Run.{Ran}
 use Rattle.status.proofs.Stays.{put}
 use Rattle.status.proofs.Steps.{step_begun, step_idle, step_added, added_more, added_last, within_taken}
 
@@ -30,8 +31,8 @@ set_twice (x ∷ xs) zero v w = refl
 set_twice (x ∷ xs) (suc i) v w = ap (λ (ys : List ℕ). x ∷ ys) (set_twice xs i v w)
 
 -- a sum, cut at the greatest number
-pub cut_above : (n : ℕ) → 18446744073709551615 < n → 18446744073709551615 ≡ cut_to64 n
-cut_above n h = rw (le-ltb n 18446744073709551615 (omega arith))
+pub cut_min : (n : ℕ) → min n 18446744073709551615 ≡ cut_to64 n
+cut_min n = grind arith
 
 pub cut_below : (n : ℕ) → n ≤ 18446744073709551615 → n ≡ cut_to64 n
 cut_below n h =
@@ -41,11 +42,6 @@ pub cut_to : (n : ℕ) {m : ℕ} → m ≡ cut_to64 n → m ≤ 1844674407370955
 cut_to n e =
     split (ltb n 18446744073709551615) (λ t. let is : cut_to64 n ≡ n = rw t in omega (arith, e, is, ltb-true n 18446744073709551615 t))
     (λ t. let is : cut_to64 n ≡ 18446744073709551615 = rw t in omega (arith, e, is))
-
-pub cut_less : {long : ℕ} (at step : ℕ) {m : ℕ} → at < long → 1 ≤ step → long ≤ 18446744073709551615 → m ≡ cut_to64 (at + step) → long - m < long - at
-cut_less at step here some short e =
-    split (ltb (at + step) 18446744073709551615) (λ t. let is : cut_to64 (at + step) ≡ at + step = rw t in omega (arith, e, is))
-    (λ t. let is : cut_to64 (at + step) ≡ 18446744073709551615 = rw t in omega (arith, e, is))
 
 cut_twice : (n : ℕ) → cut_to64 n ≡ cut_to64 (cut_to64 n)
 cut_twice n =

@@ -17,7 +17,7 @@ use Rattle.status.specs.Check.{check_character}
 use Rattle.status.specs.Sender.{block_after, brought_by, brought_out, Octets, SendsBlock}
 use Rattle.status.specs.Step.{step_of, is_refused, unfinished, finished, added_to, fit_of, no_block, b_of, c_of}
 use Rattle.status.specs.declared.step.Block.{Block}
-use Rattle.status.specs.declared.step.Stepped.{Stepped}
+use Rattle.status.specs.Step.{Stepped}
 use Rattle.status.proofs.Bits.{up_to, up_to_none, up_to_more, up_to_all}
 use Rattle.status.proofs.Steps.{step_dropped, step_begun, step_idle, step_added, added_more, added_last, within_taken}
 

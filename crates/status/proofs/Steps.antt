@@ -1,12 +1,10 @@
 -- Each kind of step, by what was given to it.
 -- Assumes nothing.
-use mathlib.Core.Bool.{true, false, ◌||◌}
+use mathlib.Core.Bool.{true, false}
 use mathlib.Core.List.{List}
 use mathlib.Core.Path.{◌≡◌}
 use Prim.Native.Nat.{ℕ, ◌+◌, ◌≤◌, ◌<◌}
-use borrow.Author.Tests.{ltb-false, eq-eqb, ne_eqb, lt-ltb, le-ltb}
-use lib.Dec.{ltb}
-use Rattle.runs.proofs.Laws.{neither}
+use borrow.Author.Tests.{eq-eqb, ne_eqb, lt-ltb, le-ltb}
 use Rattle.status.specs.Bits.{with_bit, zeros}
 use Rattle.status.specs.Step.{step_of, is_refused, unfinished, no_block, finished, added_to, b_of, c_of}
 use Rattle.status.specs.declared.step.Block.{Block}
@@ -43,11 +41,7 @@ pub added_last : (bits : ℕ) (octets : List ℕ) → 191 ≤ bits → added_to 
 unfolding added_to
 added_last bits octets h = rw (le-ltb bits 191 h)
 
--- what isn't refused is within bounds
-pub taken_bits : (bits a m : ℕ) → is_refused bits a m ≡ false → bits ≤ 191
-unfolding is_refused
-taken_bits bits a m e = ltb-false 191 bits (neither (ltb 15 a) (ltb 191 bits) (neither (ltb 2 m) (ltb 15 a || ltb 191 bits) e).1).1
-
+-- what is within bounds isn't refused
 pub within_taken : (bits a m : ℕ) → bits ≤ 191 → a ≤ 15 → m ≤ 2 → is_refused bits a m ≡ false
 unfolding is_refused
 within_taken bits a m b≤ a≤ m≤ = rw (le-ltb 2 m m≤, le-ltb 15 a a≤, le-ltb 191 bits b≤)

@@ -17,15 +17,13 @@ use prog.Routine.{Routine}
 use Rattle.runs.specs.Division.{divided, taken_down}
 use Rattle.runs.specs.Runs.{tab}
 use Rattle.runs.proofs.Wrong.{Never, Place, lent, lent_mut, ruled_out}
+use Rattle.status.specs.Answers.{answered_step, answered_run}
 use Rattle.status.specs.Bits.{bit_of, octet_with, with_bit, zeros}
 use Rattle.status.specs.Check.{coefficient_of, check_character}
-use Rattle.status.specs.Run.{ran_from, ran_of}
-use Rattle.status.specs.Step.{fit_of, is_refused, added_to, step_of, no_block}
+use Rattle.status.specs.Run.{Ran, ran_from, ran_of}
+use Rattle.status.specs.Step.{Stepped, fit_of, is_refused, added_to, step_of, no_block}
 use Rattle.status.specs.declared.step.Block.{Block}
-use Rattle.status.specs.declared.step.Handed.{Handed}
-use Rattle.status.specs.declared.run.Ran.{Ran}
-use Rattle.status.specs.declared.step.Stepped.{Stepped}
-use Rattle.status.proofs.One.{Ensures, Says}
+use Rattle.status.proofs.One.{Answer, Ensures, Says}
 use Rattle.status.specs.contracts.assembler.bring_forward as bring-forward
 use Rattle.status.proofs.assembler.brought_forward.Kinds as brought-forward-kinds
 use Rattle.status.proofs.assembler.brought_forward.Reads as brought-forward-reads
@@ -64,63 +62,66 @@ module _ (κs : Lfts 0) where
   unfolding unfolded
   character_not_highest_first x v wrong p = omega arith
 
-  -- C = 1 with B = 0 behind three bits: the highest bit first, or the block left as it was
-  pub step_not_highest_bit_first : Never step-kinds.ps step-kinds.r step-reads.Post κs
-      (begun, (4, (0, tt))) (λ x v. get_or x.block.octets 0 0 ≡ 16)
-  unfolding unfolded
-  step_not_highest_bit_first x v wrong p =
-      let right : get_or x.block.octets 0 0 ≡ 8 = ap (λ (s : Stepped). get_or s.block.octets 0 0) p in omega arith
+  abbrev Step : Block → ℕ → ℕ → (Stepped → Type 0) → Type 0
+  Step block ancillary mark Wrong =
+      Never step-kinds.ps step-kinds.r step-reads.Post κs (block, (ancillary, (mark, tt))) (λ x v. Wrong (answered_step block x))
 
-  pub step_not_standing_still : Never step-kinds.ps step-kinds.r step-reads.Post κs (begun, (4, (0, tt))) (λ x v. x.block ≡ begun)
+  -- C = 1 with B = 0 behind three bits: the highest bit first, or the block left as it was
+  pub step_not_highest_bit_first : Step begun 4 0 (λ x. get_or x.block.octets 0 0 ≡ 16)
+  unfolding unfolded
+  step_not_highest_bit_first x v wrong p = omega (arith, ap (λ (s : Stepped). get_or s.block.octets 0 0) p)
+
+  pub step_not_standing_still : Step begun 4 0 (λ x. x.block ≡ begun)
   unfolding unfolded
   step_not_standing_still x v wrong p =
       let same : ◌≡◌ {A = ℕ} 3 4 = ap (λ (b : Block). b.bits) (sym wrong ∙ ap (λ (s : Stepped). s.block) p) in omega arith
 
   -- B = 0 with no block begun begins none
-  pub step_not_begun_without_b : Never step-kinds.ps step-kinds.r step-reads.Post κs (no_block, (4, (0, tt))) (λ x v. x.block.bits ≡ 1)
+  pub step_not_begun_without_b : Step no_block 4 0 (λ x. x.block.bits ≡ 1)
   unfolding unfolded
-  step_not_begun_without_b x v wrong p = let right : x.block.bits ≡ 0 = ap (λ (s : Stepped). s.block.bits) p in omega arith
+  step_not_begun_without_b x v wrong p = omega (arith, ap (λ (s : Stepped). s.block.bits) p)
 
   -- a finished block kept back, or handed out with a yes although octet 23 is not the check character
-  pub finished_not_kept_back : Never step-kinds.ps step-kinds.r step-reads.Post κs (professional, (0, (0, tt))) (λ x v. x.handed.answer ≡ 0)
+  pub finished_not_kept_back : Step professional 0 0 (λ x. x.handed.answer ≡ 0)
   unfolding unfolded
-  finished_not_kept_back x v wrong p = let right : x.handed.answer ≡ 1 = ap (λ (s : Stepped). s.handed.answer) p in omega arith
+  finished_not_kept_back x v wrong p = omega (arith, ap (λ (s : Stepped). s.handed.answer) p)
 
-  pub finished_not_always_yes : Never step-kinds.ps step-kinds.r step-reads.Post κs (professional, (0, (0, tt))) (λ x v. x.handed.answer ≡ 2)
+  pub finished_not_always_yes : Step professional 0 0 (λ x. x.handed.answer ≡ 2)
   unfolding unfolded
-  finished_not_always_yes x v wrong p = let right : x.handed.answer ≡ 1 = ap (λ (s : Stepped). s.handed.answer) p in omega arith
+  finished_not_always_yes x v wrong p = omega (arith, ap (λ (s : Stepped). s.handed.answer) p)
 
   -- a block of consumer use answered "doesn't fit", and one of professional use answered "none carried"
-  pub consumer_not_judged : Never step-kinds.ps step-kinds.r step-reads.Post κs (consumer, (0, (0, tt))) (λ x v. x.handed.answer ≡ 1)
+  pub consumer_not_judged : Step consumer 0 0 (λ x. x.handed.answer ≡ 1)
   unfolding unfolded
-  consumer_not_judged x v wrong p = let right : x.handed.answer ≡ 3 = ap (λ (s : Stepped). s.handed.answer) p in omega arith
+  consumer_not_judged x v wrong p = omega (arith, ap (λ (s : Stepped). s.handed.answer) p)
 
-  pub professional_not_let_off : Never step-kinds.ps step-kinds.r step-reads.Post κs
-      (professional, (0, (0, tt))) (λ x v. x.handed.answer ≡ 3)
+  pub professional_not_let_off : Step professional 0 0 (λ x. x.handed.answer ≡ 3)
   unfolding unfolded
-  professional_not_let_off x v wrong p =
-      let right : x.handed.answer ≡ 1 = ap (λ (s : Stepped). s.handed.answer) p in omega arith
+  professional_not_let_off x v wrong p = omega (arith, ap (λ (s : Stepped). s.handed.answer) p)
+
+  abbrev Forward : Block → ℕ → ℕ → (Stepped → Type 0) → Type 0
+  Forward block ancillary mark Wrong =
+      Never brought-forward-kinds.ps brought-forward-kinds.r brought-forward-reads.Post κs
+      (block, (ancillary, (mark, tt))) (λ x v. Wrong (answered_step block x))
 
   -- mark 2 drops the block, and its B isn't looked at
-  pub missing_not_looked_at : Never brought-forward-kinds.ps brought-forward-kinds.r brought-forward-reads.Post κs
-      (begun, (8, (2, tt))) (λ x v. x.block.bits ≡ 1)
+  pub missing_not_looked_at : Forward begun 8 2 (λ x. x.block.bits ≡ 1)
   unfolding unfolded
-  missing_not_looked_at x v wrong p = let right : x.block.bits ≡ 0 = ap (λ (s : Stepped). s.block.bits) p in omega arith
+  missing_not_looked_at x v wrong p = omega (arith, ap (λ (s : Stepped). s.block.bits) p)
 
   -- mark 1 counts like mark 0
-  pub mark_1_not_left_out : Never brought-forward-kinds.ps brought-forward-kinds.r brought-forward-reads.Post κs
-      (begun, (4, (1, tt))) (λ x v. x.block.bits ≡ 3)
+  pub mark_1_not_left_out : Forward begun 4 1 (λ x. x.block.bits ≡ 3)
   unfolding unfolded
-  mark_1_not_left_out x v wrong p = let right : x.block.bits ≡ 4 = ap (λ (s : Stepped). s.block.bits) p in omega arith
+  mark_1_not_left_out x v wrong p = omega (arith, ap (λ (s : Stepped). s.block.bits) p)
 
 -- the lent block: stated over the clauses, as in One.antt
 module _ {M : Type 1} {𝓤 : Ura M} (𝓛 : Logic 𝓤) (mem : Memory → SProp 𝓤) (run : Routine → Fun 𝓤) (κs : Lfts 1) (b : Place) where
   abbrev called : ℕ → ℕ → Args bring-forward.signature κs
   called ancillary mark = (lent_mut b begun, (ancillary, (mark, tt)))
 
-  abbrev NeverForward : ℕ → ℕ → (Handed → Block → Type 0) → Type 1
+  abbrev NeverForward : ℕ → ℕ → (Answer → Block → Type 0) → Type 1
   NeverForward ancillary mark Wrong =
-      (x : Handed) (v : Lasts bring-forward.ended κs (called ancillary mark)) → Wrong x v.0
+      (x : Answer) (v : Lasts bring-forward.ended κs (called ancillary mark)) → Wrong x v.0
       → ent 𝓤 (Ensures 𝓛 mem run κs (called ancillary mark) x v) (fact 𝓤 ⊥)
 
   -- the lent block left behind
@@ -141,29 +142,29 @@ module _ {M : Type 1} {𝓤 : Ura M} (𝓛 : Logic 𝓤) (mem : Memory → SProp
 module _ (κs : Lfts 2) (l k : Place) where
   abbrev Run : Block → List ℕ → List ℕ → (Ran → Type 0) → Type 0
   Run block ancillary marks Wrong =
-      Never run-kinds.ps run-kinds.r run-reads.Post κs (block, (lent l ancillary, (lent k marks, (0, (2, tt))))) (λ x v. Wrong x)
+      Never run-kinds.ps run-kinds.r run-reads.Post κs (block, (lent l ancillary, (lent k marks, (0, (2, tt))))) (λ x v. Wrong (answered_run block x))
 
   -- entries between taken too: three bits and one more, not three more
   pub not_each_entry : Run begun (0 ∷ 0 ∷ 0 ∷ []) (0 ∷ 0 ∷ 0 ∷ []) (λ x. x.stepped.block.bits ≡ 6)
   unfolding unfolded
-  not_each_entry x v wrong p = let right : x.stepped.block.bits ≡ 5 = ap (λ (r : Ran). r.stepped.block.bits) p in omega arith
+  not_each_entry x v wrong p = omega (arith, ap (λ (r : Ran). r.stepped.block.bits) p)
 
   -- the run's end for the entry after the last one used
   pub next_not_the_end : Run begun (0 ∷ 0 ∷ 0 ∷ []) (0 ∷ 0 ∷ 0 ∷ []) (λ x. x.next ≡ 3)
   unfolding unfolded
-  next_not_the_end x v wrong p = let right : x.next ≡ 4 = ap (λ (r : Ran). r.next) p in omega arith
+  next_not_the_end x v wrong p = omega (arith, ap (λ (r : Ran). r.next) p)
 
   -- a refused step's block moved on by those before it
   pub refused_not_moved : Run begun (0 ∷ 0 ∷ 0 ∷ []) (0 ∷ 0 ∷ 3 ∷ []) (λ x. x.stepped.block.bits ≡ 4)
   unfolding unfolded
-  refused_not_moved x v wrong p = let right : x.stepped.block.bits ≡ 3 = ap (λ (r : Ran). r.stepped.block.bits) p in omega arith
+  refused_not_moved x v wrong p = omega (arith, ap (λ (r : Ran). r.stepped.block.bits) p)
 
   -- on past the step that hands out a block
   pub not_past_a_block : Run consumer (0 ∷ 0 ∷ 8 ∷ []) (0 ∷ 0 ∷ 0 ∷ []) (λ x. x.stepped.block.bits ≡ 1)
   unfolding unfolded
-  not_past_a_block x v wrong p = let right : x.stepped.block.bits ≡ 0 = ap (λ (r : Ran). r.stepped.block.bits) p in omega arith
+  not_past_a_block x v wrong p = omega (arith, ap (λ (r : Ran). r.stepped.block.bits) p)
 
   -- runs of unequal length taken
   pub unequal_not_taken : Run begun (0 ∷ []) (0 ∷ 0 ∷ []) (λ x. x.stepped.handed.refusal ≡ 0)
   unfolding unfolded
-  unequal_not_taken x v wrong p = let right : x.stepped.handed.refusal ≡ 5 = ap (λ (r : Ran). r.stepped.handed.refusal) p in omega arith
+  unequal_not_taken x v wrong p = omega (arith, ap (λ (r : Ran). r.stepped.handed.refusal) p)

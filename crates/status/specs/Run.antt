@@ -2,10 +2,13 @@
 -- ends.
 -- Assumes nothing.
 use Rattle.std.specs.Prelude.{Bool, cond, not, ◌||◌, List, ℕ, zero, suc, ◌+◌, eqb, ltb, length, get_or}
-use Rattle.status.specs.Step.{step_of, unfinished}
+use Rattle.status.specs.Step.{Stepped, step_of, unfinished}
 use Rattle.status.specs.declared.step.Block.{Block}
-use Rattle.status.specs.declared.step.Stepped.{Stepped}
-use Rattle.status.specs.declared.run.Ran.{Ran}
+
+-- what a run of steps leaves and hands out, and the entry that comes next
+pub record Ran : Type 0 where
+  pub stepped : Stepped
+  pub next : ℕ
 
 -- the steps end here: a block is handed out, or the step is refused
 abbrev pub is_last : Stepped → Bool

@@ -3,9 +3,8 @@
 -- Assumes nothing.
 use Rattle.std.specs.Prelude.{cond, List, [], ◌∷◌, ◌++◌, ◌≡◌, ℕ, zero, suc, ◌≤◌, ◌<◌, eqb, length, get_or}
 use Rattle.status.specs.Bits.{bit_of}
-use Rattle.status.specs.Step.{step_of, b_of, c_of}
+use Rattle.status.specs.Step.{Stepped, step_of, b_of, c_of}
 use Rattle.status.specs.declared.step.Block.{Block}
-use Rattle.status.specs.declared.step.Stepped.{Stepped}
 
 -- the block under assembly after the first n steps, step k being given the ancillary number and the mark at k
 unfoldable pub block_after : Block → (ℕ → ℕ) → (ℕ → ℕ) → ℕ → Block

@@ -4,7 +4,17 @@ use Rattle.std.specs.Prelude.{Bool, cond, ◌||◌, List, ℕ, ◌+◌, ◌/◌,
 use Rattle.status.specs.Bits.{bit_of, with_bit, zeros}
 use Rattle.status.specs.Check.{check_character}
 use Rattle.status.specs.declared.step.Block.{Block}
-use Rattle.status.specs.declared.step.Stepped.{Stepped}
+
+-- what goes out: the refusal, 0 where nothing is refused, and the 24 octets of a finished block with their answer
+pub record Handed : Type 0 where
+  pub refusal : ℕ
+  pub answer : ℕ
+  pub octets : List ℕ
+
+-- the block brought forward, and what goes out
+pub record Stepped : Type 0 where
+  pub block : Block
+  pub handed : Handed
 
 -- B and C of an ancillary number: "B worth 8 and V worth 1"
 abbrev pub b_of : ℕ → ℕ

@@ -8,46 +8,42 @@ ghost use Rattle.status.specs.Eight.{divided_octet, octet_down};
 const GENERATOR: u64 = 0b1_0001_1101;
 
 // One step of long division: takes the next coefficient down, and takes the generator off where x^8 comes up.
+#[tactic(auto, using(crate::proofs::Laws::xor_low), unfolding(runs::specs::Division::taken_down))]
 fn taken_down(rest: u64, coefficient: u64) -> u64
     requires { (rest < 256) × (coefficient < 2) }
     ensures { (result ≡ taken_down 8 generator rest coefficient) × (result < 256) }
 {
     let taken = rest * 2 + coefficient;
     if taken < 256 {
-        return taken;
+        taken
+    } else {
+        taken ^ GENERATOR
     }
-    taken ^ GENERATOR
-}
-
-pub(crate) fn wide(x: u8) -> u64
-    ensures { (result ≡ x) × (result < 256) }
-{
-    x as u64
 }
 
 // The octet whose bits, the lowest first, are the eight coefficients from place 8k on of what is divided.
+#[tactic(auto, unfolding(crate::specs::Eight::divided_octet))]
 fn divided_octet(octet: u8, k: usize) -> u64
     ensures { (result ≡ divided_octet octet k) × (result < 256) × (octet < 256) }
 {
     if k == 0 {
-        return 255 - wide(octet);
+        255 - u64::from(octet)
+    } else if k < 23 {
+        u64::from(octet)
+    } else {
+        0
     }
-    if k < 23 {
-        return wide(octet);
-    }
-    0
 }
 
 // Eight steps of long division, by the bits of an octet, the lowest first.
+#[tactic(auto, using(crate::proofs::Laws::divided_snoc), unfolding(crate::specs::Eight::octet_down, runs::specs::Division::divided, runs::specs::Runs::tab))]
 fn octet_down(rest: u64, octet: u64) -> u64
     requires { (rest < 256) × (octet < 256) }
     ensures { (result ≡ octet_down rest octet) × (result < 256) }
 {
     let mut now = rest;
-    let mut j: usize = 0;
-    while j < 8 {
+    for j in 0..8u32 {
         now = taken_down(now, (octet >> j) % 2);
-        j += 1;
     }
     now
 }
@@ -63,14 +59,13 @@ fn turned(rest: u64) -> u8
 }
 
 // Takes a block of 24 octets and gives the check character of octets 0 to 22. Octet 23 isn't read.
+#[tactic(auto, using(crate::proofs::Octets::octet_more), unfolding(runs::specs::Division::divided, runs::specs::Runs::tab))]
 pub fn check_character(block: [u8; 24]) -> u8
     ensures { result ≡ check_character block }
 {
-    let mut rest: u64 = 0;
-    let mut k: usize = 0;
-    while k < 24 {
-        rest = octet_down(rest, divided_octet(block[k], k));
-        k += 1;
+    let mut rest = 0;
+    for (k, octet) in block.iter().enumerate() {
+        rest = octet_down(rest, divided_octet(*octet, k));
     }
     turned(rest)
 }

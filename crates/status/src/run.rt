@@ -1,48 +1,41 @@
 // Many steps of a channel's status in one call.
-ghost use Rattle.std.specs.Prelude.{true, ◌≡◌, ◌+◌, ◌*◌, ◌/◌, ◌%◌, ◌≤◌, ◌<◌, length, get_or};
-ghost use Rattle.status.specs.Run.{ran_of, ran_from, as_whole, ended, ran_not, cut_to64};
+ghost use Rattle.std.specs.Prelude.{true, ◌≡◌, ◌+◌, ◌*◌, ◌/◌, ◌%◌, ◌≤◌, ◌<◌, length, get_or, IfSome};
+ghost use Rattle.status.specs.Answers.{answered_run};
+ghost use Rattle.status.specs.Run.{ran_of, ran_from, as_whole};
 ghost use Rattle.status.specs.Eight.{Eight, Eights, with_eight};
-ghost use Rattle.status.specs.Step.{finished};
 
-use crate::check::wide;
 use crate::step::{Block, Stepped, finished_with, step, unfinished_with};
+use refusals::Refusal;
 
 // What a run of steps leaves and hands out, and the entry that comes next.
-#[derive(Clone, Copy)]
+#[derive(Clone, Copy, Debug, PartialEq, Eq, Hash)]
 pub struct Ran {
     pub stepped: Stepped,
     pub next: usize,
 }
 
 // The C bits of eight entries as an octet, that of the first one lowest. Each is to add a bit alone, but the first may begin a
-// block: 256 where one of them does anything else.
-fn octet_at(ancillary: &[u8], marks: &[u8], at: usize, step: usize) -> u64
+// block: none where one of them does anything else.
+#[tactic(auto, using(crate::proofs::Eights::turn_begun, crate::proofs::Eights::turn_place, crate::proofs::Eights::turn_done))]
+fn octet_at(ancillary: &[u8], marks: &[u8], at: usize, step: usize) -> Option<u8>
     requires { (at + 7 * step < length ancillary.now) × (length marks.now ≡ length ancillary.now) }
-    ensures { result < 256 → Eight ancillary.now marks.now at step result }
+    ensures { IfSome result (Eight ancillary.now marks.now at step) }
 {
     let first = ancillary[at];
-    if 15 < first {
-        return 256;
-    }
-    if 1 < marks[at] {
-        return 256;
+    if 15 < first || 1 < marks[at] {
+        return None;
     }
     let mut octet = first / 4 % 2;
     let mut place = at;
-    let mut j: usize = 1;
-    while j < 8 {
+    for j in 1..8u32 {
         place += step;
         let number = ancillary[place];
-        if 7 < number {
-            return 256;
-        }
-        if 1 < marks[place] {
-            return 256;
+        if 7 < number || 1 < marks[place] {
+            return None;
         }
         octet += (number / 4) << j;
-        j += 1;
     }
-    octet as u64
+    Some(octet)
 }
 
 // Whether a block of so many bits can take eight entries at once, by the first of them: it begins a block, or no block has begun, or
@@ -50,98 +43,42 @@ fn octet_at(ancillary: &[u8], marks: &[u8], at: usize, step: usize) -> u64
 fn takes_eight(bits: u8, first: u8) -> bool
     ensures { result ≡ true → (bits ≤ 191) × (first ≤ 7 → bits % 8 ≡ 0) }
 {
-    if 191 < bits {
-        return false;
-    }
-    if 7 < first {
-        return true;
-    }
-    bits % 8 == 0
+    bits <= 191 && (7 < first || bits % 8 == 0)
 }
 
 // The octet where the eight entries are there, the last one so far from the first, and can be taken at once.
-fn eight_at(bits: u8, ancillary: &[u8], marks: &[u8], at: usize, step: usize, span: usize) -> u64
+fn eight_at(
+    bits: u8,
+    ancillary: &[u8],
+    marks: &[u8],
+    at: usize,
+    step: usize,
+    span: usize,
+) -> Option<u8>
     requires { (at < length ancillary.now) × (length marks.now ≡ length ancillary.now) × (span < length ancillary.now → span ≡ 7 * step) }
-    ensures { result < 256 → Eights bits ancillary.now marks.now at step span result }
+    ensures { IfSome result (Eights bits ancillary.now marks.now at step span) }
 {
-    if ancillary.len() - at <= span {
-        return 256;
-    }
-    if !takes_eight(bits, ancillary[at]) {
-        return 256;
+    if ancillary.len() - at <= span || !takes_eight(bits, ancillary[at]) {
+        return None;
     }
     octet_at(ancillary, marks, at, step)
 }
 
-// The octet at a place, which is one: so nothing of it stays where eight bits are put in.
-fn octet_in(octets: [u8; 24], k: usize) -> u64
-    requires { k < 24 }
-    ensures { (result ≡ get_or octets k 0) × (result < 256) × (length octets ≡ 24) }
-{
-    wide(octets[k])
-}
-
 // The block past eight entries that were found so. With 192 bits it is finished.
-fn with_eight(block: Block, begins: bool, octet: u8) -> Block
+#[tactic(auto, unfolding(crate::specs::Eight::with_eight))]
+fn with_eight(mut block: Block, begins: bool, octet: u8) -> Block
     requires { block.bits ≤ 191 }
     ensures { (result ≡ with_eight block begins octet) × (length block.octets ≡ 24) × (get_or block.octets (block.bits / 8) 0 < 256) }
 {
-    let mut next = block;
-    let bits = block.bits;
-    let k = (bits / 8) as usize;
-    let octets = block.octets;
-    let old = octet_in(octets, k);
     if begins {
-        next.octets = [0u8; 24];
-        next.octets[0] = octet;
-        next.bits = 8;
-        return next;
+        block.octets = [0; 24];
+        block.octets[0] = octet;
+        block.bits = 8;
+    } else if block.bits != 0 {
+        block.octets[usize::from(block.bits / 8)] = octet;
+        block.bits += 8;
     }
-    if bits == 0 {
-        return next;
-    }
-    next.octets[k] = octet;
-    next.bits = bits + 8;
-    next
-}
-
-fn refused_with(refusal: u8, block: Block) -> Ran
-    ensures { result ≡ ran_not refusal block }
-{
-    Ran {
-        stepped: unfinished_with(refusal, block),
-        next: 0,
-    }
-}
-
-// Past the last step, which handed out a block.
-fn handed_at(octets: [u8; 24], next: usize) -> Ran
-    ensures { result ≡ record { stepped = finished octets; next = next } }
-{
-    Ran {
-        stepped: finished_with(octets),
-        next: next,
-    }
-}
-
-// Past the last entry.
-fn ended_at(block: Block, next: usize) -> Ran
-    ensures { result ≡ ended block next }
-{
-    Ran {
-        stepped: unfinished_with(0, block),
-        next: next,
-    }
-}
-
-// A sum, cut at the greatest number.
-fn past(at: usize, step: usize) -> usize
-    ensures { result ≡ cut_to64 (at + step) }
-{
-    if 18446744073709551615 - at < step {
-        return 18446744073709551615;
-    }
-    at + step
+    block
 }
 
 // How far the eighth entry is from the first, or as many as there are where that is further than they go.
@@ -149,57 +86,66 @@ fn span_of(entries: usize, step: usize) -> usize
     ensures { result < entries → (result ≡ 7 * step) × (8 * step ≤ entries) }
 {
     if entries / 8 < step {
-        return entries;
+        entries
+    } else {
+        7 * step
     }
-    7 * step
 }
 
 // Takes the block under assembly and two runs; gives the block brought forward by the entries from one on, every so many-th,
 // until one hands out a block or the run ends, what goes out, and the entry after the last one used. Refused 5 where the runs aren't
 // equally long or the steps are of no entry, and 14 as by `step`, at any entry that is used: the block is then as it was.
-pub fn run(block: Block, ancillary: &[u8], marks: &[u8], from: usize, on: usize) -> Ran
-    ensures { result ≡ ran_of block ancillary.now marks.now from on }
+#[tactic(auto, unfolding(crate::specs::Run::ran_of, refusals::specs::Refusals::number_of))]
+pub fn run(
+    block: Block,
+    ancillary: &[u8],
+    marks: &[u8],
+    from: usize,
+    on: usize,
+) -> Result<Ran, Refusal>
+    ensures { answered_run block result ≡ ran_of block ancillary.now marks.now from on }
 {
-    if ancillary.len() != marks.len() {
-        return refused_with(5, block);
-    }
-    if on == 0 {
-        return refused_with(5, block);
+    if ancillary.len() != marks.len() || on == 0 {
+        return Err(Refusal::Length);
     }
     steps(block, ancillary, marks, from, on)
 }
 
-// The steps, eight at a time where they fill an octet.
-fn steps(block: Block, ancillary: &[u8], marks: &[u8], from: usize, on: usize) -> Ran
+// The steps, eight at a time where they fill an octet. A `while`: no range says whether a turn goes on by one entry or by eight.
+fn steps(
+    block: Block,
+    ancillary: &[u8],
+    marks: &[u8],
+    from: usize,
+    on: usize,
+) -> Result<Ran, Refusal>
     requires { (1 ≤ on) × (length marks.now ≡ length ancillary.now) }
-    ensures { result ≡ as_whole block (ran_from on ancillary.now marks.now (length ancillary.now) block from) }
+    ensures { answered_run block result ≡ as_whole block (ran_from on ancillary.now marks.now (length ancillary.now) block from) }
 {
     let span = span_of(ancillary.len(), on);
     let mut now = block;
     let mut at = from;
     while at < ancillary.len() {
-        let octet = eight_at(now.bits, ancillary, marks, at, on, span);
-        if octet < 256 {
-            now = with_eight(now, 7 < ancillary[at], octet as u8);
+        if let Some(octet) = eight_at(now.bits, ancillary, marks, at, on, span) {
+            now = with_eight(now, 7 < ancillary[at], octet);
             at += span + on;
             if now.bits == 192 {
-                let octets = now.octets;
-                return handed_at(octets, at);
+                return Ok(Ran {
+                    stepped: finished_with(now.octets),
+                    next: at,
+                });
             }
         } else {
-            let stepped = step(now, ancillary[at], marks[at]);
-            at = past(at, on);
-            if stepped.handed.refusal != 0 {
-                return refused_with(stepped.handed.refusal, block);
-            }
-            if stepped.handed.answer != 0 {
-                return Ran {
-                    stepped: stepped,
-                    next: at,
-                };
+            let stepped = step(now, ancillary[at], marks[at])?;
+            at = at.saturating_add(on);
+            if stepped.handed.is_some() {
+                return Ok(Ran { stepped, next: at });
             }
             now = stepped.block;
         }
     }
-    ended_at(now, at)
+    Ok(Ran {
+        stepped: unfinished_with(now),
+        next: at,
+    })
 }

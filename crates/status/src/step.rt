@@ -1,80 +1,96 @@
 // One step of a channel's status, by value.
 ghost use Rattle.std.specs.Prelude.{◌≡◌, ◌<◌, ◌%◌, ◌^◌};
+ghost use Rattle.status.specs.Answers.{number_of_fit, answered_step};
 ghost use Rattle.status.specs.Bits.{octet_with, with_bit};
 ghost use Rattle.status.specs.Step.{step_of, fit_of, unfinished, finished, is_refused};
 
 use crate::check::check_character;
+use refusals::Refusal;
 
 // A block under assembly: how many bits of it have come, and its octets.
-#[derive(Clone, Copy)]
+#[derive(Clone, Copy, Debug, PartialEq, Eq, Hash)]
 pub struct Block {
     pub bits: u8,
     pub octets: [u8; 24],
 }
 
-// What a step hands out: refusal 14 or 0; the 24 octets of a finished block with answer 2 (the check character fits),
-// 1 (it doesn't) or 3 (none is carried), else 24 zeros with answer 0.
-#[derive(Clone, Copy)]
-pub struct Handed {
-    pub refusal: u8,
-    pub answer: u8,
+// What is answered of a finished block's check character.
+#[derive(Clone, Copy, Debug, PartialEq, Eq, Hash)]
+pub enum Fit {
+    // octet 23 is another
+    Differs = 1,
+    // octet 23 is the check character of octets 0 to 22
+    Fits = 2,
+    // a block of consumer use carries none
+    NoneCarried = 3,
+}
+
+impl From<Fit> for u8 {
+    ghost from_gives = { λ fit number. number ≡ number_of_fit fit };
+
+    #[tactic(auto, unfolding(crate::specs::Answers::number_of_fit))]
+    fn from(fit: Fit) -> u8 {
+        fit as u8
+    }
+}
+
+// A finished block of 192 bits.
+#[derive(Clone, Copy, Debug, PartialEq, Eq, Hash)]
+pub struct Finished {
+    pub fit: Fit,
     pub octets: [u8; 24],
 }
 
-#[derive(Clone, Copy)]
+// The block under assembly past a step, and the block that the step finished.
+#[derive(Clone, Copy, Debug, PartialEq, Eq, Hash)]
 pub struct Stepped {
     pub block: Block,
-    pub handed: Handed,
+    pub handed: Option<Finished>,
 }
 
-pub(crate) fn unfinished_with(refusal: u8, block: Block) -> Stepped
-    ensures { result ≡ unfinished refusal block }
+// A block of no bits.
+const NO_BLOCK: Block = Block {
+    bits: 0,
+    octets: [0; 24],
+};
+
+pub(crate) fn unfinished_with(block: Block) -> Stepped
+    ensures { answered_step block (Ok result) ≡ unfinished 0 block }
 {
-    let zeros = [0u8; 24];
-    let handed = Handed {
-        refusal: refusal,
-        answer: 0,
-        octets: zeros,
-    };
     Stepped {
-        block: block,
-        handed: handed,
+        block,
+        handed: None,
     }
 }
 
 // What is answered of a finished block. A block of consumer use, whose first bit is 0, carries no check character.
-fn answer_of(octets: [u8; 24]) -> u8
-    ensures { result ≡ fit_of octets }
+#[tactic(auto, unfolding(crate::specs::Step::fit_of, crate::specs::Bits::bit_of, crate::specs::Answers::number_of_fit))]
+fn answer_of(octets: [u8; 24]) -> Fit
+    ensures { number_of_fit result ≡ fit_of octets }
 {
     if octets[0] % 2 == 0 {
-        return 3;
+        return Fit::NoneCarried;
     }
     if octets[23] == check_character(octets) {
-        return 2;
+        return Fit::Fits;
     }
-    1
+    Fit::Differs
 }
 
 pub(crate) fn finished_with(octets: [u8; 24]) -> Stepped
-    ensures { result ≡ finished octets }
+    ensures { (block : Block) → answered_step block (Ok result) ≡ finished octets }
 {
-    let none = [0u8; 24];
-    let cleared = Block {
-        bits: 0,
-        octets: none,
-    };
-    let answer = answer_of(octets);
-    let handed = Handed {
-        refusal: 0,
-        answer: answer,
-        octets: octets,
+    let finished = Finished {
+        fit: answer_of(octets),
+        octets,
     };
     Stepped {
-        block: cleared,
-        handed: handed,
+        block: NO_BLOCK,
+        handed: Some(finished),
     }
 }
 
+#[tactic(auto, unfolding(crate::specs::Step::is_refused))]
 fn refused(bits: u8, ancillary: u8, mark: u8) -> bool
     ensures { result ≡ is_refused bits ancillary mark }
 {
@@ -89,6 +105,7 @@ fn worth_of(k: u8) -> u8
 }
 
 // The octet that bit k of a block is in, with that bit made c.
+#[tactic(auto, using(crate::proofs::Laws::old_le, crate::proofs::Laws::new_lt, crate::proofs::Laws::put_lt), unfolding(crate::specs::Bits::octet_with))]
 fn octet_with(octet: u8, k: u8, c: u8) -> u8
     requires { c < 2 }
     ensures { result ≡ octet_with octet (k % 8) c }
@@ -100,54 +117,44 @@ fn octet_with(octet: u8, k: u8, c: u8) -> u8
 }
 
 // The octets with bit k made c, the other bits as they were.
-fn with_bit(octets: [u8; 24], k: u8, c: u8) -> [u8; 24]
+#[tactic(auto, unfolding(crate::specs::Bits::with_bit))]
+fn with_bit(mut octets: [u8; 24], k: u8, c: u8) -> [u8; 24]
     requires { (k < 192) × (c < 2) }
     ensures { result ≡ with_bit octets k c }
 {
-    let mut out = octets;
-    let at = (k / 8) as usize;
-    out[at] = octet_with(out[at], k, c);
-    out
+    let at = usize::from(k / 8);
+    octets[at] = octet_with(octets[at], k, c);
+    octets
 }
 
-// Takes the block under assembly, an ancillary number and its mark; gives the block brought forward, and what goes out.
+// Takes the block under assembly, an ancillary number and its mark; gives the block brought forward, and the block that is finished.
 // Refused (14) where the mark is above 2, the ancillary number above 15 or the block has more than 191 bits: the block is then
-// as it was, and 24 zeros go out.
-pub fn step(block: Block, ancillary: u8, mark: u8) -> Stepped
-    ensures { result ≡ step_of block ancillary mark }
+// as it was, and none goes out.
+#[tactic(auto, unfolding(crate::specs::Step::step_of, crate::specs::Step::added_to, crate::specs::Step::is_refused, refusals::specs::Refusals::number_of))]
+pub fn step(block: Block, ancillary: u8, mark: u8) -> Result<Stepped, Refusal>
+    ensures { answered_step block result ≡ step_of block ancillary mark }
 {
-    let bits = block.bits;
-    if refused(bits, ancillary, mark) {
-        return unfinished_with(14, block);
+    if refused(block.bits, ancillary, mark) {
+        return Err(Refusal::Status);
     }
-    let zeros = [0u8; 24];
     if mark == 2 {
-        let dropped = Block {
-            bits: 0,
-            octets: zeros,
-        };
-        return unfinished_with(0, dropped);
+        return Ok(unfinished_with(NO_BLOCK));
     }
     let c = ancillary / 4 % 2;
     if ancillary / 8 == 1 {
-        let first = with_bit(zeros, 0, c);
-        let begun = Block {
+        let first = with_bit([0; 24], 0, c);
+        return Ok(unfinished_with(Block {
             bits: 1,
             octets: first,
-        };
-        return unfinished_with(0, begun);
+        }));
     }
-    if bits == 0 {
-        return unfinished_with(0, block);
+    if block.bits == 0 {
+        return Ok(unfinished_with(block));
     }
-    let before = block.octets;
-    let octets = with_bit(before, bits, c);
-    if bits < 191 {
-        let more = Block {
-            bits: bits + 1,
-            octets: octets,
-        };
-        return unfinished_with(0, more);
+    let octets = with_bit(block.octets, block.bits, c);
+    if block.bits < 191 {
+        let bits = block.bits + 1;
+        return Ok(unfinished_with(Block { bits, octets }));
     }
-    finished_with(octets)
+    Ok(finished_with(octets))
 }

@@ -10,8 +10,8 @@ use text::Put;
 mod lines; // lines.rt: the words of a line
 
 // What stopped it: 0 nothing, it ended well; 1 its header is refused; 2 a record is broken. Then the refusal, and how many whole
-// records are before it, which is the broken one's number.
-#[derive(Clone, Copy)]
+// records are before it, which is the broken one's number. Numbers, since `kept_at` gives back whatever numbers a lent run holds.
+#[derive(Clone, Copy, Debug, PartialEq, Eq, Hash)]
 pub struct Stop {
     pub what: u8,
     pub refusal: u8,
@@ -61,7 +61,7 @@ pub fn put_line(stop: Stop, run: &mut [u8]) -> Put
         return start;
     }
     let begun = lines::put_begin(run, start, stop);
-    let reasoned = lines::put_reason(run, begun, stop.refusal);
+    let reasoned = text::put_all(run, begun, lines::reason(stop.refusal));
     text::put_all(run, reasoned, b"\n")
 }
 

@@ -18,26 +18,17 @@ pub(crate) fn put_begin(run: &mut [u8], at: Put, stop: Stop) -> Put
 }
 
 // What a refusal of a log means.
-pub(crate) fn put_reason(run: &mut [u8], at: Put, refusal: u8) -> Put
-    ensures { Puts run.old at run.new result (reason_of refusal) }
+#[tactic(auto, unfolding(crate::specs::Stops::reason_of))]
+pub(crate) fn reason(refusal: u8) -> &'static [u8]
+    ensures { result.now ≡ reason_of refusal }
 {
-    if refusal == 1 {
-        return text::put_all(run, at, b": there is no such format");
+    match refusal {
+        1 => b": there is no such format",
+        2 => b": there are no channels, or more than slots",
+        3 => b": the order is above 1",
+        11 => b": a number or an indication in the log is wrong",
+        12 => b": a record of the log is cut",
+        13 => b": the log is too long",
+        _ => b"",
     }
-    if refusal == 2 {
-        return text::put_all(run, at, b": there are no channels, or more than slots");
-    }
-    if refusal == 3 {
-        return text::put_all(run, at, b": the order is above 1");
-    }
-    if refusal == 11 {
-        return text::put_all(run, at, b": a number or an indication in the log is wrong");
-    }
-    if refusal == 12 {
-        return text::put_all(run, at, b": a record of the log is cut");
-    }
-    if refusal == 13 {
-        return text::put_all(run, at, b": the log is too long");
-    }
-    at
 }

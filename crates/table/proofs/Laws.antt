@@ -1,16 +1,14 @@
 -- Laws of the lines of a table.
 -- Assumes nothing.
-use Rattle.std.proofs.Common.{◌≡◌, ℕ, ◌+◌, ◌-◌, ◌*◌, ◌/◌, ◌<◌, ◌≤◌, true, List, [], ◌∷◌, ◌++◌, length, get_or, take, drop, sym, ap, ◌∙◌, append_assoc, append-nil, add-one, take_all, take-suc, eq-eqb, ne_eqb, le-leb}
+use Rattle.std.proofs.Common.{◌≡◌, ℕ, ◌+◌, ◌*◌, ◌/◌, ◌<◌, ◌≤◌, true, List, [], ◌∷◌, ◌++◌, length, get_or, take, drop, sym, ap, ◌∙◌, append_assoc, append-nil, add-one, take_all, take-suc, le-leb}
 use borrow.Author.Tests.{lt-leb}
-use Rattle.runs.specs.Runs.{over}
 use Rattle.text.specs.declared.Put.{Put}
-use Rattle.text.specs.Put.{Puts, listed}
+use Rattle.text.specs.Put.{Puts}
 use Rattle.text.specs.Text.{decimal, item}
 use Rattle.text.specs.Words.{words}
 use Rattle.text.proofs.Laws.{puts_then, puts_same, said_from_start, wrote_from_start}
-use Rattle.table.specs.declared.Ended.{Ended}
-use Rattle.table.specs.Table.{cells_of, names_line, log_line, all_line, refused_line, Prints}
-use Rattle.table.specs.Taking.{row_at, line_of}
+use Rattle.table.specs.Table.{cells_of, log_line, Prints}
+use Rattle.table.specs.Taking.{row_at}
 
 -- a number more of a row
 cells_more : (xs : List ℕ) (x : ℕ) → cells_of (xs ++ (x ∷ [])) ≡ cells_of xs ++ item (words ",") x
@@ -40,13 +38,6 @@ prints {run} {run₁} {line} {past = past} begins p =
     let q : Puts run (record { octets = 0; whole = true }) run₁ past line = rw begins at p in
     record { said = said_from_start q; wrote = wrote_from_start q }
 
-pub prints_same : {run run₁ line same : List ℕ} {past : Put} → line ≡ same → Prints run past run₁ line → Prints run past run₁ same
-prints_same {run} e p =
-    record {
-      said = p.said ∙ ap (λ (l : List ℕ). listed (length run) l) e;
-      wrote = p.wrote ∙ ap (λ (l : List ℕ). over (take (length run) l) run) e;
-    }
-
 -- the line of a log, with the row at its place
 module _ (rows : List ℕ) (log : ℕ) {a b d : List ℕ} {s t u : Put} (start : s ≡ record { octets = 0; whole = true })
     (number : Puts a s b t (decimal log))
@@ -64,24 +55,3 @@ module _ (rows : List ℕ) (log : ℕ) {a b d : List ℕ} {s t u : Put} (start :
     unfolding row_at
     row_there within ten p =
         with_row (ap (λ (k : ℕ). take k (drop (10 * log) rows)) ten ∙ sym (rw (lt-leb (length rows / 10) log within))) p
-
--- a line by its place
-module _ (e : Ended) (rows : List ℕ) (index : ℕ) where
-  pub line_refused : (e.answer.refusal ≡ 0 → ⊥) → refused_line e.answer.refusal ≡ line_of e rows index
-  unfolding line_of
-  line_refused some = sym (rw (ne_eqb e.answer.refusal 0 some))
-
-  module _ (none : e.answer.refusal ≡ 0) where
-    pub line_names : index ≡ 0 → names_line ≡ line_of e rows index
-    unfolding line_of
-    line_names first = sym (rw (eq-eqb e.answer.refusal 0 none, eq-eqb index 0 first))
-
-    module _ (later : index ≡ 0 → ⊥) where
-      pub line_log : index ≤ e.logs → log_line (index - 1) (row_at rows (index - 1)) ≡ line_of e rows index
-      unfolding line_of
-      line_log within =
-          sym (rw (eq-eqb e.answer.refusal 0 none, ne_eqb index 0 later, le-leb index e.logs within))
-
-      pub line_all : e.logs < index → all_line e.answer.totals ≡ line_of e rows index
-      unfolding line_of
-      line_all past = sym (rw (eq-eqb e.answer.refusal 0 none, ne_eqb index 0 later, lt-leb index e.logs past))

@@ -1,8 +1,10 @@
 -- No second answer: whatever answer, lent array and lent runs at exit meet the contract of a public function are equal. Stated over
 -- the contracts themselves.
 -- Assumes nothing.
-use Rattle.std.proofs.Common.{sym, refl, ◌∙◌}
+use Rattle.std.proofs.Common.{◌≡◌, sym, refl, ◌∙◌}
 use Rattle.runs.proofs.One.{One}
+use Rattle.table.specs.declared.Ended as code
+use Rattle.table.specs.Taking.{end_as}
 use Rattle.table.proofs.end.Kinds as end-kinds
 use Rattle.table.proofs.end.Reads as end_reads
 use Rattle.table.proofs.line.Kinds as line-kinds
@@ -17,6 +19,9 @@ use Rattle.table.proofs.start.Kinds as start-kinds
 use Rattle.table.proofs.start.Reads as start-reads
 use Rattle.table.proofs.take.Kinds as take-kinds
 use Rattle.table.proofs.take.Reads as take-reads
+
+same_end : {x y : code.Ended} → end_as x ≡ end_as y → x ≡ y
+same_end e i = record { refusal = (e i).answer.refusal; totals = (e i).answer.totals; logs = (e i).logs; lines = (e i).lines }
 
 pub start_one : One start-kinds.ps start-kinds.r start-reads.Pre start-reads.Post
 start_one κs a x y v w pre p q = (p ∙ sym q, refl)
@@ -39,7 +44,7 @@ next_log_one κs a x y v w pre p q = (
 )
 
 pub end_one : One end-kinds.ps end-kinds.r end_reads.Pre end_reads.Post
-end_one κs a x y v w pre p q = (p ∙ sym q, refl)
+end_one κs a x y v w pre p q = (same_end (p ∙ sym q), refl)
 
 pub line_one : One line-kinds.ps line-kinds.r line-reads.Pre line-reads.Post
 line_one κs a x y v w pre p q = (

@@ -4,17 +4,15 @@ use Rattle.std.proofs.Common.{◌≡◌, ℕ, suc, ◌+◌, ◌-◌, ◌*◌, �
 use borrow.Author.Tests.{lt-leb}
 use Rattle.runs.specs.Runs.{over}
 use Rattle.runs.proofs.Laws.{split}
-use Rattle.figures.specs.declared.Answer.{Answer}
 use Rattle.figures.specs.declared.Counts.{Counts}
 use Rattle.figures.specs.Adding.{closed_of, Added, added_over}
 use Rattle.figures.specs.Code.{no_counts}
 use Rattle.figures.specs.Figures.{counts_of, row_of, too_many_of}
-use Rattle.figures.specs.Sheets.{heard_in, totals_of, rows_of, refused_by}
+use Rattle.figures.specs.Sheets.{Answer, heard_in, totals_of, rows_of, refused_by}
 use Rattle.figures.proofs.Adding.{added_closed, added_rows}
-use Rattle.table.specs.declared.Ended.{Ended}
 use Rattle.table.specs.declared.Input.{Input}
 use Rattle.table.specs.Table.{names_line, log_line, all_line, refused_line, log_lines, table_of}
-use Rattle.table.specs.Taking.{Stood, last_of, refused_end, closed_end, ended_of, row_at, line_of, lines_from, lines_of}
+use Rattle.table.specs.Taking.{Ended, Stood, last_of, refused_end, closed_end, ended_of, row_at, line_of, lines_from, lines_of}
 use Rattle.table.proofs.Counted.{Counted}
 
 -- the row at a log's place

@@ -2,17 +2,17 @@
 -- Assumes nothing.
 use Rattle.std.proofs.Common.{◌≡◌, ℕ, ◌-◌, ◌*◌, ◌/◌, ◌≤◌, true, eqb, leb, List, [], ◌∷◌, ◌++◌, length, drop, sym, refl, ap, ◌∙◌, arith, length-append}
 use Rattle.runs.proofs.Laws.{split}
-use Rattle.figures.specs.declared.Answer.{Answer}
+use Rattle.figures.specs.Sheets.{Answer}
 use Rattle.figures.specs.Adding.{closed_of}
 use Rattle.figures.specs.Figures.{row_of, too_many_of}
 use Rattle.text.specs.declared.Put.{Put}
 use Rattle.text.specs.Text.{decimal, item}
 use Rattle.text.specs.Words.{words}
 use Rattle.text.proofs.Short.{take_to, with_words, one_item, listed_whole}
-use Rattle.table.specs.declared.Ended.{Ended}
+use Rattle.table.specs.declared.Ended as code
 use Rattle.table.specs.declared.Sheet.{Sheet}
 use Rattle.table.specs.Table.{cells_of, Prints, refused_line}
-use Rattle.table.specs.Taking.{last_of, closed_end, ended_of, row_at, line_of}
+use Rattle.table.specs.Taking.{Ended, end_as, last_of, closed_end, ended_of, row_at, line_of}
 
 length_cells : (row : List ℕ) → length (cells_of row) ≤ 21 * length row
 unfolding cells_of
@@ -69,5 +69,5 @@ ended_ten s =
     (λ t. rw t (closed_ten (closed_of s.totals) s.input.logs (split (too_many_of s.totals) (λ m. rw m refl) (λ m. rw m refl))))
     (λ t. rw t refl)
 
-pub ten_numbers : (s : Sheet) {e : Ended} → e ≡ ended_of s → 10 ≡ length e.answer.totals
+pub ten_numbers : (s : Sheet) {e : code.Ended} → end_as e ≡ ended_of s → 10 ≡ length e.totals
 ten_numbers s is = ended_ten s ∙ sym (ap (λ (e : Ended). length e.answer.totals) is)

@@ -15,11 +15,13 @@ use Rattle.stops.specs.Stops.{end_stop, stop_of}
 use Rattle.text.specs.declared.Put.{Put}
 use Rattle.text.specs.Text.{digits_of}
 use Rattle.text.specs.Words.{words}
-use Rattle.table.specs.declared.Ended.{Ended}
+use Rattle.table.specs.declared.Ended as code
 use Rattle.table.specs.declared.Input.{Input}
 use Rattle.table.specs.declared.Sheet.{Sheet}
 use Rattle.table.specs.Table.{cells_of}
 use Rattle.table.specs.Taking.{
+  Ended,
+  end_as,
   between_of,
   goes_on_of,
   length_step,
@@ -113,16 +115,16 @@ module _ (κs : Lfts 0) where
   file_not_counted_yet x v wrong s = let right : x.input.logs ≡ 2 = ap (λ (t : Sheet). t.input.logs) s in omega arith
 
   abbrev Closed : Sheet → (Ended → Type 0) → Type 0
-  Closed sheet Wrong = Never end-kinds.ps end-kinds.r end_reads.Post κs (sheet, tt) (λ x v. Wrong x)
+  Closed sheet Wrong = Never end-kinds.ps end-kinds.r end_reads.Post κs (sheet, tt) (λ x v. Wrong (end_as x))
 
   -- an input that ends within a log taken, and no input at all refused
   pub cut_log_not_taken : Closed (at seven) (λ x. x.answer.refusal ≡ 0)
   unfolding counted
-  cut_log_not_taken x v wrong s = let right : x.answer.refusal ≡ 5 = ap (λ (e : Ended). e.answer.refusal) s in omega arith
+  cut_log_not_taken x v wrong s = let right : x.refusal ≡ 5 = ap (λ (e : Ended). e.answer.refusal) s in omega arith
 
   pub no_input_not_refused : Closed (start_of 0) (λ x. x.answer.refusal ≡ 5)
   unfolding counted
-  no_input_not_refused x v wrong s = let right : x.answer.refusal ≡ 0 = ap (λ (e : Ended). e.answer.refusal) s in omega arith
+  no_input_not_refused x v wrong s = let right : x.refusal ≡ 0 = ap (λ (e : Ended). e.answer.refusal) s in omega arith
 
   -- the line of all together left out
   pub all_not_left_out : Closed (at (between_of 0 3)) (λ x. x.lines ≡ 4)
@@ -217,8 +219,8 @@ module _ (κs : Lfts 2) (p q : Place) where
       let right : x.input.refusal ≡ 18 = ap (λ (t : Sheet). t.input.refusal) s.goes_on in omega arith
 
 -- a sheet of one log at its end, with this refusal; and the row of that log
-abbrev one : ℕ → Ended
-one refusal = record { answer = record { refusal = refusal; totals = 5 ∷ 3 ∷ [] }; logs = 1; lines = 3 }
+abbrev one : ℕ → code.Ended
+one refusal = record { refusal = refusal; totals = 5 ∷ 3 ∷ []; logs = 1; lines = 3 }
 
 abbrev row : List ℕ
 row = 6 ∷ 4 ∷ 0 ∷ 0 ∷ 0 ∷ 0 ∷ 0 ∷ 0 ∷ 0 ∷ 0 ∷ []

@@ -3,15 +3,14 @@
 -- Assumes nothing.
 use Rattle.std.specs.Prelude.{◌≡◌, ℕ, zero, suc, ◌+◌, ◌-◌, ◌*◌, ◌/◌, ◌%◌, ◌^◌, Bool, false, cond, ◌&&◌, List, [], ◌∷◌, ◌++◌, length, take, drop, ◌==◌, nat_le, nat_lt}
 use Rattle.pieces.specs.Steps.{stood_of}
-use Rattle.figures.specs.declared.Answer.{Answer}
 use Rattle.figures.specs.Adding.{rows_with, closed_of}
 use Rattle.figures.specs.Code.{no_counts, capped}
 use Rattle.figures.specs.Figures.{plus_of}
-use Rattle.figures.specs.Sheets.{refused_by}
+use Rattle.figures.specs.Sheets.{Answer, refused_by}
 use Rattle.figures.specs.Taking.{start_tally, tally_after}
 use Rattle.stops.specs.Kept.{kept_with}
 use Rattle.stops.specs.Stops.{stop_of}
-use Rattle.table.specs.declared.Ended.{Ended}
+use Rattle.table.specs.declared.Ended as code
 use Rattle.table.specs.declared.Input.{Input}
 use Rattle.table.specs.declared.Sheet.{Sheet}
 use Rattle.table.specs.declared.logs.Step.{Step}
@@ -174,6 +173,16 @@ taken_of s piece = taken_from 0 s piece
 pub record Takes (s : Sheet) (held rows kept piece : List ℕ) (answer : Sheet) (held₁ rows₁ kept₁ : List ℕ) : Type 0 where
   pub stands : record { sheet = answer; held = held₁; rows = rows₁; kept = kept₁ }
       ≡ taken_of (record { sheet = s; held = held; rows = rows; kept = kept }) piece
+
+-- a sheet at its end: its refusal and the row of all logs together, how many logs, and how many lines
+pub record Ended : Type 0 where
+  pub answer : Answer
+  pub logs : ℕ
+  pub lines : ℕ
+
+-- the code's
+abbrev pub end_as : code.Ended → Ended
+end_as e = record { answer = record { refusal = e.refusal; totals = e.totals }; logs = e.logs; lines = e.lines }
 
 -- a sheet that is refused, and one that isn't, at its end
 abbrev pub refused_end : Answer → Ended

@@ -3,9 +3,10 @@
 // stands after its length. When all are taken, the table's lines are written one by one into a lent run.
 ghost use Rattle.std.specs.Prelude.{◌≡◌, ◌==◌};
 ghost use Rattle.table.specs.Table.{Prints};
-ghost use Rattle.table.specs.Taking.{start_of, opened_of, ended_of, line_of, EndsLog, Steps, Takes};
+ghost use Rattle.figures.specs.Sheets.{refused_by};
+ghost use Rattle.table.specs.Taking.{start_of, opened_of, end_as, refused_end, ended_of, line_of, EndsLog, Steps, Takes};
 
-use figures::{Answer, Counts, Tally};
+use figures::{Counts, Tally};
 use logs::Step;
 use text::Put;
 
@@ -14,7 +15,7 @@ mod logs; // logs.rt: logs after their lengths
 
 // Logs on standard input, one after the other, each after its length: the refusal so far (0: none), how many logs are whole, how
 // many octets are left of the one that is read (0: between two logs), how many digits are read of a length, and their number.
-#[derive(Clone, Copy)]
+#[derive(Clone, Copy, Debug, PartialEq, Eq, Hash)]
 pub struct Input {
     pub refusal: u8,
     pub logs: usize,
@@ -24,17 +25,18 @@ pub struct Input {
 }
 
 // A sheet under way: where its input stands, the log that is counted, and the totals of the logs before it.
-#[derive(Clone, Copy)]
+#[derive(Clone, Copy, Debug, PartialEq, Eq, Hash)]
 pub struct Sheet {
     pub input: Input,
     pub tally: Tally,
     pub totals: Counts,
 }
 
-// A sheet at its end: its refusal and the row of all logs together, how many logs, and how many lines.
-#[derive(Clone, Copy)]
+// A sheet at its end: its refusal (0: none) and the row of all logs together, how many logs, and how many lines.
+#[derive(Clone, Copy, Debug, PartialEq, Eq, Hash)]
 pub struct Ended {
-    pub answer: Answer,
+    pub refusal: u8,
+    pub totals: [u32; 10],
     pub logs: usize,
     pub lines: usize,
 }
@@ -43,14 +45,11 @@ pub struct Ended {
 pub fn start(files: usize) -> Sheet
     ensures { result ≡ start_of files }
 {
-    let input = logs::first(files);
     let tally = figures::start();
-    let noted = tally.noted;
-    let totals = noted.counts;
     Sheet {
-        input,
+        input: logs::first(files),
         tally,
-        totals,
+        totals: tally.noted.counts,
     }
 }
 
@@ -58,19 +57,12 @@ pub fn start(files: usize) -> Sheet
 pub fn open_log(sheet: Sheet) -> Sheet
     ensures { result ≡ opened_of sheet }
 {
-    let input = sheet.input;
-    let tally = sheet.tally;
-    let totals = sheet.totals;
     Sheet {
         input: Input {
-            refusal: input.refusal,
-            logs: input.logs,
-            left: 18446744073709551615,
-            digits: input.digits,
-            number: input.number,
+            left: u64::MAX,
+            ..sheet.input
         },
-        tally,
-        totals,
+        ..sheet
     }
 }
 
@@ -78,8 +70,7 @@ pub fn open_log(sheet: Sheet) -> Sheet
 pub fn reads_on(sheet: Sheet) -> bool
     ensures { result ≡ (sheet.input.refusal == 0) }
 {
-    let input = sheet.input;
-    input.refusal == 0
+    sheet.input.refusal == 0
 }
 
 // Adds the log that is counted, which ends here, writes its row, and keeps where it stopped. The next one may begin. 18 for a log
@@ -88,21 +79,19 @@ pub fn next_log(sheet: Sheet, held: [u8; 49], rows: &mut [u32], kept: &mut [u64]
     ensures { EndsLog sheet held rows.old kept.old result rows.new kept.new }
 {
     let input = sheet.input;
-    let counted = sheet.tally;
-    let noted = counted.noted;
-    let stop = stops::of(counted.standing, held);
+    let noted = sheet.tally.noted;
+    let stop = stops::of(sheet.tally.standing, held);
     stops::keep(kept, input.logs, stop);
     let totals = figures::add(rows, input.logs, sheet.totals, noted.counts);
-    let behind = logs::next(input);
-    let tally = figures::start();
     Sheet {
-        input: behind,
-        tally,
+        input: logs::next(input),
+        tally: figures::start(),
         totals,
     }
 }
 
 // Counts octets of a log, with the input behind them. Where the log is whole it is added.
+#[tactic(auto, unfolding(crate::specs::Taking::settled_of))]
 fn stepped(
     sheet: Sheet,
     step: Step,
@@ -114,13 +103,10 @@ fn stepped(
     ensures { Steps sheet step held.old rows.old kept.old octets.now result
         held.new rows.new kept.new }
 {
-    let input = step.input;
-    let totals = sheet.totals;
-    let tally = figures::take(sheet.tally, held, octets);
     let counted = Sheet {
-        input,
-        tally,
-        totals,
+        input: step.input,
+        tally: figures::take(sheet.tally, held, octets),
+        ..sheet
     };
     if step.whole {
         return next_log(counted, *held, rows, kept);
@@ -152,46 +138,45 @@ pub fn take(
     going
 }
 
-// A sheet whose logs end here. 5 where standard input ends within a length or a log; then 19.
-pub fn end(sheet: Sheet) -> Ended
-    ensures { result ≡ ended_of sheet }
+fn refused(refusal: u8) -> Ended
+    ensures { end_as result ≡ refused_end (refused_by refusal) }
 {
-    let input = sheet.input;
-    let refusal = logs::last(input);
-    if refusal != 0 {
-        return Ended {
-            answer: Answer {
-                refusal,
-                totals: [0u32; 10],
-            },
-            logs: 0,
-            lines: 1,
-        };
-    }
-    let answer = figures::closed(sheet.totals);
-    if answer.refusal != 0 {
-        return Ended {
-            answer,
-            logs: 0,
-            lines: 1,
-        };
-    }
-    let logs = input.logs;
-    let lines = std::num::wrapping_add_usize(logs, 2);
     Ended {
-        answer,
-        logs,
-        lines,
+        refusal,
+        totals: [0; 10],
+        logs: 0,
+        lines: 1,
+    }
+}
+
+// A sheet whose logs end here. 5 where standard input ends within a length or a log; then 19.
+#[tactic(auto, unfolding(crate::specs::Taking::ended_of, crate::specs::Taking::closed_end))]
+pub fn end(sheet: Sheet) -> Ended
+    ensures { end_as result ≡ ended_of sheet }
+{
+    let refusal = logs::last(sheet.input);
+    if refusal != 0 {
+        return refused(refusal);
+    }
+    let logs = sheet.input.logs;
+    match figures::closed(sheet.totals) {
+        Ok(totals) => Ended {
+            refusal: 0,
+            totals,
+            logs,
+            lines: logs.wrapping_add(2),
+        },
+        Err(refusal) => refused(refusal.into()),
     }
 }
 
 // Writes a line of the table, counted from 0: the names, the logs, all together; or the one line of a sheet that is refused.
+#[tactic(auto, unfolding(crate::specs::Taking::line_of))]
 pub fn line(run: &mut [u8], ended: Ended, rows: &[u32], index: usize) -> Put
-    ensures { Prints run.old result run.new (line_of ended rows.now index) }
+    ensures { Prints run.old result run.new (line_of (end_as ended) rows.now index) }
 {
-    let answer = ended.answer;
-    if answer.refusal != 0 {
-        return lines::refused_line(run, answer.refusal);
+    if ended.refusal != 0 {
+        return lines::refused_line(run, ended.refusal);
     }
     if index == 0 {
         return lines::names_line(run);
@@ -199,6 +184,5 @@ pub fn line(run: &mut [u8], ended: Ended, rows: &[u32], index: usize) -> Put
     if index <= ended.logs {
         return lines::log_line(run, rows, index - 1);
     }
-    let totals = answer.totals;
-    lines::all_line(run, &totals)
+    lines::all_line(run, &ended.totals)
 }

@@ -7,21 +7,13 @@ ghost use Rattle.table.specs.Taking.{row_at};
 
 use text::Put;
 
-fn wide(n: u32) -> usize
-    ensures { result ≡ n }
-{
-    n as usize
-}
-
 // The numbers of a row, each behind a comma, and the line's end.
 fn put_row(run: &mut [u8], at: Put, row: &[u32]) -> Put
     ensures { Puts run.old at run.new result (cells_of row.now ++ words "\n") }
 {
     let mut past = at;
-    let mut i = 0;
-    while i < row.len() {
-        past = text::put_item(run, past, b",", wide(row[i]));
-        i += 1;
+    for number in row {
+        past = text::put_item(run, past, b",", *number as usize);
     }
     text::put_all(run, past, b"\n")
 }

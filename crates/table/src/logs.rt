@@ -17,7 +17,7 @@ use crate::Input;
 
 // What the octets ahead are: how many belong to the log that is read, how many are used, whether the log is whole behind them, and
 // the input there.
-#[derive(Clone, Copy)]
+#[derive(Clone, Copy, Debug, PartialEq, Eq, Hash)]
 pub(crate) struct Step {
     pub input: Input,
     pub octets: usize,
@@ -39,6 +39,7 @@ fn between(refusal: u8, logs: usize) -> Input
 }
 
 // Before the first log of so many files: 18 for more than 4,096.
+#[tactic(auto, unfolding(crate::specs::Taking::first_of))]
 pub(crate) fn first(files: usize) -> Input
     ensures { result ≡ first_of files }
 {
@@ -49,6 +50,7 @@ pub(crate) fn first(files: usize) -> Input
 }
 
 // Behind a log that ends here: 18 where it isn't one of the first 4,096.
+#[tactic(auto, unfolding(crate::specs::Taking::next_input))]
 pub(crate) fn next(input: Input) -> Input
     ensures { result ≡ next_input input }
 {
@@ -59,63 +61,51 @@ pub(crate) fn next(input: Input) -> Input
     between(input.refusal, logs + 1)
 }
 
-// An octet behind which the input is refused.
-fn stopped(refusal: u8, logs: usize) -> Step
-    ensures { result ≡ read_of (between_of refusal logs) }
+// An octet of a length, with the input behind it.
+fn read(input: Input) -> Step
+    ensures { result ≡ read_of input }
 {
     Step {
-        input: Input {
-            refusal,
-            logs,
-            left: 0,
-            digits: 0,
-            number: 0,
-        },
+        input,
         octets: 0,
         used: 1,
         whole: false,
     }
 }
 
+// An octet behind which the input is refused.
+fn stopped(refusal: u8, logs: usize) -> Step
+    ensures { result ≡ read_of (between_of refusal logs) }
+{
+    read(between(refusal, logs))
+}
+
 // Whether an octet is the next digit of a length: of at most ten, and of at most 4,294,967,295.
+#[tactic(auto, unfolding(crate::specs::Taking::goes_on_of))]
 fn goes_on(digits: u8, number: u64, octet: u8) -> bool
     ensures { result ≡ goes_on_of digits number octet }
 {
-    if octet < 48 {
-        return false;
-    }
-    if 57 < octet {
-        return false;
-    }
-    if 9 < digits {
-        return false;
-    }
-    if 429496729 < number {
-        return false;
-    }
-    10 * number + (octet - 48) as u64 <= 4294967295
+    octet.is_ascii_digit()
+        && digits <= 9
+        && number <= 429496729
+        && 10 * number + (octet - b'0') as u64 <= 4294967295
 }
 
 // Behind a length: a log of so many octets begins. One of none is whole at once.
 fn begins(logs: usize, octets: u64) -> Step
     ensures { result ≡ begins_of logs octets }
 {
-    let whole = octets == 0;
     Step {
-        input: Input {
-            refusal: 0,
-            logs,
+        whole: octets == 0,
+        ..read(Input {
             left: octets,
-            digits: 0,
-            number: 0,
-        },
-        octets: 0,
-        used: 1,
-        whole,
+            ..between(0, logs)
+        })
     }
 }
 
 // An octet between two logs belongs to a length: 18 behind the 4,096th log, 5 where it is no length.
+#[tactic(auto, unfolding(crate::specs::Taking::length_step, crate::specs::Taking::goes_on_of))]
 fn length_step(input: Input, octet: u8) -> Step
     ensures { result ≡ length_step input octet }
 {
@@ -123,7 +113,7 @@ fn length_step(input: Input, octet: u8) -> Step
     if 4095 < logs {
         return stopped(18, logs);
     }
-    if octet == 10 {
+    if octet == b'\n' {
         if input.digits == 0 {
             return stopped(5, logs);
         }
@@ -132,59 +122,34 @@ fn length_step(input: Input, octet: u8) -> Step
     if !goes_on(input.digits, input.number, octet) {
         return stopped(5, logs);
     }
-    let digits = input.digits + 1;
-    let number = 10 * input.number + (octet - 48) as u64;
-    Step {
-        input: Input {
-            refusal: 0,
-            logs,
-            left: 0,
-            digits,
-            number,
-        },
-        octets: 0,
-        used: 1,
-        whole: false,
-    }
+    read(Input {
+        digits: input.digits + 1,
+        number: 10 * input.number + (octet - b'0') as u64,
+        ..between(0, logs)
+    })
 }
 
 // So many octets ahead within a log: as many as are left of it, or all of them.
+#[tactic(auto, unfolding(crate::specs::Taking::log_step))]
 fn log_step(input: Input, room: usize) -> Step
     ensures { result ≡ log_step input room }
 {
     let left = input.left;
     let wide = room as u64;
-    if left <= wide {
-        let octets = left as usize;
-        return Step {
-            input: Input {
-                refusal: input.refusal,
-                logs: input.logs,
-                left: 0,
-                digits: input.digits,
-                number: input.number,
-            },
-            octets,
-            used: octets,
-            whole: true,
-        };
-    }
-    let rest = left - wide;
+    let octets = left.min(wide) as usize;
     Step {
         input: Input {
-            refusal: input.refusal,
-            logs: input.logs,
-            left: rest,
-            digits: input.digits,
-            number: input.number,
+            left: left.saturating_sub(wide),
+            ..input
         },
-        octets: room,
-        used: room,
-        whole: false,
+        octets,
+        used: octets,
+        whole: left <= wide,
     }
 }
 
 // What so many octets ahead are, the first of which is given. Behind a refusal none is read.
+#[tactic(auto, unfolding(crate::specs::Taking::step_of))]
 pub(crate) fn ahead(input: Input, octet: u8, room: usize) -> Step
     ensures { result ≡ step_of input octet room }
 {
@@ -203,16 +168,14 @@ pub(crate) fn ahead(input: Input, octet: u8, room: usize) -> Step
 }
 
 // The refusal of an input that ends here: 5 within a log or within a length.
+#[tactic(auto, unfolding(crate::specs::Taking::last_of))]
 pub(crate) fn last(input: Input) -> u8
     ensures { result ≡ last_of input }
 {
     if input.refusal != 0 {
         return input.refusal;
     }
-    if input.left != 0 {
-        return 5;
-    }
-    if input.digits != 0 {
+    if input.left != 0 || input.digits != 0 {
         return 5;
     }
     0

@@ -2,22 +2,21 @@
 -- Assumes nothing.
 use mathlib.Core.Bool.{Bool, cond}
 use mathlib.Core.List.{List, [], ◌∷◌}
-use mathlib.Core.Path.{◌≡◌, sym, ◌∙◌, ap, ap₂}
+use mathlib.Core.Path.{◌≡◌, sym, ◌∙◌, ap, ap₂, subst}
 use Prim.Native.Nat.{ℕ, zero, suc, ◌+◌, ◌*◌, ◌/◌, ◌%◌, ◌^◌, ◌<◌}
 use native.Mathlib.Nat.{div-one, pow-suc, mod-lt}
 use native.Mathlib.Omega.{arith}
-use types.Run.{OneOf}
 use lib.Bits.{bit_xor}
 use lib.Dec.{T, eqb, ltb, eqb→eq, ltb→lt}
 use lib.ListN.{get_or}
 use lib.Pow.{shr-shr}
+use Rattle.runs.specs.Division.{coefficients, divided, taken_down}
 use Rattle.runs.specs.Test.{every}
-use Rattle.runs.proofs.Arms.{NoneOf}
 use Rattle.runs.proofs.Laws.{every_at}
 use Rattle.guards.specs.Guards.{VOrNone, no_v, v_in, protected_bits, ten_guard}
 use Rattle.guards.proofs.Laws.{with_v_lem, guards_without_v, without_v, ten_guard_lt}
 use Rattle.tables.specs.Marks.{mark_bit, MarksBy, MarksOf, MarksWithoutV}
-use Rattle.tables.proofs.Classes.{arm_at, keys_back, nines, of_nine, of_nine_last}
+use Rattle.tables.specs.declared.TheConstants.{PROTECTION, MARKS, MARKS_WITHOUT_V}
 
 -- a number has the marks of nine bits whose protection bits these low bits say
 unfoldable fits : ℕ → (ℕ → ℕ) → Bool
@@ -66,23 +65,33 @@ module _ (guard : ℕ) (few : guard < 8) {nine : ℕ} (h : nine < 512) (e : ten_
     ltb→lt _ _ (every_at (λ g. ltb (get_or bares g 0) 4294967296) 8 tt guard few),
   )
 
--- those of an arm's keys, and of the last arm's
-arm_few : (i nine : ℕ) → OneOf (arm_at nines i).keys nine → (arm_at nines i).guard < 8
-arm_few i nine one = rw (← of_nine i nine one) (ten_guard_lt (protected_bits nine (v_in 0)))
+-- the tables are right at each of the 512 numbers of nine bits, by computing
+protection_test : ℕ → Bool
+protection_test nine = eqb (get_or PROTECTION nine 0) (ten_guard (protected_bits nine (v_in 0)))
 
-module _ (i nine : ℕ) (one : OneOf (arm_at nines i).keys (nine % 512)) where
-  pub marks_in_lem : MarksOf (nine % 512) (get_or words (arm_at nines i).guard 0) × (get_or words (arm_at nines i).guard 0 < 4294967296)
-  marks_in_lem = marks (arm_at nines i).guard (arm_few i (nine % 512) one) (mod-lt nine (omega arith)) (of_nine i (nine % 512) one)
+pub protection_at : (nine : ℕ) → nine < 512 → get_or PROTECTION nine 0 ≡ ten_guard (protected_bits nine (v_in 0))
+unfolding protection_test every protected_bits ten_guard coefficients divided taken_down
+protection_at nine less = eqb→eq _ _ (every_at protection_test 512 tt nine less)
 
-  pub bare_in : MarksWithoutV (nine % 512) (get_or bares (arm_at nines i).guard 0) × (get_or bares (arm_at nines i).guard 0 < 4294967296)
-  bare_in = bare (arm_at nines i).guard (arm_few i (nine % 512) one) (mod-lt nine (omega arith)) (of_nine i (nine % 512) one)
+marks_test : List ℕ → List ℕ → ℕ → Bool
+marks_test table by nine = eqb (get_or table nine 0) (get_or by (get_or PROTECTION nine 0) 0)
 
-module _ {X : Type 0} (nine : ℕ) (none : NoneOf X (keys_back nines []) (nine % 512)) where
-  pub marks_last : MarksOf (nine % 512) (get_or words 3 0) × (get_or words 3 0 < 4294967296)
-  marks_last = marks 3 (omega arith) (mod-lt nine (omega arith)) (of_nine_last (nine % 512) (mod-lt nine (omega arith)) none)
+module _ (nine : ℕ) (h : nine < 512) where
+  few : get_or PROTECTION nine 0 < 8
+  few = rw (protection_at nine h) (ten_guard_lt (protected_bits nine (v_in 0)))
 
-  pub bare_last : MarksWithoutV (nine % 512) (get_or bares 3 0) × (get_or bares 3 0 < 4294967296)
-  bare_last = bare 3 (omega arith) (mod-lt nine (omega arith)) (of_nine_last (nine % 512) (mod-lt nine (omega arith)) none)
+  pub marks_at : MarksOf nine (get_or MARKS nine 0) × (get_or MARKS nine 0 < 4294967296)
+  unfolding marks_test every
+  marks_at =
+      let is : get_or MARKS nine 0 ≡ get_or words (get_or PROTECTION nine 0) 0 = eqb→eq _ _ (every_at (marks_test MARKS words) 512 tt nine h) in
+      subst (λ (n : ℕ). MarksOf nine n × (n < 4294967296)) (sym is) (marks (get_or PROTECTION nine 0) few h (sym (protection_at nine h)))
+
+  pub bare_at : MarksWithoutV nine (get_or MARKS_WITHOUT_V nine 0) × (get_or MARKS_WITHOUT_V nine 0 < 4294967296)
+  unfolding marks_test every
+  bare_at =
+      let is : get_or MARKS_WITHOUT_V nine 0 ≡ get_or bares (get_or PROTECTION nine 0) 0
+      = eqb→eq _ _ (every_at (marks_test MARKS_WITHOUT_V bares) 512 tt nine h) in
+      subst (λ (n : ℕ). MarksWithoutV nine n × (n < 4294967296)) (sym is) (bare (get_or PROTECTION nine 0) few h (sym (protection_at nine h)))
 
 -- numbers below a power of two with the same bits are equal
 pub same_bits : (n : ℕ) {x y : ℕ} → x < 2 ^ n → y < 2 ^ n → ((low : ℕ) → low < n → x / 2 ^ low % 2 ≡ y / 2 ^ low % 2) → x ≡ y

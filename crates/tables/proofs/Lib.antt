@@ -1,4 +1,3 @@
-pub mod Classes
 pub mod Laws
 pub mod One
 pub mod Wrong

@@ -8,14 +8,10 @@ use Rattle.runs.specs.Division.{coefficients, divided, taken_down}
 use Rattle.runs.proofs.Wrong.{Never}
 use Rattle.guards.specs.Guards.{VOrNone, no_v, v_in, protected_bits, ten_guard}
 use Rattle.tables.specs.Marks.{mark_bit, MarksBy, MarksOf}
-use Rattle.tables.proofs.protection_for_usual.Kinds as protection-kinds
-use Rattle.tables.proofs.protection_for_usual.Reads as protection-reads
-use Rattle.tables.proofs.marks_for_figures.Kinds as figures-kinds
-use Rattle.tables.proofs.marks_for_figures.Reads as figures-reads
-use Rattle.tables.proofs.marks_for_others.Kinds as others-kinds
-use Rattle.tables.proofs.marks_for_others.Reads as others-reads
-use Rattle.tables.proofs.marks_for_usual.Kinds as usual-kinds
-use Rattle.tables.proofs.marks_for_usual.Reads as usual-reads
+use Rattle.tables.proofs.protection.Kinds as protection-kinds
+use Rattle.tables.proofs.protection.Reads as protection-reads
+use Rattle.tables.proofs.marks.Kinds as marks-kinds
+use Rattle.tables.proofs.marks.Reads as marks-reads
 use Rattle.tables.proofs.marks_without_v.Kinds as bare-kinds
 use Rattle.tables.proofs.marks_without_v.Reads as bare-reads
 
@@ -53,41 +49,17 @@ module _ (κs : Lfts 0) where
       let marked : x / 2 ^ 20 % 2 ≡ 1 = ap (λ (n : ℕ). n / 2 ^ 20 % 2) wrong in
       omega arith
 
-  pub marks_for_others_not_always_0 : Never others-kinds.ps others-kinds.r others-reads.Post κs (0, tt) (λ x v. x ≡ 0)
+  pub marks_not_always_0 : Never marks-kinds.ps marks-kinds.r marks-reads.Post κs (0, tt) (λ x v. x ≡ 0)
   unfolding unfolded
-  marks_for_others_not_always_0 x v wrong p = always_0 (λ low. v_in (low / 16)) 0 refl p wrong
+  marks_not_always_0 x v wrong p = always_0 (λ low. v_in (low / 16)) 0 refl p wrong
 
-  pub marks_for_others_not_always_1 : Never others-kinds.ps others-kinds.r others-reads.Post κs (0, tt) (λ x v. x ≡ 0xFFFFFFFF)
+  pub marks_not_always_1 : Never marks-kinds.ps marks-kinds.r marks-reads.Post κs (0, tt) (λ x v. x ≡ 0xFFFFFFFF)
   unfolding unfolded
-  marks_for_others_not_always_1 x v wrong p = always_1 (λ low. v_in (low / 16)) 0 refl p wrong
+  marks_not_always_1 x v wrong p = always_1 (λ low. v_in (low / 16)) 0 refl p wrong
 
-  pub marks_for_others_not_without_v : Never others-kinds.ps others-kinds.r others-reads.Post κs (0, tt) (λ x v. x ≡ 0x7F7F7F7F)
+  pub marks_not_without_v : Never marks-kinds.ps marks-kinds.r marks-reads.Post κs (0, tt) (λ x v. x ≡ 0x7F7F7F7F)
   unfolding unfolded
-  marks_for_others_not_without_v x v wrong p = without_v 0 refl p wrong
-
-  pub marks_for_usual_not_always_0 : Never usual-kinds.ps usual-kinds.r usual-reads.Post κs (0, tt) (λ x v. x ≡ 0)
-  unfolding unfolded
-  marks_for_usual_not_always_0 x v wrong p = always_0 (λ low. v_in (low / 16)) 0 refl p wrong
-
-  pub marks_for_usual_not_always_1 : Never usual-kinds.ps usual-kinds.r usual-reads.Post κs (0, tt) (λ x v. x ≡ 0xFFFFFFFF)
-  unfolding unfolded
-  marks_for_usual_not_always_1 x v wrong p = always_1 (λ low. v_in (low / 16)) 0 refl p wrong
-
-  pub marks_for_usual_not_without_v : Never usual-kinds.ps usual-kinds.r usual-reads.Post κs (0, tt) (λ x v. x ≡ 0x7F7F7F7F)
-  unfolding unfolded
-  marks_for_usual_not_without_v x v wrong p = without_v 0 refl p wrong
-
-  pub marks_for_figures_not_always_0 : Never figures-kinds.ps figures-kinds.r figures-reads.Post κs (0, tt) (λ x v. x ≡ 0)
-  unfolding unfolded
-  marks_for_figures_not_always_0 x v wrong p = always_0 (λ low. v_in (low / 16)) 0 refl p wrong
-
-  pub marks_for_figures_not_always_1 : Never figures-kinds.ps figures-kinds.r figures-reads.Post κs (0, tt) (λ x v. x ≡ 0xFFFFFFFF)
-  unfolding unfolded
-  marks_for_figures_not_always_1 x v wrong p = always_1 (λ low. v_in (low / 16)) 0 refl p wrong
-
-  pub marks_for_figures_not_without_v : Never figures-kinds.ps figures-kinds.r figures-reads.Post κs (0, tt) (λ x v. x ≡ 0x7F7F7F7F)
-  unfolding unfolded
-  marks_for_figures_not_without_v x v wrong p = without_v 0 refl p wrong
+  marks_not_without_v x v wrong p = without_v 0 refl p wrong
 
   pub marks_without_v_not_always_0 : Never bare-kinds.ps bare-kinds.r bare-reads.Post κs (0, tt) (λ x v. x ≡ 0)
   unfolding unfolded

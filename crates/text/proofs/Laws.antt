@@ -10,6 +10,8 @@ use borrow.Author.Tests.{lt-ltb, le-ltb, le-leb, lt-leb, leb-true, leb-false, lt
 use lib.Dec.{leb, ltb}
 use lib.ListN.{length, get_or, take, drop, set, length-append, length-drop, length-set, take-append-drop, drop_of_length-le}
 use lib.Seq.{take-nil, take_all, length-take-le, take-append-le, drop-cons, set_at, append_snoc, drop-set-lt, get_or-set_same}
+use borrow.Rule.Slice.PartMut.{put_mid}
+use Rattle.std.proofs.lemmas.Slice.{put_mid-paste}
 use Rattle.runs.specs.Runs.{over, written}
 use Rattle.runs.proofs.Laws.{split}
 use Rattle.runs.proofs.Filling.{stored_behind}
@@ -49,6 +51,12 @@ puts_then {a} {s = s} {first = first} {second = second} p q =
 
 pub puts_same : {a b : List ℕ} {s t : Put} {octets same : List ℕ} → octets ≡ same → Puts a s b t octets → Puts a s b t same
 puts_same {a} {s = s} e p = record { is = p.is ∙ ap (put_all (record { run = a; past = s })) e }
+
+-- octets copied over a part of a run
+pub copied : (new run : List ℕ) (at count : ℕ) {part : List ℕ} → part ≡ new → length new ≡ count → put_mid at count run part ≡ written run at new
+copied new run at count {part} e n =
+    put_mid-paste at count run part new (length new) e n refl
+    ∙ ap (λ (l : List ℕ). take at run ++ l ++ drop (at + length new) run) (take_all (length new) new (omega arith))
 
 -- putting nothing
 pub puts_none : (a : List ℕ) (s : Put) → Puts a s a s []
@@ -101,12 +109,11 @@ put_none_fits run place whole (octet ∷ octets) full some =
     ap (λ (f : Filling). put_all f octets) (one_out (filling run place whole) octet full) ∙ put_full run place octets full
 
 module _ (run : List ℕ) (at : Put) (octets : List ℕ) where
-  pub puts_room : {after : List ℕ} → at.octets + length octets ≤ length run → after ≡ written run at.octets (take (length octets) octets)
+  pub puts_room : {after : List ℕ} → at.octets + length octets ≤ length run → after ≡ written run at.octets octets
       → Puts run at after (record { octets = at.octets + length octets; whole = at.whole }) octets
   puts_room room e =
       record {
         is = (λ i. filling (e i) (at.octets + length octets) at.whole)
-            ∙ (λ i. filling (written run at.octets (take_all (length octets) octets (omega arith) i)) (at.octets + length octets) at.whole)
             ∙ sym (put_room run at.octets at.whole octets room);
       }
 

@@ -11,6 +11,8 @@ use Rattle.text.proofs.put_all.Kinds as put-all-kinds
 use Rattle.text.proofs.put_all.Reads as put-all-reads
 use Rattle.text.proofs.put_item.Kinds as put-item-kinds
 use Rattle.text.proofs.put_item.Reads as put-item-reads
+use Rattle.text.proofs.put_line.Kinds as put-line-kinds
+use Rattle.text.proofs.put_line.Reads as put-line-reads
 use Rattle.text.proofs.put_number.Kinds as put-number-kinds
 use Rattle.text.proofs.put_number.Reads as put-number-reads
 
@@ -33,3 +35,6 @@ put_number_one κs a x y v w pre p q = (same_past p q, λ i. (same_run p q i, (t
 
 pub put_item_one : One put-item-kinds.ps put-item-kinds.r put-item-reads.Pre put-item-reads.Post
 put_item_one κs a x y v w pre p q = (same_past p q, λ i. (same_run p q i, (tt, (tt, (tt, tt)))))
+
+pub put_line_one : One put-line-kinds.ps put-line-kinds.r put-line-reads.Pre put-line-reads.Post
+put_line_one κs a x y v w pre p q = (same_past p q, λ i. (same_run p q i, (tt, (tt, (tt, tt)))))

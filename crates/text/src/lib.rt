@@ -1,13 +1,12 @@
 #![tactic(auto)]
 // Text for programs: words and decimal numbers put one after the other into a lent run, as far as it goes. What no longer fits is left
 // out, and the answer says so.
-ghost use Rattle.std.specs.Prelude.{[], ◌∷◌, ◌≡◌, ◌+◌, ◌%◌, ◌≤◌, length, take};
-ghost use Rattle.runs.specs.Runs.{written};
+ghost use Rattle.std.specs.Prelude.{[], ◌∷◌, ◌++◌, ◌≡◌, ◌+◌, ◌%◌};
 ghost use Rattle.text.specs.Put.{Puts};
 ghost use Rattle.text.specs.Text.{decimal, item};
 
 // How many octets were put into a run from its start, and whether they are all that were to be put.
-#[derive(Clone, Copy)]
+#[derive(Clone, Copy, Debug, PartialEq, Eq, Hash)]
 pub struct Put {
     pub octets: usize,
     pub whole: bool,
@@ -19,28 +18,12 @@ fn put_one(run: &mut [u8], at: Put, octet: u8) -> Put
     let place = at.octets;
     if place < run.len() {
         run[place] = octet;
-        let next = place + 1;
         return Put {
-            octets: next,
-            whole: at.whole,
+            octets: place + 1,
+            ..at
         };
     }
-    Put {
-        octets: place,
-        whole: false,
-    }
-}
-
-// Copies the first `count` octets into a run from a place on.
-fn copied(run: &mut [u8], place: usize, octets: &[u8], count: usize)
-    requires { (place + count ≤ length run.old) × (count ≤ length octets.now) }
-    ensures { run.new ≡ written run.old place (take count octets.now) }
-{
-    let mut i = 0;
-    while i < count {
-        run[place + i] = octets[i];
-        i += 1;
-    }
+    Put { whole: false, ..at }
 }
 
 // Puts octets behind those that are put already. The room is asked once for all of them.
@@ -54,21 +37,15 @@ pub fn put_all(run: &mut [u8], at: Put, octets: &[u8]) -> Put
         if count == 0 {
             return at;
         }
-        return Put {
-            octets: place,
-            whole: false,
-        };
+        return Put { whole: false, ..at };
     }
     let room = end - place;
     if count <= room {
-        copied(run, place, octets, count);
         let next = place + count;
-        return Put {
-            octets: next,
-            whole: at.whole,
-        };
+        run[place..next].copy_from_slice(octets);
+        return Put { octets: next, ..at };
     }
-    copied(run, place, octets, room);
+    run[place..].copy_from_slice(&octets[..room]);
     Put {
         octets: end,
         whole: false,
@@ -93,7 +70,7 @@ pub fn put_number(run: &mut [u8], at: Put, n: usize) -> Put
     let mut left = n;
     while 10 <= left {
         digits[first] = digit(left);
-        left = left / 10;
+        left /= 10;
         first -= 1;
     }
     digits[first] = digit(left);
@@ -106,4 +83,12 @@ pub fn put_item(run: &mut [u8], at: Put, words: &[u8], n: usize) -> Put
 {
     let past = put_all(run, at, words);
     put_number(run, past, n)
+}
+
+// Puts words, a number behind them, and the line's end.
+pub fn put_line(run: &mut [u8], at: Put, words: &[u8], n: usize) -> Put
+    ensures { Puts run.old at run.new result (item words.now n ++ (10 ∷ [])) }
+{
+    let past = put_item(run, at, words, n);
+    put_all(run, past, b"\n")
 }

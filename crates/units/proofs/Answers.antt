@@ -10,7 +10,7 @@ use lib.ListN.{length, drop}
 use lib.Pow.{pow_mono, pow_pos}
 use Rattle.runs.specs.Runs.{tab, over}
 use Rattle.formats.specs.declared.Format.{Format}
-use Rattle.formats.specs.declared.Settled.{Settled}
+use Rattle.formats.specs.Settled.{Settled}
 use Rattle.formats.specs.Formats.{format_of}
 use Rattle.formats.specs.Settings.{settled, settings_of}
 use Rattle.formats.specs.Sound.{Sound, Limits}

@@ -2,7 +2,7 @@
 -- Assumes nothing.
 use mathlib.Core.Bool.{true, false, cond, not}
 use mathlib.Core.List.{List}
-use mathlib.Core.Path.{◌≡◌, refl, sym, ◌∙◌, ap}
+use mathlib.Core.Path.{◌≡◌, sym, ◌∙◌, ap}
 use Prim.Native.Nat.{ℕ, ◌*◌, ◌%◌, ◌^◌, ◌≤◌, ◌<◌}
 use native.Mathlib.Nat.{mul-one, mul-pos, mul-le-mul_left, mul-le-mul_right}
 use native.Mathlib.Omega.{arith}
@@ -12,12 +12,11 @@ use lib.ListN.{length, get_or}
 use lib.Pow.{pow_pos}
 use Rattle.runs.proofs.Laws.{then_later, past, past_both, neither}
 use Rattle.formats.specs.declared.Format.{Format}
-use Rattle.formats.specs.declared.Settled.{Settled}
+use Rattle.formats.specs.Settled.{Settled}
 use Rattle.formats.specs.Formats.{format_of, settings_refusal}
 use Rattle.formats.specs.Settings.{settled, settings_of}
 use Rattle.formats.specs.Sound.{Limits}
 use Rattle.formats.proofs.Laws.{settled_limits, given_refuses, given_none, given_settled, given_later}
-use Rattle.sender.specs.Packing.{values_refused_by}
 use Rattle.sender.specs.Sender.{all_below}
 use Rattle.sender.proofs.Laws.{below_each}
 use Rattle.units.specs.Units.{
@@ -34,40 +33,14 @@ use Rattle.units.specs.Units.{
 
 -- check 5 of an export, one length after the other
 module _ (channels samples ancillary : ℕ) where
-  pub runs_unequal : (ancillary ≡ samples → ⊥) → true ≡ runs_refused channels samples ancillary
-  unfolding runs_refused
-  runs_unequal other = rw (ne_eqb ancillary samples other)
-
-  pub runs_part : ancillary ≡ samples → not (eqb (samples % channels) 0) ≡ runs_refused channels samples ancillary
-  unfolding runs_refused
-  runs_part same = rw (eq-eqb ancillary samples same)
-
   pub runs_are : runs_refused channels samples ancillary ≡ false → (ancillary ≡ samples) × (samples % channels ≡ 0)
   unfolding runs_refused
   runs_are taken =
       let both = neither (not (eqb ancillary samples)) _ taken in
       (eqb-true ancillary samples (not-false _ both.0), eqb-true (samples % channels) 0 (not-false _ both.1))
 
--- check 6 is the sender's
-pub values_as : (f : Format) (samples ancillary : List ℕ) → values_refused_by f samples ancillary ≡ values_refused f samples ancillary
-unfolding values_refused_by values_refused
-values_as f samples ancillary = refl
-
 -- check 5 of a reading
 module _ (frame unit samples ancillary : ℕ) where
-  pub unit_unequal : (ancillary ≡ samples → ⊥) → true ≡ unit_refused frame unit samples ancillary
-  unfolding unit_refused
-  unit_unequal other = rw (ne_eqb ancillary samples other)
-
-  module _ (same : ancillary ≡ samples) where
-    pub unit_empty : unit ≡ 0 → true ≡ unit_refused frame unit samples ancillary
-    unfolding unit_refused
-    unit_empty none = rw (eq-eqb ancillary samples same, eq-eqb unit 0 none)
-
-    pub unit_part : (unit ≡ 0 → ⊥) → not (eqb (unit % frame) 0) ≡ unit_refused frame unit samples ancillary
-    unfolding unit_refused
-    unit_part some = rw (eq-eqb ancillary samples same, ne_eqb unit 0 some)
-
   pub unit_is : unit_refused frame unit samples ancillary ≡ false → (ancillary ≡ samples) × (unit ≡ 0 → ⊥) × (unit % frame ≡ 0)
   unfolding unit_refused
   unit_is taken =

@@ -2,9 +2,9 @@
 -- without overhead is.
 -- Assumes nothing.
 use mathlib.Core.List.{List, ◌++◌}
-use mathlib.Core.Path.{◌≡◌, refl, sym, ◌∙◌, ap, ap₂, subst}
-use Prim.Native.Nat.{ℕ, suc, ◌+◌, ◌*◌, ◌/◌, ◌%◌, ◌^◌, ◌≤◌, ◌<◌}
-use native.Mathlib.Nat.{add-zero, div-one, mul-one, zero-mul, suc-mul, mul-le-mul_left, mul-le-mul_right, pow-suc, pow-le-pow_right}
+use mathlib.Core.Path.{◌≡◌, refl, sym, ◌∙◌, ap, ap₂}
+use Prim.Native.Nat.{ℕ, ◌+◌, ◌*◌, ◌/◌, ◌%◌, ◌^◌, ◌≤◌, ◌<◌}
+use native.Mathlib.Nat.{add-zero, div-one, mul-one, zero-mul, pow-suc, pow-le-pow_right}
 use native.Mathlib.Numerals.{add-one}
 use native.Mathlib.Omega.{arith}
 use lib.Arith.{digits_lt}
@@ -17,18 +17,8 @@ use Rattle.runs.proofs.Filling.{Filled, turned_front, done_front}
 use Rattle.runs.proofs.Laws.{length_octets, length_tab, get_or_tab, read_snoc}
 use Rattle.formats.specs.declared.Format.{Format}
 use Rattle.cells.specs.Cells.{overhead_of, subframe_of, subframe_at, sample_in, ancillary_in}
-use Rattle.units.specs.Code.{entry_octets, packed, Packable, number_at, Unpackable, Unpacks}
+use Rattle.units.specs.Code.{entry_octets, packed, Packable, number_at}
 use Rattle.units.specs.Units.{subframe_octets}
-
--- ancillary bits are four or none
-pub four_of : (bits : ℕ) → bits % 4 ≡ 0 → bits ≤ 4 → (bits ≡ 0 → ⊥) → bits ≡ 4
-four_of bits fours to some = omega arith
-
-pub base_none : {bits : ℕ} → bits ≡ 0 → 2 ^ bits ≡ 1
-base_none none = ap (λ (n : ℕ). 2 ^ n) none
-
-pub base_four : {bits : ℕ} → bits % 4 ≡ 0 → bits ≤ 4 → (bits ≡ 0 → ⊥) → 2 ^ bits ≡ 16
-base_four {bits} fours to some = ap (λ (n : ℕ). 2 ^ n) (four_of bits fours to some)
 
 -- octets filled up to an entry: its subframes so far, and then what they held
 pub record Filling (base width : ℕ) (samples ancillary out₀ out : List ℕ) (i : ℕ) : Type 0 where
@@ -40,16 +30,6 @@ module _ (base width : ℕ) (samples ancillary out₀ : List ℕ) (ok : Packable
   pub filling_begun : Filling base width samples ancillary out₀ out₀ 0
   unfolding joined
   filling_begun = record { within = omega arith; is = ap (λ (n : ℕ). drop n out₀) (sym (zero-mul width)); same = refl }
-
-  -- an entry's subframe lies within the octets
-  pub entry_room : {i : ℕ} → i < length samples → i * width + width ≤ length out₀
-  entry_room {i} less =
-      omega (arith, suc-mul i width, mul-le-mul_right {m = suc i} {n = length samples} width less, ok.room)
-
-  -- and is a number that fits
-  pub entry_fits : (i : ℕ) → get_or samples i 0 * base < 2 ^ 45
-  entry_fits i =
-      omega (arith, ok.small i, mul-le-mul_left {m = base} {n = 16} (get_or samples i 0) ok.base_to)
 
   pub filling_on : {out out₁ : List ℕ} {i four number : ℕ} → Filling base width samples ancillary out₀ out i → i < length samples
       → four ≡ get_or ancillary i 0
@@ -75,28 +55,6 @@ module _ (base width : ℕ) (samples ancillary out₀ : List ℕ) (ok : Packable
       so_far.is
       ∙ ap (λ (n : ℕ). joined (entry_octets base width samples ancillary) n ++ drop (n * width) out₀)
       (let end : _ ≡ length samples = omega (arith, so_far.within) in end)
-
--- the same with base or width under another name
-pub packable_as : {base base₁ width width₁ : ℕ} {samples ancillary out : List ℕ} → base ≡ base₁ → width ≡ width₁
-    → Packable base width samples ancillary out → Packable base₁ width₁ samples ancillary out
-packable_as {samples = samples} {ancillary = ancillary} {out = out} base-is width_is ok =
-    subst (λ (p : ℕ × ℕ). Packable p.0 p.1 samples ancillary out) (λ i. (base-is i, width_is i)) ok
-
-pub unpackable_as : {base base₁ width width₁ entries : ℕ} {unit samples ancillary : List ℕ} → base ≡ base₁ → width ≡ width₁
-    → Unpackable base width entries unit samples ancillary → Unpackable base₁ width₁ entries unit samples ancillary
-unpackable_as {entries = entries} {unit = unit} {samples = samples} {ancillary = ancillary} base-is width_is ok =
-    subst (λ (p : ℕ × ℕ). Unpackable p.0 p.1 entries unit samples ancillary) (λ i. (base-is i, width_is i)) ok
-
-pub unpacks_as : {base base₁ width width₁ entries : ℕ} {unit samples ancillary samples₁ ancillary₁ : List ℕ} → base₁ ≡ base → width₁ ≡ width
-    → Unpacks base width entries unit samples ancillary samples₁ ancillary₁
-    → Unpacks base₁ width₁ entries unit samples ancillary samples₁ ancillary₁
-unpacks_as {entries = entries} {unit = unit} {samples = samples} {ancillary = ancillary} {samples₁ = samples₁} {ancillary₁ = ancillary₁} base-is width_is did =
-    subst (λ (p : ℕ × ℕ). Unpacks p.0 p.1 entries unit samples ancillary samples₁ ancillary₁) (λ i. (sym base-is i, sym width_is i)) did
-
--- a subframe of a unit lies within it
-pub entry_within : {entries i : ℕ} (width : ℕ) (unit : List ℕ) → entries * width ≤ length unit → i < entries → i * width + width ≤ length unit
-entry_within {entries} {i} width unit whole less =
-    omega (arith, suc-mul i width, mul-le-mul_right {m = suc i} {n = entries} width less, whole)
 
 -- a number read octet by octet: what is read so far
 pub record Reading (unit : List ℕ) (at number i : ℕ) : Type 0 where

@@ -10,7 +10,7 @@ mod pack;
 mod unpack;
 
 // The refusal (0: none); octets written, octets of a full unit, how many units. All else is zero where the export is refused.
-#[derive(Clone, Copy)]
+#[derive(Clone, Copy, Debug, PartialEq, Eq, Hash)]
 pub struct Exported {
     pub refusal: u8,
     pub octets: usize,
@@ -19,7 +19,7 @@ pub struct Exported {
 }
 
 // The refusal (0: none), and how many entries the unit had: 0 where it is refused.
-#[derive(Clone, Copy)]
+#[derive(Clone, Copy, Debug, PartialEq, Eq, Hash)]
 pub struct Entered {
     pub refusal: u8,
     pub entries: usize,
@@ -31,11 +31,7 @@ fn units_of(frames: usize, fit: usize) -> usize
     requires { 1 ≤ fit }
     ensures { result ≡ units_of frames fit }
 {
-    let full = frames / fit;
-    if frames % fit == 0 {
-        return full;
-    }
-    full + 1
+    frames.div_ceil(fit)
 }
 
 fn not_exported(refusal: u8) -> Exported
@@ -62,10 +58,20 @@ pub fn export_units(
 ) -> Exported
     ensures { Exports octet channels size samples.now ancillary.now out.old result out.new }
 {
-    let set = formats::settings(octet, channels, 0);
-    let refusal = judge::export_refusal(octet, channels, set, size, samples, ancillary, out.len());
-    if refusal != 0 {
-        return not_exported(refusal);
+    let set = match formats::settings(octet, channels, 0) {
+        Ok(set) => set,
+        Err(refusal) => return not_exported(refusal.into()),
+    };
+    if let Err(refusal) = judge::checked_export(
+        octet,
+        channels,
+        set,
+        size,
+        samples,
+        ancillary,
+        out.len(),
+    ) {
+        return not_exported(refusal.into());
     }
     let width = set.format.width;
     let frame = set.channels * width;
@@ -91,18 +97,25 @@ pub fn read_unit(
 ) -> Entered
     ensures { Reads octet channels unit.now samples.old ancillary.old result samples.new ancillary.new }
 {
-    let set = formats::settings(octet, channels, 0);
-    let refusal = judge::read_refusal(
+    let set = match formats::settings(octet, channels, 0) {
+        Ok(set) => set,
+        Err(refusal) => {
+            return Entered {
+                refusal: refusal.into(),
+                entries: 0,
+            };
+        }
+    };
+    if let Err(refusal) = judge::checked_read(
         octet,
         channels,
         set,
         unit.len(),
         samples.len(),
         ancillary.len(),
-    );
-    if refusal != 0 {
+    ) {
         return Entered {
-            refusal,
+            refusal: refusal.into(),
             entries: 0,
         };
     }

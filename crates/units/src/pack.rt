@@ -6,15 +6,14 @@ ghost use Rattle.std.specs.Prelude.{◌++◌, ◌≡◌, ◌+◌, ◌*◌, ◌%�
 ghost use Rattle.runs.specs.Runs.{octets_of};
 ghost use Rattle.units.specs.Code.{packed, Packable};
 
-// Writes a number's octets, the highest first.
+// Writes a number's octets, the highest first. One by one: copied from `to_be_bytes` those of a format of two octets or four take up to
+// a sixth more instructions.
 fn put(out: &mut [u8], at: usize, width: usize, number: u64)
     requires { (at + width ≤ length out.old) × (width ≤ 6) }
     ensures { out.new ≡ take at out.old ++ octets_of width number ++ drop (at + width) out.old }
 {
-    let mut i = 0;
-    while i < width {
+    for i in 0..width {
         out[at + i] = ((number >> (8 * (width - 1 - i))) % 256) as u8;
-        i += 1;
     }
 }
 
@@ -23,11 +22,9 @@ fn fill(base: u64, width: usize, samples: &[u64], ancillary: &[u8], out: &mut [u
     requires { Packable base width samples.now ancillary.now out.old }
     ensures { out.new ≡ packed base width samples.now ancillary.now out.old }
 {
-    let mut i = 0;
-    while i < samples.len() {
-        let number = samples[i] * base + cells::wide(ancillary[i]);
+    for (i, sample) in samples.iter().enumerate() {
+        let number = *sample * base + u64::from(ancillary[i]);
         put(out, i * width, width, number);
-        i += 1;
     }
 }
 
@@ -38,9 +35,9 @@ fn fill_by(bits: u64, width: usize, samples: &[u64], ancillary: &[u8], out: &mut
 {
     if bits == 0 {
         fill(1, width, samples, ancillary, out);
-        return;
+    } else {
+        fill(16, width, samples, ancillary, out);
     }
-    fill(16, width, samples, ancillary, out);
 }
 
 // The same, by how many octets a subframe has.
@@ -48,21 +45,11 @@ pub(crate) fn pack(bits: u64, width: usize, samples: &[u64], ancillary: &[u8], o
     requires { (bits % 4 ≡ 0) × (bits ≤ 4) × Packable (2 ^ bits) width samples.now ancillary.now out.old }
     ensures { out.new ≡ packed (2 ^ bits) width samples.now ancillary.now out.old }
 {
-    if width == 1 {
-        fill_by(bits, 1, samples, ancillary, out);
-        return;
+    match width {
+        1 => fill_by(bits, 1, samples, ancillary, out),
+        2 => fill_by(bits, 2, samples, ancillary, out),
+        3 => fill_by(bits, 3, samples, ancillary, out),
+        4 => fill_by(bits, 4, samples, ancillary, out),
+        _ => fill_by(bits, width, samples, ancillary, out),
     }
-    if width == 2 {
-        fill_by(bits, 2, samples, ancillary, out);
-        return;
-    }
-    if width == 3 {
-        fill_by(bits, 3, samples, ancillary, out);
-        return;
-    }
-    if width == 4 {
-        fill_by(bits, 4, samples, ancillary, out);
-        return;
-    }
-    fill_by(bits, width, samples, ancillary, out);
 }

@@ -9,10 +9,8 @@ fn number_at(unit: &[u8], at: usize, width: usize) -> u64
     ensures { result ≡ number_of (take width (drop at unit.now)) }
 {
     let mut number = 0;
-    let mut i = 0;
-    while i < width {
-        number = number * 256 + cells::wide(unit[at + i]);
-        i += 1;
+    for octet in &unit[at..at + width] {
+        number = number * 256 + u64::from(*octet);
     }
     number
 }
@@ -29,12 +27,10 @@ fn enter(
     requires { Unpackable base width entries unit.now samples.old ancillary.old }
     ensures { Unpacks base width entries unit.now samples.old ancillary.old samples.new ancillary.new }
 {
-    let mut i = 0;
-    while i < entries {
+    for i in 0..entries {
         let number = number_at(unit, i * width, width);
         samples[i] = number / base;
         ancillary[i] = (number % base) as u8;
-        i += 1;
     }
 }
 
@@ -52,9 +48,9 @@ fn enter_by(
 {
     if bits == 0 {
         enter(1, width, entries, unit, samples, ancillary);
-        return;
+    } else {
+        enter(16, width, entries, unit, samples, ancillary);
     }
-    enter(16, width, entries, unit, samples, ancillary);
 }
 
 // The same, by how many octets a subframe has.
@@ -69,21 +65,11 @@ pub(crate) fn unpack(
     requires { (bits % 4 ≡ 0) × (bits ≤ 4) × Unpackable (2 ^ bits) width entries unit.now samples.old ancillary.old }
     ensures { Unpacks (2 ^ bits) width entries unit.now samples.old ancillary.old samples.new ancillary.new }
 {
-    if width == 1 {
-        enter_by(bits, 1, entries, unit, samples, ancillary);
-        return;
+    match width {
+        1 => enter_by(bits, 1, entries, unit, samples, ancillary),
+        2 => enter_by(bits, 2, entries, unit, samples, ancillary),
+        3 => enter_by(bits, 3, entries, unit, samples, ancillary),
+        4 => enter_by(bits, 4, entries, unit, samples, ancillary),
+        _ => enter_by(bits, width, entries, unit, samples, ancillary),
     }
-    if width == 2 {
-        enter_by(bits, 2, entries, unit, samples, ancillary);
-        return;
-    }
-    if width == 3 {
-        enter_by(bits, 3, entries, unit, samples, ancillary);
-        return;
-    }
-    if width == 4 {
-        enter_by(bits, 4, entries, unit, samples, ancillary);
-        return;
-    }
-    enter_by(bits, width, entries, unit, samples, ancillary);
 }

@@ -18,8 +18,7 @@ use Rattle.presence.specs.declared.Search.{Search}
 use Rattle.saving.specs.Salvage as Saving
 use Rattle.saving.specs.declared.Salvaged.{Salvaged}
 use Rattle.status.specs.Bits.{zeros}
-use Rattle.status.specs.Step.{step_of}
-use Rattle.status.specs.declared.step.Stepped.{Stepped}
+use Rattle.status.specs.Step.{Stepped, step_of}
 use Rattle.units.specs.Units.{export_refusal, read_refusal, export_octets, exported_of}
 use Rattle.units.specs.declared.Exported.{Exported}
 

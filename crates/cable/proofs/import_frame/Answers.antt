@@ -1,15 +1,20 @@
 -- `cable::import_frame` meets its contract.
 -- Assumes nothing.
-use mathlib.Core.Path.{sym, ◌∙◌}
+use mathlib.Core.Path.{sym}
+use Rattle.std.proofs.lemmas.Result.{err_from_is_err_and}
+use Rattle.refusals.specs.Refusals.{refused_by}
+use Rattle.refusals.proofs.Laws.{number_not_0}
 use Rattle.cable.proofs.Refusals.{import_refused, import_made}
 use Rattle.cable.proofs.import_frame.Goals as goal
 
-pub returns-then-refusal-ne0 : goal.returns-then-refusal-ne0
-returns-then-refusal-ne0 c = let a = c.args in
-    c.not_imported.ensures ∙ import_refused a.preambles a.subframes c.import_refusal-refusal.ensures c.if-refusal-ne0.true
+pub returns-in_err-import_checked : goal.returns-in_err-import_checked
+unfolding refused_by
+returns-in_err-import_checked c =
+    let p = err_from_is_err_and c.from_residual.result c.from_residual.ensures.1 in
+    rw (p.1, p.2) (import_refused _ _ c.in_err-import_checked.ensures (number_not_0 _))
 
 pub returns : goal.returns
-returns c = let a = c.args in
-    import_made a.preambles a.subframes (sym c.import_refusal-refusal.ensures ∙ c.if-refusal-ne0.false) c.begins_by-begins.ensures.0
-    c.sample_in.ensures c.sample_in-2.ensures c.ancillary_in.ensures
-    c.ancillary_in-2.ensures
+unfolding refused_by
+returns c =
+    import_made _ _ (sym c.in_ok-import_checked.ensures) c.begins_by-begins.ensures.0 c.sample_in.ensures c.sample_in-2.ensures
+    c.ancillary_in.ensures c.ancillary_in-2.ensures

@@ -1,19 +1,23 @@
 -- `cells::next_place` meets its contract.
 -- Assumes nothing.
-use Rattle.std.proofs.Common.{ℕ, ◌+◌, ◌%◌, ◌^◌, sym, ap, ◌∙◌, arith}
+use Rattle.std.proofs.Common.{◌≡◌, ℕ, ◌+◌, ◌-◌, ◌%◌, ◌^◌, ◌<◌, refl, sym, ap, ◌∙◌, mod-lt, arith}
 use Rattle.cells.proofs.Places.{step_further, step_back}
 use Rattle.cells.proofs.next_place.Goals as goal
 
-pub returns-then-at-without : goal.returns-then-at-without
-returns-then-at-without c = let asked = c.args in
-    step_further asked.step asked.used asked.at (omega (arith, c.if-at-without.true, c.without.ensures))
-    (omega (arith, c.if-at-without.true, c.without.ensures, c.ranges.used.fits))
+-- what is taken off and added again, modulo 2^64
+back_again : (sum less : ℕ) → less < 2 ^ 64 → ((sum % 2 ^ 64 + (2 ^ 64 - less)) % 2 ^ 64 + less) % 2 ^ 64 ≡ sum % 2 ^ 64
+back_again sum less small = omega arith
+
+pub returns-then-at-saturating_sub : goal.returns-then-at-saturating_sub
+returns-then-at-saturating_sub c = let asked = c.args in
+    step_further asked.step asked.used asked.at (omega (arith, c.if-at-saturating_sub.true, c.saturating_sub.ensures))
+    (omega (arith, c.if-at-saturating_sub.true, c.saturating_sub.ensures, c.ranges.used.fits))
 
 pub returns : goal.returns
-returns c = step_back c.args.step c.args.used c.args.at c.wrapping_sub_usize.result
-    c.wrapping_add_usize-next.result
-    (omega (arith, c.if-at-without.false, c.without.ensures))
-    c.wrapping_sub_usize.type_inv
-    c.wrapping_add_usize-next.ensures.value
-    (ap (λ (n : ℕ). (c.wrapping_sub_usize.result + n) % 2 ^ 64) (sym c.without-2.ensures)
-    ∙ c.wrapping_sub_usize.ensures.value)
+returns c = let asked = c.args in
+    let less = c.saturating_sub-2.result in
+    let next = ((asked.at + asked.step) % 2 ^ 64 + (2 ^ 64 - less)) % 2 ^ 64 in
+    step_back asked.step asked.used asked.at next ((asked.at + asked.step) % 2 ^ 64)
+    (omega (arith, c.if-at-saturating_sub.false, c.saturating_sub.ensures)) (mod-lt _ (omega arith)) refl
+    (ap (λ (n : ℕ). (next + n) % 2 ^ 64) (sym c.saturating_sub-2.ensures)
+    ∙ back_again (asked.at + asked.step) less c.saturating_sub-2.type_inv)

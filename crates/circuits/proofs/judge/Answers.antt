@@ -1,66 +1,60 @@
 -- `circuits::judge` meets its contract.
 -- Assumes nothing.
-use mathlib.Core.Bool.{Bool}
-use mathlib.Core.Path.{◌≡◌, sym, ◌∙◌, ap}
-use Prim.Native.Nat.{ℕ, ◌<◌}
+use mathlib.Core.List.{List, ◌∷◌}
+use mathlib.Core.Logic.{inl}
+use mathlib.Core.Path.{◌≡◌, refl, sym, ◌∙◌, ap}
+use Prim.Native.Nat.{ℕ, ◌+◌, ◌≤◌, ◌<◌}
+use native.Mathlib.Numerals.{add-one}
 use native.Mathlib.Omega.{arith}
-use lib.ListN.{length}
-use Rattle.circuits.specs.Circuits.{fits_slots, cells_per_second}
+use lib.ListN.{length, get_or, drop, drop_of_length-le}
+use lib.Seq.{drop-cons}
 use Rattle.circuits.proofs.Laws.{judging_begun, judging_turned, share_fault, allowance_fault, judged_yes, judged_sum, fits_by}
 use Rattle.circuits.proofs.judge.Goals as goal
 
--- what was found of a share is so of the number in the list
-judged_as : (slots : ℕ) {share n : ℕ} {r : Bool} → r ≡ fits_slots slots share → share ≡ n → fits_slots slots n ≡ r
-judged_as slots found is = sym (found ∙ ap (fits_slots slots) is)
+-- the next circuit of those that are left
+first : (xs : List ℕ) (i : ℕ) → i < length xs → drop i xs ≡ get_or xs i 0 ∷ drop (i + 1) xs
+first xs i less = drop-cons xs i 0 less ∙ ap (λ (n : ℕ). get_or xs i 0 ∷ drop n xs) (sym (add-one i))
 
--- and so are its cells per second
-cells : (slots frequency : ℕ) {share n r : ℕ} → r ≡ cells_per_second slots share frequency → share ≡ n → r ≡ cells_per_second slots n frequency
-cells slots frequency found is = found ∙ ap (λ (n : ℕ). cells_per_second slots n frequency) is
+next : (xs ys : List ℕ) (i : ℕ) → length ys ≡ length xs → i < length xs
+    → (drop i xs ≡ get_or xs i 0 ∷ drop (i + 1) xs) × (drop i ys ≡ get_or ys i 0 ∷ drop (i + 1) ys)
+next xs ys i same less = (first xs i less, first ys i (omega (arith, same, less)))
+
+none : (xs : List ℕ) (i : ℕ) → length xs ≤ i → length (drop i xs) ≡ 0
+none xs i end = ap length (drop_of_length-le xs end)
 
 pub loop-i-init : goal.loop-i-init
-loop-i-init c = judging_begun _ _ _ _ _
+loop-i-init c = judging_begun _ _ _ _ _ c.requires.2 refl refl refl
 
 pub returns-then-not-fits_slots : goal.returns-then-not-fits_slots
 returns-then-not-fits_slots c =
-    let there : c.loop-i.i < length c.args.allowances.now = omega (arith, c.requires.2, c.loop-i-test.true) in
-    share_fault _ _ _ _ _ c.loop-i.invariant c.loop-i-test.true there
-    (judged_as _ c.fits_slots.ensures c.wide-share.ensures ∙ c.if-not-fits_slots.true)
+    let two = next c.args.shares.now c.args.allowances.now c.loop-i.i c.requires.2 c.loop-i-test.true in
+    share_fault _ _ _ _ _ c.loop-i.invariant two refl (sym c.fits_slots.ensures ∙ c.if-not-fits_slots.true)
 
 pub cells_per_second-requires : goal.cells_per_second-requires
 cells_per_second-requires c =
-    let is = c.wide-share.ensures in
-    let one = fits_by _ _ (judged_as _ c.fits_slots.ensures is ∙ c.if-not-fits_slots.false) in
-    (omega (arith, one.0, is), omega (arith, one.1, is), c.requires.0)
+    let one = fits_by _ _ (sym c.fits_slots.ensures ∙ c.if-not-fits_slots.false) in (one.0, one.1, c.requires.0)
 
-pub returns-then-wide-cells_per_second : goal.returns-then-wide-cells_per_second
-returns-then-wide-cells_per_second c =
-    let there : c.loop-i.i < length c.args.allowances.now = omega (arith, c.requires.2, c.loop-i-test.true) in
-    let fits = judged_as _ c.fits_slots.ensures c.wide-share.ensures ∙ c.if-not-fits_slots.false in
-    allowance_fault _ _ _ _ _ c.loop-i.invariant c.loop-i-test.true there fits
-    (omega (arith, cells _ _ c.cells_per_second.ensures c.wide-share.ensures, c.wide.ensures, c.if-wide-cells_per_second.true))
+pub returns-then-allowances-i : goal.returns-then-allowances-i
+returns-then-allowances-i c =
+    let two = next c.args.shares.now c.args.allowances.now c.loop-i.i c.requires.2 c.loop-i-test.true in
+    allowance_fault _ _ _ _ _ c.loop-i.invariant two (sym c.fits_slots.ensures ∙ c.if-not-fits_slots.false) refl
+    (omega (arith, c.cells_per_second.ensures, c.if-allowances-i.true))
 
 pub overflow_add-carried : goal.overflow_add-carried
 overflow_add-carried c =
-    let fits = judged_as _ c.fits_slots.ensures c.wide-share.ensures ∙ c.if-not-fits_slots.false in
-    omega (
-      arith,
-      (fits_by _ _ fits).1,
-      c.wide-share.ensures,
-      c.loop-i.invariant.few,
-      c.requires.0,
-      c.requires.1,
-      c.loop-i-test.true,
-    )
+    let so_far = c.loop-i.invariant in
+    omega (arith, so_far.few, so_far.many, (fits_by _ _ (sym c.fits_slots.ensures ∙ c.if-not-fits_slots.false)).1, c.requires.0, c.requires.1)
 
 pub loop-i-preserved : goal.loop-i-preserved
 loop-i-preserved c =
-    let there : c.loop-i.i < length c.args.allowances.now = omega (arith, c.requires.2, c.loop-i-test.true) in
-    let fits = judged_as _ c.fits_slots.ensures c.wide-share.ensures ∙ c.if-not-fits_slots.false in
-    judging_turned _ _ _ _ _ c.loop-i.invariant c.loop-i-test.true there fits c.requires.0
-    (omega (arith, cells _ _ c.cells_per_second.ensures c.wide-share.ensures, c.wide.ensures, c.if-wide-cells_per_second.false)) c.wide-share.ensures
+    let two = next c.args.shares.now c.args.allowances.now c.loop-i.i c.requires.2 c.loop-i-test.true in
+    judging_turned _ _ _ _ _ c.loop-i.invariant two (sym c.fits_slots.ensures ∙ c.if-not-fits_slots.false) c.requires.0
+    (omega (arith, c.cells_per_second.ensures, c.if-allowances-i.false)) refl
 
 pub returns-then-carried-channels : goal.returns-then-carried-channels
-returns-then-carried-channels c = judged_yes _ _ _ _ _ c.loop-i.invariant c.loop-i-test.false c.if-carried-channels.true
+returns-then-carried-channels c =
+    judged_yes _ _ _ _ _ c.loop-i.invariant (inl (none c.args.shares.now c.loop-i.i (omega (arith, c.loop-i-test.false)))) c.if-carried-channels.true
 
-pub returns : goal.returns
-returns c = judged_sum _ _ _ _ _ c.loop-i.invariant c.loop-i-test.false c.if-carried-channels.false
+pub returns-else-carried-channels : goal.returns-else-carried-channels
+returns-else-carried-channels c =
+    judged_sum _ _ _ _ _ c.loop-i.invariant (inl (none c.args.shares.now c.loop-i.i (omega (arith, c.loop-i-test.false)))) c.if-carried-channels.false

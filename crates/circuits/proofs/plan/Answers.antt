@@ -1,25 +1,31 @@
 -- `circuits::plan` meets its contract.
 -- Assumes nothing.
+use mathlib.Core.Path.{refl}
 use native.Mathlib.Omega.{arith}
-use Rattle.circuits.proofs.Laws.{plan_said, plan_refused, plan_taken, slots_given}
+use Rattle.std.proofs.lemmas.Result.{err_from_is_err_and}
+use Rattle.refusals.specs.Refusals.{refused_by}
+use Rattle.refusals.proofs.Laws.{number_not_0}
+use Rattle.circuits.proofs.Laws.{plan_format, plan_other, plan_taken, slots_given}
 use Rattle.circuits.proofs.plan.Goals as goal
 
-pub plan_refusal-refusal-requires : goal.plan_refusal-refusal-requires
-plan_refusal-refusal-requires c = slots_given _ c.settings-settled.ensures
+pub returns-in_err-slots : goal.returns-in_err-slots
+unfolding refused_by
+returns-in_err-slots c =
+    let p = err_from_is_err_and c.from_residual.result c.from_residual.ensures.1 in
+    rw (p.1, p.2) (plan_format _ _ _ c.in_err-slots.ensures refl (number_not_0 _))
 
-pub returns-then-refusal-ne0 : goal.returns-then-refusal-ne0
-returns-then-refusal-ne0 c =
-    let a = c.args in
-    let given = c.settings-settled.ensures in
-    plan_refused a.octet a.channels a.shares.now given
-    (plan_said a.octet a.channels a.shares.now given c.plan_refusal-refusal.ensures) c.if-refusal-ne0.true
+pub plan_checked-requires : goal.plan_checked-requires
+plan_checked-requires c = slots_given _ c.in_ok-slots.ensures
+
+pub returns-in_err-plan_checked : goal.returns-in_err-plan_checked
+unfolding refused_by
+returns-in_err-plan_checked c =
+    let p = err_from_is_err_and c.from_residual-in_err-plan_checked.result c.from_residual-in_err-plan_checked.ensures.1 in
+    rw (p.1, p.2) (plan_other _ _ _ c.in_ok-slots.ensures refl c.in_err-plan_checked.ensures (number_not_0 _))
 
 pub overflow_cast-slots : goal.overflow_cast-slots
-overflow_cast-slots c = omega (arith, slots_given _ c.settings-settled.ensures)
+overflow_cast-slots c = omega (arith, slots_given _ c.in_ok-slots.ensures)
 
 pub returns : goal.returns
-returns c =
-    let a = c.args in
-    let given = c.settings-settled.ensures in
-    plan_taken a.octet a.channels a.shares.now given
-    (plan_said a.octet a.channels a.shares.now given c.plan_refusal-refusal.ensures) c.if-refusal-ne0.false c.fill.ensures
+unfolding refused_by
+returns c = plan_taken _ _ _ c.in_ok-slots.ensures refl c.in_ok-plan_checked.ensures c.fill.ensures

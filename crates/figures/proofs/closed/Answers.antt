@@ -1,14 +1,16 @@
 -- `figures::closed` meets its contract.
 -- Assumes nothing.
-use mathlib.Core.Path.{sym, ◌∙◌}
+use mathlib.Core.Path.{refl, sym, ◌∙◌}
+use Rattle.refusals.specs.Refusals.{number_of}
 use Rattle.figures.proofs.Adding.{closed_many, closed_few, few_row}
 use Rattle.figures.proofs.closed.Goals as goal
 
 pub returns-then-too_many : goal.returns-then-too_many
-returns-then-too_many c = closed_many _ (sym c.too_many.ensures ∙ c.if-too_many.true) c.refused.ensures
+unfolding number_of
+returns-then-too_many c = closed_many _ (sym c.too_many.ensures ∙ c.if-too_many.true) refl
 
-pub row_of-row-requires : goal.row_of-row-requires
-row_of-row-requires c = few_row _ (sym c.too_many.ensures ∙ c.if-too_many.false)
+pub row_of-requires : goal.row_of-requires
+row_of-requires c = few_row _ (sym c.too_many.ensures ∙ c.if-too_many.false)
 
 pub returns : goal.returns
-returns c = closed_few _ (sym c.too_many.ensures ∙ c.if-too_many.false) c.row_of-row.ensures
+returns c = closed_few _ (sym c.too_many.ensures ∙ c.if-too_many.false) c.row_of.ensures

@@ -1,16 +1,19 @@
 -- `figures::sheet` meets its contract.: a law for each return.
 -- Assumes nothing.
+use mathlib.Core.Path.{refl}
 use native.Mathlib.Omega.{arith}
+use Rattle.refusals.specs.Refusals.{number_of}
 use Rattle.figures.proofs.Laws.{capped_row}
 use Rattle.figures.proofs.Refusals.{says_18, says_5, octets_are, rows_are, says_19, says_0}
 use Rattle.figures.proofs.sheet.Goals as goal
 
 pub returns-then-lengths-gt4096 : goal.returns-then-lengths-gt4096
-returns-then-lengths-gt4096 c = says_18 _ _ _ c.if-lengths-gt4096.true c.refused.ensures
+unfolding number_of
+returns-then-lengths-gt4096 c = says_18 _ _ _ c.if-lengths-gt4096.true refl
 
 pub returns-then-differ : goal.returns-then-differ
-returns-then-differ c = says_5 _ _ _ c.if-lengths-gt4096.false c.differ.ensures c.if-differ.true
-    c.refused-then-differ.ensures
+unfolding number_of
+returns-then-differ c = says_5 _ _ _ c.if-lengths-gt4096.false c.differ.ensures c.if-differ.true refl
 
 pub fill-counts-requires : goal.fill-counts-requires
 fill-counts-requires c = let few = c.if-lengths-gt4096.false in
@@ -20,9 +23,10 @@ fill-counts-requires c = let few = c.if-lengths-gt4096.false in
     )
 
 pub returns-then-too_many : goal.returns-then-too_many
+unfolding number_of
 returns-then-too_many c = says_19 _ _ _ c.if-lengths-gt4096.false c.differ.ensures c.if-differ.false
     c.fill-counts.ensures
-    c.too_many.ensures c.if-too_many.true c.refused-then-too_many.ensures
+    c.too_many.ensures c.if-too_many.true refl
 
 pub copy-requires : goal.copy-requires
 copy-requires c = let few = c.if-lengths-gt4096.false in
@@ -34,8 +38,8 @@ copy-requires c = let few = c.if-lengths-gt4096.false in
       c.fill-counts.auto.rows,
     )
 
-pub row_of-totals-requires : goal.row_of-totals-requires
-row_of-totals-requires c = capped_row _ c.fill-counts.ensures.totals_are
+pub row_of-requires : goal.row_of-requires
+row_of-requires c = capped_row _ c.fill-counts.ensures.totals_are
 
 pub shape_of-rows : goal.shape_of-rows
 shape_of-rows c = c.copy.auto.rows
@@ -43,4 +47,4 @@ shape_of-rows c = c.copy.auto.rows
 pub returns : goal.returns
 returns c = says_0 _ _ _ c.if-lengths-gt4096.false c.differ.ensures c.if-differ.false
     c.fill-counts.ensures
-    c.too_many.ensures c.if-too_many.false c.copy.ensures c.row_of-totals.ensures
+    c.too_many.ensures c.if-too_many.false c.copy.ensures c.row_of.ensures

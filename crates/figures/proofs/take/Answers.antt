@@ -4,14 +4,13 @@
 use mathlib.Core.Path.{sym, ◌∙◌, ap}
 use native.Mathlib.Nat.{pos_of_ne-zero}
 use native.Mathlib.Omega.{arith}
-use lib.ListN.{length}
 use Rattle.pieces.specs.declared.Stretch.{Stretch}
 use Rattle.pieces.proofs.Stretches.{none_found}
 use Rattle.figures.proofs.Walks.{going_start, going_turn, going_on, stretch_these, stretch_most, stretch_on, going_stretch, going_end}
 use Rattle.figures.proofs.take.Goals as goal
 
 pub loop-place-init : goal.loop-place-init
-loop-place-init c = let sized = c.sized.ensures in going_start (ap length (sym sized.0) ∙ sized.1)
+loop-place-init c = going_start (omega arith)
 
 pub step-noted-requires : goal.step-noted-requires
 step-noted-requires c = none_found c.at_once-most.result c.at_once-most.ensures.0

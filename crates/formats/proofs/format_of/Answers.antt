@@ -3,7 +3,7 @@
 use mathlib.Core.Path.{◌∙◌, sym}
 use Prim.Native.Nat.{◌≤◌}
 use native.Mathlib.Omega.{arith}
-use Rattle.formats.proofs.Laws.{no_format_lem, is_listed_lem, made_format, sample_le}
+use Rattle.formats.proofs.Laws.{finds, finds_none, sample_le}
 use Rattle.formats.proofs.format_of.Goals as goal
 use Rattle.formats.proofs.format_of.Goals.{Else-slots-eq0}
 
@@ -13,7 +13,7 @@ few c =
     omega (arith, sample_le c.args.octet, c.sample_bits-sample.ensures)
 
 pub returns-then-slots-eq0 : goal.returns-then-slots-eq0
-returns-then-slots-eq0 c = no_format_lem c.args.octet (sym c.slots_of-slots.ensures ∙ c.if-slots-eq0.true)
+returns-then-slots-eq0 c = finds_none c.args.octet (sym c.slots_of-slots.ensures ∙ c.if-slots-eq0.true)
 
 pub overflow_add-width : goal.overflow_add-width
 overflow_add-width c = omega (arith, few c)
@@ -22,6 +22,5 @@ pub overflow_add-width-2 : goal.overflow_add-width-2
 overflow_add-width-2 c = omega (arith, few c)
 
 pub returns : goal.returns
-returns c = let octet = c.args.octet in
-    let slots = c.slots_of-slots.ensures in
-    made_format octet c.sample_bits-sample.ensures slots (is_listed_lem octet (λ e. c.if-slots-eq0.false (slots ∙ e)))
+returns c = let slots = c.slots_of-slots.ensures in
+    finds c.args.octet (λ e. c.if-slots-eq0.false (slots ∙ e)) c.sample_bits-sample.ensures slots

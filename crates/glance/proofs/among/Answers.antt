@@ -2,14 +2,13 @@
 -- Assumes nothing.
 use mathlib.Core.Path.{refl, sym, ◌∙◌}
 use native.Mathlib.Omega.{arith}
-use borrow.Author.Rules.{rules}
 use Rattle.glance.specs.Glance.{some}
 use Rattle.glance.proofs.Some.{some_here, some_more, some_all}
 use Rattle.glance.proofs.among.Goals as goal
 
 pub loop-slot-init : goal.loop-slot-init
 unfolding some
-loop-slot-init c = (search rules, refl)
+loop-slot-init c = refl
 
 pub sounds_at-requires : goal.sounds_at-requires
 sounds_at-requires c = (c.requires.0, c.requires.1, omega (arith, c.loop-slot-test.true, c.requires.2))
@@ -19,7 +18,7 @@ returns-then-sounds_at c = sym (some_here _ _ c.loop-slot.slot c.loop-slot-test.
     (sym c.sounds_at.ensures ∙ c.if-sounds_at.true))
 
 pub loop-slot-preserved : goal.loop-slot-preserved
-loop-slot-preserved c = (search rules, some_more _ c.loop-slot.slot c.loop-slot.invariant.1 (sym c.sounds_at.ensures ∙ c.if-sounds_at.false))
+loop-slot-preserved c = some_more _ c.loop-slot.slot c.loop-slot.invariant (sym c.sounds_at.ensures ∙ c.if-sounds_at.false)
 
 pub returns : goal.returns
-returns c = some_all _ c.loop-slot.invariant.0 (omega (arith, c.loop-slot-test.false)) c.loop-slot.invariant.1
+returns c = some_all _ c.loop-slot.auto.slot-end (omega (arith, c.loop-slot-test.false)) c.loop-slot.invariant

@@ -9,5 +9,5 @@ overflow_mul-nine c = record { fits = shifted_fits _ _ c.requires.2 }
 pub returns-then-format-eq0 : goal.returns-then-format-eq0
 returns-then-format-eq0 c = protected_bare c.requires.0 c.requires.1 c.args.subframe c.if-format-eq0.true
 
-pub returns : goal.returns
-returns c = protected_v c.requires.0 c.requires.1 c.args.subframe c.if-format-eq0.false
+pub returns-else-format-eq0 : goal.returns-else-format-eq0
+returns-else-format-eq0 c = protected_v c.requires.0 c.requires.1 c.args.subframe c.if-format-eq0.false

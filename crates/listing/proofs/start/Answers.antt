@@ -5,5 +5,5 @@ use Rattle.listing.proofs.start.Goals as goal
 pub returns : goal.returns
 returns c = λ i. record {
   standing = c.start-standing.ensures i;
-  tally = record { state = (c.opened-opened.ensures i).state; records = 0; sound = 0; missing = 0; refused = 0 };
+  tally = record { state = (c.opened.ensures i).state; records = 0; sound = 0; missing = 0; refused = 0 };
 }

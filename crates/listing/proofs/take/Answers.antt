@@ -1,12 +1,12 @@
 -- `listing::take` meets its contract. The loop goes along the piece; the measure is what is left of it.
 -- Assumes nothing.
-use Rattle.std.proofs.Common.{length, sym, ap, ◌∙◌, arith}
+use Rattle.std.proofs.Common.{arith}
 use Rattle.pieces.proofs.Walks.{found_room}
 use Rattle.listing.proofs.Texts.{going_start, going_turn, going_on, going_end}
 use Rattle.listing.proofs.take.Goals as goal
 
 pub loop-place-init : goal.loop-place-init
-loop-place-init c = let sized = c.sized.ensures in going_start (ap length (sym sized.0) ∙ sized.1)
+loop-place-init c = going_start (omega arith)
 
 pub step-stepped-requires : goal.step-stepped-requires
 step-stepped-requires c two = found_room c.next-found.ensures two

@@ -1,8 +1,7 @@
 -- `numbers::number_of` meets its contract: four bits that the number in the other four asks find what the whole table holds.
 -- Assumes nothing.
+use Rattle.std.specs.Prelude.{Option, Some}
 use Rattle.std.proofs.Common.{◌≡◌, ℕ, ◌/◌, ◌%◌, sym, ap, ◌∙◌, subst}
-use Rattle.numbers.specs.declared.Found.{Found}
-use Rattle.numbers.specs.declared.Found.TheVariants.{Number}
 use Rattle.numbers.specs.Numbers.{entry_of, found_of, Finds}
 use Rattle.numbers.specs.Code.{sequence_of}
 use Rattle.numbers.proofs.Laws.{other_four, four_number, four_nothing, finds}
@@ -21,12 +20,12 @@ asked c =
     ∙ ap (λ (n : ℕ). sequence_of (entry_of (n % 16)) 0) c.turned_round-number.ensures))
 
 -- what is returned is what the table has
-said : (word : ℕ) {found : Found} → found ≡ found_of word → Finds word found
+said : (word : ℕ) {found : Option ℕ} → found ≡ found_of word → Finds word found
 said word e = subst (λ f. Finds word f) (sym e) (finds word)
 
 pub returns-then-first_eight-turned_round : goal.returns-then-first_eight-turned_round
 returns-then-first_eight-turned_round c = said (from c.before).args.word
-    (ap Number c.turned_round-number.ensures
+    (ap Some c.turned_round-number.ensures
     ∙ four_number (from c.before).ranges.word.fits (asked c.before ∙ c.if-first_eight-turned_round.true ∙ c.turned_round.ensures))
 
 pub returns-else-first_eight-turned_round : goal.returns-else-first_eight-turned_round

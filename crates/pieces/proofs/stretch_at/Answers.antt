@@ -1,6 +1,6 @@
 -- `pieces::stretch_at` meets its contract.
 -- Assumes nothing.
-use Rattle.std.proofs.Common.{arith}
+use Rattle.std.proofs.Common.{refl, arith}
 use Rattle.pieces.proofs.Stretches.{stretch_fits, past_none, past_some}
 use Rattle.pieces.proofs.stretch_at.Goals as goal
 
@@ -17,4 +17,4 @@ pub overflow_sub-left : goal.overflow_sub-left
 overflow_sub-left c = omega (arith, (stretch_fits _ _ _ _ c.whole_ahead-records.ensures).1)
 
 pub returns : goal.returns
-returns c = past_some _ _ c.whole_ahead-records.ensures c.if-records-eq0.false c.wrapping_add_u64-counted.ensures.value
+returns c = past_some _ _ c.whole_ahead-records.ensures c.if-records-eq0.false refl

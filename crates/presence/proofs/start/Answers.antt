@@ -6,5 +6,5 @@ use Rattle.presence.proofs.start.Goals as goal
 pub returns : goal.returns
 returns c = λ i. record {
   standing = c.start-standing.ensures i;
-  sought = record { state = (c.opened-opened.ensures i).state; refusal = 0; found = false; number = 0 };
+  sought = record { state = (c.opened.ensures i).state; refusal = 0; found = false; number = 0 };
 }

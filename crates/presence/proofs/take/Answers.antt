@@ -1,13 +1,13 @@
 -- `presence::take` meets its contract.
 -- Assumes nothing.
-use Rattle.std.proofs.Common.{length, sym, ap, ◌∙◌, arith}
+use Rattle.std.proofs.Common.{arith}
 use Rattle.pieces.proofs.Walks.{found_room}
 use Rattle.presence.proofs.Going.{going_start, going_turn, going_on, going_end}
 use Rattle.presence.proofs.take.Goals as goal
 
 pub loop-place-init : goal.loop-place-init
 loop-place-init c =
-    let sized = c.sized.ensures in going_start (ap length (sym sized.0) ∙ sized.1)
+    going_start (omega arith)
 
 pub step-sought-requires : goal.step-sought-requires
 step-sought-requires c two = found_room c.next-found.ensures two

@@ -6,5 +6,5 @@ pub returns : goal.returns
 returns c = λ i. record {
   standing = c.start-standing.ensures i;
   octets = 0;
-  tally = record { state = (c.opened-opened.ensures i).state; refusal = 0; taken = 0; kept = 0; left_out = 0 };
+  tally = record { state = (c.opened.ensures i).state; refusal = 0; taken = 0; kept = 0; left_out = 0 };
 }

@@ -1,12 +1,12 @@
 -- `salvaging::take` meets its contract.
 -- Assumes nothing.
-use Rattle.std.proofs.Common.{length, sym, ap, ◌∙◌, arith}
+use Rattle.std.proofs.Common.{refl, arith}
 use Rattle.pieces.proofs.Walks.{found_room}
 use Rattle.salvaging.proofs.Going.{going_start, going_turn, going_on, going_end}
 use Rattle.salvaging.proofs.take.Goals as goal
 
 pub loop-place-init : goal.loop-place-init
-loop-place-init c = let sized = c.sized.ensures in going_start (ap length (sym sized.0) ∙ sized.1)
+loop-place-init c = going_start (omega arith)
 
 pub step-stepped-requires : goal.step-stepped-requires
 step-stepped-requires c two = found_room c.next-found.ensures two
@@ -26,4 +26,4 @@ shape_of-notes c = c.loop-place.invariant.same_notes
 
 pub returns : goal.returns
 returns c = going_end c.args.salvaging
-    c.loop-place.invariant c.loop-place-test.false c.wrapping_add_usize-octets.ensures.value
+    c.loop-place.invariant c.loop-place-test.false refl

@@ -1,22 +1,36 @@
 -- `saving::count` meets its contract. The loop goes along the records; the measure is what is left of the log.
 -- Assumes nothing.
-use mathlib.Core.Path.{refl}
-use Rattle.saving.proofs.Walks.{start_again, walking_start, walking_less, walking_turn, counted}
+use mathlib.Core.Path.{◌≡◌, refl, sym, ◌∙◌, ap}
+use native.Mathlib.Omega.{arith}
+use borrow.Author.Rules.{rules}
+use Rattle.std.specs.Prelude.{None}
+use Rattle.cell_log.specs.Records.{record_answered}
+use Rattle.cell_log.proofs.Answered.{answered_some, answered_none}
+use Rattle.saving.proofs.Walks.{start_again, walking_start, seen, walking_less, walking_turn, counted}
 use Rattle.saving.proofs.count.Goals as goal
 
-pub loop-found-init : goal.loop-found-init
-loop-found-init c = walking_start _ _ c.requires (start_again c.start-here.ensures) c.read_record-found.ensures
+pub loop-record-init : goal.loop-record-init
+loop-record-init c = walking_start _ _ c.requires (start_again c.start-here.ensures) refl
 
 pub after-here-requires : goal.after-here-requires
-after-here-requires c = c.loop-found.invariant.far
+after-here-requires c = c.loop-record.invariant.far
 
-pub loop-found-smaller : goal.loop-found-smaller
-loop-found-smaller c = walking_less c.loop-found.invariant c.loop-found-test.true c.judged-got.result
+pub loop-record-smaller : goal.loop-record-smaller
+loop-record-smaller c =
+    walking_less (seen c.loop-record.invariant (answered_some _ c.in-Ok-Some.field-0-is c.in-Ok-Some.ensures)) refl c.judged-got.result
     c.after-here.ensures
 
-pub loop-found-preserved : goal.loop-found-preserved
-loop-found-preserved c = walking_turn c.loop-found.invariant c.loop-found-test.true c.read_cell.ensures.0
-    c.judged-got.ensures c.after-here.ensures c.read_record-found-in-loop-found.ensures
+pub loop-record-preserved : goal.loop-record-preserved
+loop-record-preserved c =
+    walking_turn (seen c.loop-record.invariant (answered_some _ c.in-Ok-Some.field-0-is c.in-Ok-Some.ensures)) refl c.read_cell.ensures.0
+    c.judged-got.ensures c.after-here.ensures refl
 
-pub returns : goal.returns
-returns c = counted c.loop-found.invariant c.loop-found-test.false c.start-here.ensures refl
+pub returns-in_default : goal.returns-in_default
+returns-in_default c =
+    let none : c.in_default.field-0 ≡ None = search rules in
+    counted (seen c.loop-record.invariant (answered_none _ none (ap (record_answered c.loop-record.here.place) (sym c.in_default.is) ∙ c.read_record.ensures))) (λ e. omega arith) c.start-here.ensures refl
+
+pub returns-in_default-2 : goal.returns-in_default-2
+returns-in_default-2 c =
+    let refused = ap (record_answered c.loop-record.here.place) (sym c.in_default.is) ∙ c.read_record.ensures in
+    counted (seen c.loop-record.invariant refused) (λ e. omega arith) c.start-here.ensures refl

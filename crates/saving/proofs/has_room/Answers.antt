@@ -1,6 +1,7 @@
 -- `saving::has_room` meets its contract: a law for each return.
 -- Assumes nothing.
 use native.Mathlib.Omega.{arith}
+use borrow.Author.Tests.{lt-leb}
 use Rattle.reading.proofs.Reading.{header_long}
 use Rattle.saving.proofs.Answers.{few, out_short, by_list, room_always}
 use Rattle.saving.proofs.has_room.Goals as goal
@@ -20,11 +21,13 @@ overflow_mul-counted c = omega (arith, c.well_formed, few _ c.requires.0 c.requi
 pub overflow_add-counted : goal.overflow_add-counted
 overflow_add-counted c = omega (arith, c.well_formed, few _ c.requires.0 c.requires.1 c.count-counted.ensures)
 
-pub returns-then-out-counted : goal.returns-then-out-counted
-returns-then-out-counted c = out_short _ c.requires.0 c.requires.1 c.count-counted.ensures _ _ c.if-out-counted.true
+pub returns-else-counted-out : goal.returns-else-counted-out
+returns-else-counted-out c =
+    rw (lt-leb _ _ c.if-counted-out.false)
+    (out_short _ c.requires.0 c.requires.1 c.count-counted.ensures _ _ c.if-counted-out.false)
 
 pub overflow_mul-result : goal.overflow_mul-result
 overflow_mul-result c = omega (arith, c.well_formed, few _ c.requires.0 c.requires.1 c.count-counted.ensures)
 
-pub returns : goal.returns
-returns c = by_list _ c.requires.0 c.requires.1 c.count-counted.ensures _ _ c.if-out-counted.false
+pub returns-then-counted-out : goal.returns-then-counted-out
+returns-then-counted-out c = by_list _ c.requires.0 c.requires.1 c.count-counted.ensures _ _ c.if-counted-out.true

@@ -2,13 +2,14 @@
 use Prim.Native.Nat.{◌-◌}
 use lib.ListN.{length}
 use Rattle.saving.specs.Code.{Room}
+use Rattle.cell_log.specs.Records.{record_at}
 use Rattle.saving.proofs.Walks.{Walking, Putting}
 use Rattle.saving.proofs.write.Given as goal
 
-abbrev pub invariant-loop-found : goal.invariant-loop-found
-invariant-loop-found l = Room l.log l.initial.here.state (length l.initial.out) (length l.initial.list)
-    × Walking l.log l.initial.here.state l.here l.found
+abbrev pub invariant-loop-record : goal.invariant-loop-record
+invariant-loop-record l = Room l.log l.initial.here.state (length l.initial.out) (length l.initial.list)
+    × Walking l.log l.initial.here.state l.here (record_at l.log l.here.place)
     × Putting l.log l.initial.here.state l.initial.out l.initial.list l.here l.out l.list
 
-abbrev pub decreases-loop-found : goal.decreases-loop-found
-decreases-loop-found l = length l.log - l.here.place
+abbrev pub decreases-loop-record : goal.decreases-loop-record
+decreases-loop-record l = length l.log - l.here.place

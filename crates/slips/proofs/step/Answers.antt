@@ -1,87 +1,55 @@
--- `slips::step` meets its contract. In each answer: `can`, the watch can be; `follow`, the report follows; `by`, how many blocks start.
+-- `slips::step` meets its contract.
 -- Assumes nothing.
-use mathlib.Core.Path.{sym, ◌∙◌, ap}
+use mathlib.Core.List.{List}
+use mathlib.Core.Path.{◌≡◌, sym, ◌∙◌, ap, subst}
 use Prim.Native.Nat.{ℕ}
-use native.Mathlib.Omega.{arith}
-use native.Mathlib.Numerals.{add-one}
-use Rattle.slips.specs.Slips.{starts_of}
-use Rattle.slips.specs.Watch.{told, new_step, sure_step}
-use Rattle.slips.specs.declared.Watch.{Watch}
-use Rattle.slips.proofs.Laws.{can_be_lem, follows}
-use Rattle.slips.proofs.Steps.{step_4, step_31, step_first, step_new, step_sure}
+use Rattle.std.proofs.lemmas.Result.{err_from_is_err_and}
+use Rattle.refusals.specs.Refusals.{number_of, refused_by}
+use Rattle.refusals.proofs.Laws.{number_not_0}
+use Rattle.slips.specs.Watch.{Watch, told, refused, step_of}
+use Rattle.slips.specs.Known.{what_of, cells_of, watch_in, octets_in}
+use Rattle.slips.proofs.Steps.{step_4, step_refused, taken_then}
 use Rattle.slips.proofs.step.Goals as goal
 
-pub returns-then-watch_refused : goal.returns-then-watch_refused
-returns-then-watch_refused c =
+-- what is refused of a watch is refused of its octets
+of_octets : (missing number second : ℕ) {n : ℕ} {v w : Watch} → v ≡ w → refused n v ≡ step_of v missing number second
+    → refused n w ≡ step_of w missing number second
+of_octets missing number second {n} is said = subst (λ (w : Watch). refused n w ≡ step_of w missing number second) is said
+
+pub returns-in_err-seen : goal.returns-in_err-seen
+unfolding refused_by number_of
+returns-in_err-seen c =
+    let p = err_from_is_err_and c.from_residual.result c.from_residual.ensures.1 in
+    let read = c.in_err-seen.ensures in
+    rw (p.1, p.2, read.0) (record { step = sym (step_4 _ _ _ _ read.1); octets = tt })
+
+pub returns-in_err-checked : goal.returns-in_err-checked
+unfolding refused_by
+returns-in_err-checked c =
     let a = c.args in
-    c.refused_with.ensures ∙ sym (step_4 a.watch a.missing a.number a.second (sym c.watch_refused.ensures ∙ c.if-watch_refused.true))
+    let p = err_from_is_err_and c.from_residual-in_err-checked.result c.from_residual-in_err-checked.ensures.1 in
+    let read = c.in_ok-seen.ensures in
+    rw (p.1, p.2)
+    (record {
+      step =
+          of_octets a.missing a.number a.second read.0 (step_refused _ _ _ _ c.in_err-checked.ensures (number_not_0 _));
+      octets = tt;
+    })
 
-pub returns-then-report_refused : goal.returns-then-report_refused
-returns-then-report_refused c =
-    let a = c.args in
-    let can = sym c.watch_refused.ensures ∙ c.if-watch_refused.false in
-    c.refused_with-then-report_refused.ensures
-    ∙ sym (step_31 a.watch a.missing a.number a.second can (sym c.report_refused.ensures ∙ c.if-report_refused.true))
-
-pub returns-then-watch-eq0 : goal.returns-then-watch-eq0
-returns-then-watch-eq0 c =
-    let a = c.args in
-    let can = sym c.watch_refused.ensures ∙ c.if-watch_refused.false in
-    let follow = sym c.report_refused.ensures ∙ c.if-report_refused.false in
-    c.told_with.ensures ∙ ap (λ (w : Watch). told w 0 0) c.begun_with.ensures
-    ∙ sym (step_first a.watch a.missing a.number a.second can follow c.if-watch-eq0.true)
-
-pub overflow_add-missing : goal.overflow_add-missing
-overflow_add-missing c =
-    let a = c.args in
-    let follow = sym c.report_refused.ensures ∙ c.if-report_refused.false in
-    omega (arith, (follows a.watch a.missing a.number a.second follow).missing_to)
-
-pub starts-by-requires : goal.starts-by-requires
-starts-by-requires c =
-    let a = c.args in
-    let follow = sym c.report_refused.ensures ∙ c.if-report_refused.false in
-    let k = can_be_lem a.watch (sym c.watch_refused.ensures ∙ c.if-watch_refused.false) in (
-      omega (arith, k.number_to, k.started_to),
-      omega (arith, (follows a.watch a.missing a.number a.second follow).missing_to),
-    )
-
-pub returns-then-watch-eq0-2 : goal.returns-then-watch-eq0-2
-returns-then-watch-eq0-2 c =
-    let a = c.args in
-    let can = sym c.watch_refused.ensures ∙ c.if-watch_refused.false in
-    let follow = sym c.report_refused.ensures ∙ c.if-report_refused.false in
-    let by = c.starts-by.ensures.0 ∙ ap (starts_of a.watch.number) (add-one a.missing) in
-    c.new_step.ensures
-    ∙ ap (λ (n : ℕ). new_step a.watch a.number a.second n) by
-    ∙ sym (step_new a.watch a.missing a.number a.second can follow c.if-watch-eq0.false c.if-watch-eq0-2.true)
-
-pub settled_step-requires : goal.settled_step-requires
-settled_step-requires c =
-    let k = can_be_lem c.args.watch (sym c.watch_refused.ensures ∙ c.if-watch_refused.false) in
-    (c.if-watch-eq0-3.true, omega (arith, k.may_waits, c.if-watch-eq0-3.true), c.starts-by.ensures.1)
-
-pub returns-then-watch-eq0-3 : goal.returns-then-watch-eq0-3
-returns-then-watch-eq0-3 c =
-    let a = c.args in
-    let can = sym c.watch_refused.ensures ∙ c.if-watch_refused.false in
-    let follow = sym c.report_refused.ensures ∙ c.if-report_refused.false in
-    let by = c.starts-by.ensures.0 ∙ ap (starts_of a.watch.number) (add-one a.missing) in
-    c.settled_step.ensures
-    ∙ ap (λ (n : ℕ). sure_step a.watch a.number a.second n) by
-    ∙ sym (step_sure a.watch a.missing a.number a.second can follow c.if-watch-eq0.false c.if-watch-eq0-2.false)
-
-pub waiting_step-requires : goal.waiting_step-requires
-waiting_step-requires c =
-    let k = can_be_lem c.args.watch (sym c.watch_refused.ensures ∙ c.if-watch_refused.false) in
-    (omega (arith, k.waits_to, k.started_to, c.if-watch-eq0-3.false), omega (arith, k.may_waits, k.waits_to, k.started_to), c.starts-by.ensures.1)
+pub forward-after-requires : goal.forward-after-requires
+unfolding refused_by
+forward-after-requires c = sym c.in_ok-checked.ensures
 
 pub returns : goal.returns
+unfolding refused_by
 returns c =
     let a = c.args in
-    let can = sym c.watch_refused.ensures ∙ c.if-watch_refused.false in
-    let follow = sym c.report_refused.ensures ∙ c.if-report_refused.false in
-    let by = c.starts-by.ensures.0 ∙ ap (starts_of a.watch.number) (add-one a.missing) in
-    c.waiting_step.ensures
-    ∙ ap (λ (n : ℕ). sure_step a.watch a.number a.second n) by
-    ∙ sym (step_sure a.watch a.missing a.number a.second can follow c.if-watch-eq0.false c.if-watch-eq0-2.false)
+    let is = c.octets.ensures in
+    record {
+      step =
+          ap (λ (o : List ℕ). told (watch_in o) (what_of c.forward-after.result.1) (cells_of c.forward-after.result.1)) is
+          ∙ c.forward-after.ensures
+          ∙ taken_then _ _ _ _ (sym c.in_ok-checked.ensures)
+          ∙ ap (λ (w : Watch). step_of w a.missing a.number a.second) c.in_ok-seen.ensures.0;
+      octets = is ∙ ap (λ (o : List ℕ). octets_in (watch_in o)) (sym is);
+    }

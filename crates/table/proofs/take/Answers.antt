@@ -2,7 +2,7 @@
 -- Assumes nothing.
 use Rattle.std.proofs.Common.{◌+◌, ◌<◌, ◌≤◌, length, arith}
 use native.Mathlib.Nat.{add-sub_cancel_left}
-use Rattle.table.proofs.Taken.{going_start, going_on, going_turn, going_end}
+use Rattle.table.proofs.Taken.{going_on, going_turn, going_end}
 use Rattle.table.proofs.take.Goals as goal
 use Rattle.table.proofs.take.Goals.{After-ahead-step}
 
@@ -12,9 +12,6 @@ on : (c : After-ahead-step)
     × (c.loop-place.place + c.ahead-step.result.used ≤ length c.args.piece.now)
     × (c.loop-place.place + c.ahead-step.result.octets ≤ length c.args.piece.now)
 on c = going_on c.loop-place.invariant c.loop-place-test.true c.ahead-step.ensures
-
-pub loop-place-init : goal.loop-place-init
-loop-place-init c = going_start _ _
 
 pub overflow_add-end : goal.overflow_add-end
 overflow_add-end c = omega (arith, (on (goal.at.overflow_add-end c).After-ahead-step).2, c.well_formed)

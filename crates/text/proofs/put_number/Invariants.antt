@@ -1,5 +1,4 @@
 -- `text::put_number` meets its contract. The loop stores the digits from the last one on; the measure is what is left of the number.
-use Prim.Native.Nat.{◌-◌}
 use Rattle.text.proofs.Laws.{Digits}
 use Rattle.text.proofs.put_number.Given as goal
 

@@ -32,4 +32,4 @@ overflow_shr-result c = omega (arith, c.low_of-low.ensures.1)
 pub returns : goal.returns
 returns c = mark_by c.requires.0 c.requires.1 c.args.cell.now c.requires.2 c.args.slot c.requires.3
     (λ i. (c.shared_slice_known-1.given i).fits) c.key_of.ensures.0 c.key_of.ensures.1
-    c.marks_for_figures-bits.ensures c.low_of-low.ensures.0 c.low_of-low.ensures.1
+    c.marks-bits.ensures c.low_of-low.ensures.0 c.low_of-low.ensures.1

@@ -10,8 +10,8 @@ use Rattle.figures.proofs.record.header_of.Goals.{Start}
 size : (c : Start) → length c.args.held ≡ 49
 size c = c.well_formed.0.1.0.1
 
-pub slice_bounds-read_header-end : goal.slice_bounds-read_header-end
-slice_bounds-read_header-end c = sym (length-take-le 3 c.args.held (omega (arith, size (goal.at.slice_bounds-read_header-end c).Start)))
+pub slice_bounds-header_numbers-end : goal.slice_bounds-header_numbers-end
+slice_bounds-header_numbers-end c = sym (length-take-le 3 c.args.held (omega (arith, size (goal.at.slice_bounds-header_numbers-end c).Start)))
 
 pub returns : goal.returns
-returns c = c.read_header.ensures
+returns c = c.header_numbers.ensures

@@ -1,14 +1,19 @@
 -- `figures::record::step` meets its contract: a law for each kind of what was found.
 -- Assumes nothing.
 use mathlib.Core.List.{[]}
-use Rattle.figures.proofs.Walks.{notes_held, notes_header, notes_nothing}
+use Rattle.pieces.specs.Found.{numbered}
+use Rattle.pieces.proofs.Parts.{parts_held, parts_header}
+use Rattle.figures.proofs.Walks.{found_one, notes_nothing}
 use Rattle.figures.proofs.record.step.Goals as goal
 
-pub returns-then-found-eq3 : goal.returns-then-found-eq3
-returns-then-found-eq3 c = notes_held c.args.noted c.args.found c.args.held.now [] 0 c.if-found-eq3.true c.counted.ensures
+pub returns-in-Held : goal.returns-in-Held
+returns-in-Held c =
+    found_one c.args.noted (numbered c.args.found) c.args.held.now [] 0 _ (parts_held c.args.found c.args.held.now [] 0 c.in-Held.is) c.counted.ensures
 
-pub returns-then-found-eq1 : goal.returns-then-found-eq1
-returns-then-found-eq1 c = notes_header c.args.noted c.args.found c.args.held.now [] 0 c.if-found-eq1.true c.begun.ensures
+pub returns-in-Header : goal.returns-in-Header
+returns-in-Header c =
+    found_one c.args.noted (numbered c.args.found) c.args.held.now [] 0 _ (parts_header c.args.found c.args.held.now [] 0 c.in-Header.is) c.begun.ensures
 
-pub returns : goal.returns
-returns c = notes_nothing c.args.noted c.args.found c.args.held.now [] 0 c.if-found-eq1.false c.requires c.if-found-eq3.false
+pub returns-in_default : goal.returns-in_default
+returns-in_default c =
+    notes_nothing c.args.noted c.args.found c.args.held.now [] 0 c.in_default.not-Header c.requires c.in_default.not-Held

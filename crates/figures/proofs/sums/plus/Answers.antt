@@ -6,6 +6,5 @@ use Rattle.figures.proofs.sums.plus.Goals as goal
 
 pub returns : goal.returns
 unfolding capped
-returns c = same_counts c.sum-sound.ensures c.sum-missing.ensures c.sum-refused_8.ensures c.sum-refused_9.ensures c.sum-refused_15.ensures
-    c.sum-refused_20.ensures
-    c.sum-marked_0.ensures c.sum-marked_1.ensures c.sum-marked_2.ensures
+returns c = same_counts c.sum.ensures c.sum-2.ensures c.sum-3.ensures c.sum-4.ensures c.sum-5.ensures c.sum-6.ensures
+    c.sum-7.ensures c.sum-8.ensures c.sum-9.ensures

@@ -1,36 +1,44 @@
--- `hearing::judging::walk` meets its contract. The loop: so many records are judged. The measure is how many may still be.
+-- `hearing::judging::walk` meets its contract. The loop: so many records are judged.
 -- Assumes nothing.
+use mathlib.Core.Path.{◌≡◌, refl, ◌∙◌, ap}
+use Prim.Native.Nat.{ℕ, ◌/◌}
 use native.Mathlib.Omega.{arith}
-use Rattle.hearing.proofs.Walks.{room_for_five, one_fewer, begun, turned, ends_full, ends_there}
+use lib.ListN.{length}
+use Rattle.cell_log.proofs.Answered.{answered_some, answered_none}
+use Rattle.receiver.specs.declared.Receiver.{Receiver}
+use Rattle.hearing.specs.declared.judging.Judged.{Judged}
+use Rattle.hearing.proofs.Walks.{room_for_five, begun, seen, turned, ends_full, ends_there}
 use Rattle.hearing.proofs.judging.walk.Goals as goal
 
+-- a walk that ended, by why it stopped
+abbrev stopped : Receiver → ℕ → ℕ → ℕ → Judged
+stopped state next records stop = record { refusal = 0; state = state; next = next; records = records; stop = stop }
+
 pub loop-records-init : goal.loop-records-init
-loop-records-init c = begun _ _ _ _ c.read_record-found.ensures
-
-pub shape_of-reports-then-found-ne1 : goal.shape_of-reports-then-found-ne1
-shape_of-reports-then-found-ne1 c = c.loop-records.invariant.same
-
-pub returns-then-found-ne1 : goal.returns-then-found-ne1
-returns-then-found-ne1 c = ends_there _ _ _ _ c.loop-records.invariant c.if-found-ne1.true c.ended.ensures
-
-pub overflow_mul-records : goal.overflow_mul-records
-overflow_mul-records c = omega (arith, c.loop-records-test.true, c.well_formed)
+loop-records-init c = begun _ _ _ _ refl
 
 pub put-requires : goal.put-requires
 put-requires c = room_for_five c.loop-records.reports c.args.reports.now c.loop-records.invariant.same c.loop-records-test.true
 
-pub overflow_add-records : goal.overflow_add-records
-overflow_add-records c = omega (arith, c.loop-records-test.true, c.well_formed)
-
-pub loop-records-smaller : goal.loop-records-smaller
-loop-records-smaller c = one_fewer c.loop-records-test.true
-
 pub loop-records-preserved : goal.loop-records-preserved
-loop-records-preserved c = turned _ _ _ _ c.loop-records.invariant c.if-found-ne1.false c.loop-records-test.true c.read_cell.ensures.0
-    c.judged-got.ensures c.put.ensures c.put.auto.reports c.read_record-found-in-loop-records.ensures
+loop-records-preserved c =
+    let read = answered_some _ c.in-Ok-Some.field-0-is c.in-Ok-Some.ensures in
+    turned _ _ _ _ (seen _ _ _ _ c.loop-records.invariant read) refl c.loop-records-test.true c.read_cell.ensures.0
+    c.judged-got.ensures c.put.ensures c.put.auto.reports refl
 
-pub shape_of-reports : goal.shape_of-reports
-shape_of-reports c = c.loop-records.invariant.same
+pub returns-in-Ok-None : goal.returns-in-Ok-None
+returns-in-Ok-None c =
+    let read = answered_none _ c.in-Ok-None.field-0-is c.in-Ok-None.ensures in
+    ends_there _ _ _ _ (seen _ _ _ _ c.loop-records.invariant read) (λ e. omega arith) c.ended.ensures
+
+pub returns-in-Err : goal.returns-in-Err
+returns-in-Err c =
+    let loop = c.loop-records in
+    ends_there _ _ _ _ (seen _ _ _ _ loop.invariant c.in-Err.ensures) (λ e. omega arith)
+    (c.ended-in-Err.ensures ∙ ap (stopped loop.now loop.at loop.records) c.into.ensures)
 
 pub returns : goal.returns
-returns c = ends_full _ _ _ _ c.loop-records.invariant c.loop-records-test.false c.ended-2.ensures
+returns c = let l = c.loop-records in
+    let all : length c.args.reports.now / 5 ≡ l.records = omega (arith, l.auto.records-end, c.loop-records-test.false) in
+    ends_full _ _ _ _ l.invariant c.loop-records-test.false
+    (c.ended-2.ensures ∙ ap (λ (n : ℕ). stopped l.now l.at n c.stop_at.result) all ∙ ap (stopped l.now l.at l.records) c.stop_at.ensures)

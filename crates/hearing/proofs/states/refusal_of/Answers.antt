@@ -10,6 +10,6 @@ pub returns-then-is_of_state : goal.returns-then-is_of_state
 returns-then-is_of_state c = (state_refused c.args.state (replicate 48 0) (length-replicate {A = ℕ} 48 0) c.judged-asked.ensures
     (sym c.is_of_state.ensures ∙ c.if-is_of_state.true)).0
 
-pub returns : goal.returns
-returns c = sym (state_sound c.args.state (replicate 48 0) (length-replicate {A = ℕ} 48 0) c.judged-asked.ensures
+pub returns-else-is_of_state : goal.returns-else-is_of_state
+returns-else-is_of_state c = sym (state_sound c.args.state (replicate 48 0) (length-replicate {A = ℕ} 48 0) c.judged-asked.ensures
     (sym c.is_of_state.ensures ∙ c.if-is_of_state.false))

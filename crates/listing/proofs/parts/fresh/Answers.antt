@@ -9,4 +9,4 @@ abbrev tally_of_lem : Ready → Tally
 tally_of_lem opened = record { state = opened.state; records = 0; sound = 0; missing = 0; refused = 0 }
 
 pub returns : goal.returns
-returns c = ap tally_of_lem c.opened-opened.ensures
+returns c = ap tally_of_lem c.opened.ensures

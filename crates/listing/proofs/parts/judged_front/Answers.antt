@@ -8,5 +8,4 @@ use Rattle.listing.proofs.parts.judged_front.Goals as goal
 pub returns : goal.returns
 unfolding front_of
 returns c = c.judged.ensures
-    ∙ (λ i. judged_of c.args.state (c.read_cell.ensures.0 i)
-    (c.read_record-record.ensures i).indication)
+    ∙ (λ i. judged_of c.args.state (c.read_cell.ensures.0 i) (c.read_indication.ensures i))

@@ -1,31 +1,31 @@
 -- `listing::parts::step` meets its contract: a law for each kind of what was found.
 -- Assumes nothing.
-use Rattle.std.proofs.Common.{sym, ap, ◌∙◌}
-use Rattle.listing.specs.Taking.{judged_front}
-use Rattle.listing.proofs.Texts.{tells_record, tells_header, tells_nothing, tells_refused, tells_broken}
+use Rattle.std.proofs.Common.{refl, sym, ap, ◌∙◌}
+use Rattle.pieces.proofs.Parts.{parts_record, parts_header, parts_fault, parts_none}
+use Rattle.cell_log.specs.Answers.{Header}
+use Rattle.listing.specs.Lines.{format_line}
+use Rattle.listing.specs.List.{line_of}
+use Rattle.listing.specs.Taking.{part_text, part_tally, fresh_tally, after_of}
+use Rattle.listing.proofs.Texts.{tells, tells_none, fault_counts}
 use Rattle.listing.proofs.parts.step.Goals as goal
 
-pub returns-then-is_record : goal.returns-then-is_record
-returns-then-is_record c = tells_record c.args.tally c.args.found c.args.held.now c.args.piece.now c.args.place
-    c.requires
-    (sym c.is_record.ensures ∙ c.if-is_record.true)
-    (c.judged_front-got.ensures ∙ ap (judged_front c.args.tally.state) c.record_octets-octets.ensures)
-    c.record_line-past.ensures c.after-counted.ensures
+pub returns-in-Some : goal.returns-in-Some
+unfolding part_text part_tally
+returns-in-Some c =
+    tells _ (parts_record _ _ _ _ c.requires c.in-Some.ensures)
+    (ap (line_of c.args.tally.records) c.judged_front-got.ensures) c.record_line.ensures
+    (c.after.ensures ∙ ap (after_of c.args.tally) c.judged_front-got.ensures)
 
-pub returns-then-found-eq1 : goal.returns-then-found-eq1
-returns-then-found-eq1 c = tells_header c.args.tally c.args.found c.args.held.now c.args.piece.now c.args.place
-    c.if-found-eq1.true c.header_of-header.ensures c.format_line-past.ensures c.fresh-begun.ensures
+pub returns-in-Header : goal.returns-in-Header
+unfolding part_text part_tally
+returns-in-Header c =
+    tells _ (parts_header _ _ _ _ c.in-Header.is)
+    (ap (λ (h : Header). format_line h.format h.channels h.order) c.header_of-header.ensures) c.format_line-past.ensures
+    (c.fresh.ensures ∙ ap fresh_tally c.header_of-header.ensures)
 
-pub returns-then-found-ne4 : goal.returns-then-found-ne4
-returns-then-found-ne4 c = tells_nothing c.args.tally c.args.found c.args.held.now c.args.piece.now c.args.place
-    (sym c.is_record.ensures ∙ c.if-is_record.false) c.if-found-eq1.false c.if-found-ne4.true
+pub returns-in-Fault : goal.returns-in-Fault
+returns-in-Fault c = tells _ (parts_fault _ _ _ _ c.in-Fault.is) refl c.fault_lines.ensures (fault_counts _ _ _)
 
-pub returns-then-standing-eq2 : goal.returns-then-standing-eq2
-returns-then-standing-eq2 c = tells_refused c.args.tally c.args.found c.args.held.now c.args.piece.now c.args.place
-    (sym c.is_record.ensures ∙ c.if-is_record.false) c.if-found-eq1.false c.if-found-ne4.false c.if-standing-eq2.true
-    c.log_refused_line-past.ensures
-
-pub returns : goal.returns
-returns c = tells_broken c.args.tally c.args.found c.args.held.now c.args.piece.now c.args.place
-    (sym c.is_record.ensures ∙ c.if-is_record.false) c.if-found-eq1.false c.if-found-ne4.false c.if-standing-eq2.false
-    c.end_lines-past.ensures
+pub returns-in_default-what : goal.returns-in_default-what
+returns-in_default-what c =
+    tells_none _ _ _ (parts_none _ _ _ _ (sym c.in_default.is ∙ c.record_octets.ensures) c.in_default-what.not-Header c.in_default-what.not-Fault)

@@ -1,10 +1,8 @@
--- `management::equipment::reply` meets its contract.
+-- `management::equipment::reply` meets its contract: where the answer has no room nothing is written.
 -- Assumes nothing.
-use Rattle.management.proofs.Replies.{left_short, left_replied}
+use mathlib.Core.Path.{refl}
+use Rattle.management.proofs.Replies.{left_short}
 use Rattle.management.proofs.equipment.reply.Goals as goal
 
-pub returns-then-octets-eq0 : goal.returns-then-octets-eq0
-returns-then-octets-eq0 c = left_short _ _ _ c.write_status-octets.ensures c.if-octets-eq0.true
-
-pub returns : goal.returns
-returns c = left_replied _ _ _ c.write_status-octets.ensures c.if-octets-eq0.false
+pub returns-in-None : goal.returns-in-None
+returns-in-None c = left_short _ _ _ c.in-None.ensures.replies refl

@@ -1,9 +1,8 @@
 -- `management::octets::number` meets its contract.
 -- Assumes nothing.
-use native.Mathlib.Omega.{arith}
-use Rattle.runs.specs.Runs.{read_on}
+use mathlib.Core.Path.{◌∙◌}
+use Rattle.management.proofs.Parts.{pair_number}
 use Rattle.management.proofs.octets.number.Goals as goal
 
 pub returns : goal.returns
-unfolding read_on
-returns c = omega arith
+returns c = c.from.ensures ∙ c.from_be_bytes.ensures ∙ pair_number c.args.octets c.well_formed.0.1.0.1

@@ -1,20 +1,22 @@
 -- `management::packing::rime_port_packing` meets its contract.
 -- Assumes nothing.
+use mathlib.Core.Path.{refl}
 use Prim.Native.Nat.{◌≤◌}
 use native.Mathlib.Omega.{arith}
+use Rattle.refusals.proofs.Laws.{number_not_0}
 use Rattle.management.proofs.Packed.{packs_refused, coded_to, channels_to, packs_settled}
 use Rattle.management.proofs.packing.rime_port_packing.Goals as goal
 use Rattle.management.proofs.packing.rime_port_packing.Goals.{After-order_coded-coded}
 
 -- what the packing octet is worked out from is small
 small : (c : After-order_coded-coded) → c.order_coded-coded.result ≤ 1
-small c = coded_to _ _ _ c.settings-settled.ensures c.if-settled-ne0.false c.order_coded-coded.ensures
+small c = coded_to _ _ _ c.in-Ok.ensures refl c.order_coded-coded.ensures
 
 few : (c : After-order_coded-coded) → c.args.channels ≤ 48
-few c = channels_to _ _ _ c.settings-settled.ensures c.if-settled-ne0.false c.order_coded-coded.ensures
+few c = channels_to _ _ _ c.in-Ok.ensures refl c.order_coded-coded.ensures
 
-pub returns-then-settled-ne0 : goal.returns-then-settled-ne0
-returns-then-settled-ne0 c = packs_refused _ _ _ c.settings-settled.ensures c.if-settled-ne0.true
+pub returns-in-Err : goal.returns-in-Err
+returns-in-Err c = rw c.into.ensures (packs_refused _ _ _ c.in-Err.ensures (number_not_0 c.in-Err.refusal))
 
 pub overflow_mul-packing : goal.overflow_mul-packing
 overflow_mul-packing c = omega (arith, small c)
@@ -26,4 +28,4 @@ pub overflow_cast-packing : goal.overflow_cast-packing
 overflow_cast-packing c = omega (arith, small c, few c)
 
 pub returns : goal.returns
-returns c = packs_settled _ _ _ c.settings-settled.ensures c.if-settled-ne0.false c.order_coded-coded.ensures
+returns c = packs_settled _ _ _ c.in-Ok.ensures refl c.order_coded-coded.ensures

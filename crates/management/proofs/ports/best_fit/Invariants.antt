@@ -1,12 +1,9 @@
--- `management::ports::best_fit` meets its contract. The loop: of so many ports the one that fits best. The measure is how many are left.
+-- `management::ports::best_fit` meets its contract. The loop: of so many ports the one that fits best.
 use mathlib.Core.Path.{◌≡◌}
-use Prim.Native.Nat.{◌-◌, ◌≤◌}
-use Rattle.management.specs.Ports.{port_count, fewest}
-use Rattle.management.proofs.Fits.{fit}
+use Rattle.std.specs.Prelude.{IfSome}
+use Rattle.management.specs.Code.{found_fit, Inside}
+use Rattle.management.specs.Ports.{fewest}
 use Rattle.management.proofs.ports.best_fit.Given as goal
 
 abbrev pub invariant-loop-port : goal.invariant-loop-port
-invariant-loop-port l = (l.count ≡ port_count l.ports) × (l.port ≤ l.count) × (fit l.fewest l.best ≡ fewest l.ports l.asked l.port)
-
-abbrev pub decreases-loop-port : goal.decreases-loop-port
-decreases-loop-port l = l.count - l.port
+invariant-loop-port l = (found_fit l.best ≡ fewest l.ports l.asked l.port) × IfSome l.best (Inside l.ports)

@@ -1,6 +1,6 @@
 -- `presence::parts::past_front` meets its contract.
 -- Assumes nothing.
-use Rattle.std.proofs.Common.{◌∙◌}
+use Rattle.std.proofs.Common.{refl, ◌∙◌}
 use Rattle.reading.specs.Records.{front_of}
 use Rattle.presence.specs.Presence.{said_of}
 use Rattle.presence.proofs.Going.{past_found, past_yes, past_no}
@@ -15,9 +15,7 @@ unfolding front_of
 returns-then-said c =
     past_yes _ _ c.if-sought.false
     (c.heard-said.ensures
-    ∙ (λ i.
-    said_of c.args.sought.state (c.read_cell.ensures.0 i)
-    (c.read_record-record.ensures i).indication))
+    ∙ (λ i. said_of c.args.sought.state (c.read_cell.ensures.0 i) (c.read_indication.ensures i)))
     c.if-said.true
 
 pub returns : goal.returns
@@ -25,7 +23,5 @@ unfolding front_of
 returns c =
     past_no _ _ c.if-sought.false
     (c.heard-said.ensures
-    ∙ (λ i.
-    said_of c.args.sought.state (c.read_cell.ensures.0 i)
-    (c.read_record-record.ensures i).indication))
-    c.if-said.false c.wrapping_add_usize-number.ensures.value
+    ∙ (λ i. said_of c.args.sought.state (c.read_cell.ensures.0 i) (c.read_indication.ensures i)))
+    c.if-said.false refl

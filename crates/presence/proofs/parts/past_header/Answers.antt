@@ -10,4 +10,4 @@ abbrev sought_of_lem : Ready → Sought
 sought_of_lem opened = record { state = opened.state; refusal = 0; found = false; number = 0 }
 
 pub returns : goal.returns
-returns c = ap sought_of_lem c.opened-opened.ensures ∙ ap fresh_sought c.read_header-header.ensures
+returns c = ap sought_of_lem c.opened.ensures ∙ ap fresh_sought c.header_numbers-header.ensures

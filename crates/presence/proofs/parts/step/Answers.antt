@@ -1,26 +1,22 @@
 -- `presence::parts::step` meets its contract: a law for each kind of what was found.
 -- Assumes nothing.
-use Rattle.std.proofs.Common.{sym, ap, ◌∙◌}
-use Rattle.reading.specs.Records.{front_of}
-use Rattle.presence.specs.Taking.{past_record}
-use Rattle.presence.proofs.Going.{past_one_record, past_header, past_nothing, past_refused, past_broken}
+use Rattle.std.proofs.Common.{sym, ◌∙◌}
+use Rattle.pieces.proofs.Parts.{parts_record, parts_header, parts_fault, parts_none}
+use Rattle.presence.specs.Taking.{past_part}
+use Rattle.presence.proofs.Going.{past_one, past_none}
 use Rattle.presence.proofs.parts.step.Goals as goal
 
-pub returns-then-is_record : goal.returns-then-is_record
-returns-then-is_record c = past_one_record _ _ _ _ _ c.requires (sym c.is_record.ensures ∙ c.if-is_record.true)
-    (c.past_front.ensures
-    ∙ ap (λ octets. past_record c.args.sought (front_of octets)) c.record_octets-octets.ensures)
+pub returns-in-Some : goal.returns-in-Some
+unfolding past_part
+returns-in-Some c = past_one _ (parts_record _ _ _ _ c.requires c.in-Some.ensures) c.past_front.ensures
 
-pub returns-then-found-eq1 : goal.returns-then-found-eq1
-returns-then-found-eq1 c = past_header _ _ _ _ _ c.if-found-eq1.true c.past_header.ensures
+pub returns-in-Header : goal.returns-in-Header
+unfolding past_part
+returns-in-Header c = past_one _ (parts_header _ _ _ _ c.in-Header.is) c.past_header.ensures
 
-pub returns-then-found-ne4 : goal.returns-then-found-ne4
-returns-then-found-ne4 c = past_nothing _ _ _ _ _ c.if-found-eq1.false (sym c.is_record.ensures ∙ c.if-is_record.false) c.if-found-ne4.true
+pub returns-in-Fault : goal.returns-in-Fault
+returns-in-Fault c = past_one _ (parts_fault _ _ _ _ c.in-Fault.is) c.past_fault.ensures
 
-pub returns-then-standing-eq2 : goal.returns-then-standing-eq2
-returns-then-standing-eq2 c = past_refused _ _ _ _ _ c.if-found-eq1.false (sym c.is_record.ensures ∙ c.if-is_record.false) c.if-found-ne4.false
-    c.if-standing-eq2.true c.refused.ensures
-
-pub returns : goal.returns
-returns c = past_broken _ _ _ _ _ c.if-found-eq1.false (sym c.is_record.ensures ∙ c.if-is_record.false) c.if-found-ne4.false
-    c.if-standing-eq2.false
+pub returns-in_default-what : goal.returns-in_default-what
+returns-in_default-what c =
+    past_none _ (parts_none _ _ _ _ (sym c.in_default.is ∙ c.record_octets.ensures) c.in_default-what.not-Header c.in_default-what.not-Fault)

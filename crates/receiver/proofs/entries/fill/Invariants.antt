@@ -1,11 +1,6 @@
--- `receiver::entries::fill` meets its contract: the run is filled.
-use Prim.Native.Nat.{◌-◌}
-use lib.ListN.{replicate}
-use Rattle.runs.proofs.Filling.{Filled}
+-- `receiver::entries::fill` meets its contract: what the loop has passed holds the value.
+use Rattle.std.specs.Prelude.{◌≡◌, take, replicate}
 use Rattle.receiver.proofs.entries.fill.Given as goal
 
-abbrev pub invariant-loop-i : goal.invariant-loop-i
-invariant-loop-i l = Filled l.run l.initial.run l.at (replicate l.count l.value) l.i
-
-abbrev pub decreases-loop-i : goal.decreases-loop-i
-decreases-loop-i l = l.count - l.i
+abbrev pub invariant-loop-entry : goal.invariant-loop-entry
+invariant-loop-entry g l = take l.entry-index l.run ≡ replicate l.entry-index l.value

@@ -17,8 +17,8 @@ loop-i-preserved c = let less = c.loop-i-test.true in
     (by_width fours c.args.cell.now c.loop-i.i refl
     (c.in4-subframe.ensures.0 ∙ four_read c.args.cell.now (c.loop-i.i * 4) (omega (arith, c.requires.0, less))))
     (mark_on_top fours refl word refl 24 (word / 8388608) refl (omega arith)
-    (let on-top : word / 8388608 % 512 ≡ word / 256 * 2 / 65536 % 512 = omega arith in on-top) c.marks_for_usual-bits.result
-    c.marks_for_usual-bits.ensures.0)
+    (let on-top : word / 8388608 % 512 ≡ word / 256 * 2 / 65536 % 512 = omega arith in on-top) c.marks-bits.result
+    c.marks-bits.ensures.0)
     c.enter.ensures
 
 pub returns : goal.returns

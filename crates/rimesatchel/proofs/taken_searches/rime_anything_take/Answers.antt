@@ -7,4 +7,4 @@ pub returns : goal.returns
 returns c = let a = c.args in
     let gives = c.numbers_of.ensures in
     search_taken a.state.now a.held.now a.piece.now c.search_of.ensures c.take-search.ensures
-    c.reads_on-on.ensures gives.0 gives.1
+    c.reads_on.ensures gives.0 gives.1

@@ -9,4 +9,4 @@ abbrev tally_of_lem : Ready → Tally
 tally_of_lem opened = record { state = opened.state; refusal = 0; taken = 3; kept = 0; left_out = 0 }
 
 pub returns : goal.returns
-returns c = ap tally_of_lem c.opened-opened.ensures
+returns c = ap tally_of_lem c.opened.ensures

@@ -10,5 +10,5 @@ returns-then-tally-ne0 c = puts_same (last_refused_lem c.args.octets c.args.tall
 
 pub returns : goal.returns
 returns c = puts_same (last_counts c.args.octets c.args.tally c.if-tally-ne0.false
-    c.cut_of-cut.ensures)
+    c.saturating_sub-cut.ensures)
     c.end_line.ensures

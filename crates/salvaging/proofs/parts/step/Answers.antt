@@ -1,24 +1,20 @@
 -- `salvaging::parts::step` meets its contract: a law for each kind of what was found.
 -- Assumes nothing.
 use Rattle.std.proofs.Common.{sym, ◌∙◌}
-use Rattle.salvaging.proofs.Texts.{tells_record, tells_header, tells_nothing, tells_header_refused, tells_broken}
+use Rattle.pieces.proofs.Parts.{parts_record, parts_header, parts_fault, parts_none}
+use Rattle.salvaging.proofs.Texts.{tells, tells_none, one_header, one_fault}
 use Rattle.salvaging.proofs.parts.step.Goals as goal
 
-pub returns-then-is_record : goal.returns-then-is_record
-returns-then-is_record c = tells_record _ _ _ _ _ c.requires (sym c.is_record.ensures ∙ c.if-is_record.true) c.record_octets-octets.ensures
-    c.record_step.ensures
+pub returns-in-Some : goal.returns-in-Some
+returns-in-Some c = tells _ (parts_record _ _ _ _ c.requires c.in-Some.ensures) c.record_step.ensures
 
-pub returns-then-found-eq1 : goal.returns-then-found-eq1
-returns-then-found-eq1 c = tells_header _ _ _ _ _ c.if-found-eq1.true c.header_of-header.ensures
-    c.put_header-past.ensures c.fresh-begun.ensures
+pub returns-in-Header : goal.returns-in-Header
+returns-in-Header c =
+    tells _ (parts_header _ _ _ _ c.in-Header.is) (one_header _ c.header_of-header.ensures c.put_header.ensures c.fresh.ensures)
 
-pub returns-then-found-ne4 : goal.returns-then-found-ne4
-returns-then-found-ne4 c = tells_nothing _ _ _ _ _ (sym c.is_record.ensures ∙ c.if-is_record.false) c.if-found-eq1.false c.if-found-ne4.true
+pub returns-in-Fault : goal.returns-in-Fault
+returns-in-Fault c = tells _ (parts_fault _ _ _ _ c.in-Fault.is) (one_fault _ _ _ c.past_fault.ensures)
 
-pub returns-then-standing-eq2 : goal.returns-then-standing-eq2
-returns-then-standing-eq2 c = tells_header_refused _ _ _ _ _ (sym c.is_record.ensures ∙ c.if-is_record.false) c.if-found-eq1.false c.if-found-ne4.false
-    c.if-standing-eq2.true c.refused_by-told.ensures
-
-pub returns : goal.returns
-returns c = tells_broken _ _ _ _ _ (sym c.is_record.ensures ∙ c.if-is_record.false) c.if-found-eq1.false c.if-found-ne4.false
-    c.if-standing-eq2.false
+pub returns-in_default-what : goal.returns-in_default-what
+returns-in_default-what c =
+    tells_none _ (parts_none _ _ _ _ (sym c.in_default.is ∙ c.record_octets.ensures) c.in_default-what.not-Header c.in_default-what.not-Fault)

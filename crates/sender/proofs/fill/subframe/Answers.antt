@@ -1,29 +1,23 @@
 -- `sender::fill::subframe` meets its contract.
 -- Assumes nothing.
-use Rattle.std.proofs.Common.{arith}
-use Rattle.sender.proofs.Subframes.{low_fits, subframe_by, subframe_fits}
+use Rattle.std.proofs.Common.{refl, sym, ◌∙◌, arith}
+use Rattle.sender.proofs.Subframes.{guarded_is, plain_is}
 use Rattle.sender.proofs.fill.subframe.Goals as goal
 
+pub returns-then-format-eq0 : goal.returns-then-format-eq0
+returns-then-format-eq0 c =
+    plain_is c.args.sample c.args.ancillary c.args.bit
+    (record { sample_is = refl; ancillary_is = refl; overhead_is = sym c.if-format-eq0.true; width_is = refl })
+    (omega (arith, c.requires.0.sample_to, c.requires.0.ancillary_to)) c.requires.1
+
 pub returns : goal.returns
-returns c = let a = c.args in
-    let given = c.requires in
-    subframe_by a.sample_bits a.ancillary_bits a.sample a.ancillary given.0 given.1 given.2 given.3 given.4
-    given.5 c.low_in.ensures
-
-pub overflow_add-result-2 : goal.overflow_add-result-2
-overflow_add-result-2 c = let a = c.args in
-    let given = c.requires in
-    omega (
-      arith,
-      low_fits a.sample_bits a.ancillary_bits a.sample a.ancillary given.0 given.1 given.2 given.3 given.4
-          given.5 c.low_in.ensures,
-    )
-
-pub overflow_add-result-3 : goal.overflow_add-result-3
-overflow_add-result-3 c = let a = c.args in
-    let given = c.requires in
-    record {
-      fits =
-          subframe_fits a.sample_bits a.ancillary_bits a.sample a.ancillary given.0 given.1 given.2 given.3
-          given.4 given.5 c.low_in.ensures;
-    }
+returns c =
+    let s = c.requires.0 in
+    c.guarded.ensures
+    ∙ guarded_is c.args.sample c.args.ancillary c.args.bit
+    (record {
+      sample_is = refl;
+      ancillary_is = refl;
+      overhead_is = omega (arith, c.if-format-eq0.false, s.overhead_fours, s.overhead_to);
+      width_is = refl;
+    })

@@ -1,5 +1,6 @@
 -- `sender::pack::fill_idle` meets its contract.
 -- Assumes nothing.
+use Rattle.formats.specs.Settings.{settled_as}
 use Rattle.std.proofs.Common.{◌/◌, ◌%◌, ◌^◌, refl, arith}
 use Rattle.cells.proofs.Subframes.{slot_room}
 use Rattle.sender.proofs.Filling.{filling_on, filling_done, used_in_lem, idle_number_lem}
@@ -26,11 +27,11 @@ pub loop-slot-preserved : goal.loop-slot-preserved
 loop-slot-preserved c = let a = (from (goal.at.loop-slot-preserved c).In-loop-slot).args in
     let here = c.loop-slot in (
       omega (arith, here.invariant.0),
-      filling_on a.set a.sequence a.samples.now a.ancillary.now a.cell.now here.invariant.1 c.loop-slot-test.true refl
+      filling_on (settled_as a.set) a.sequence a.samples.now a.ancillary.now a.cell.now here.invariant.1 c.loop-slot-test.true refl
           (idle_number_lem (from (goal.at.loop-slot-preserved c).In-loop-slot).requires.0 (a.sequence / 2 ^ here.slot % 2) here.invariant.0 c.idle_subframe-number.ensures)
           c.put.ensures c.put.auto.cell,
     )
 
 pub returns : goal.returns
 returns c = let a = c.args in
-    filling_done a.set a.sequence a.samples.now a.ancillary.now a.cell.now c.loop-slot.invariant.1 c.loop-slot-test.false
+    filling_done (settled_as a.set) a.sequence a.samples.now a.ancillary.now a.cell.now c.loop-slot.invariant.1 c.loop-slot-test.false

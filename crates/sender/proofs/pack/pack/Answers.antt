@@ -1,5 +1,6 @@
 -- `sender::pack::pack` meets its contract.
 -- Assumes nothing.
+use Rattle.formats.specs.Settings.{settled_as}
 use Rattle.std.proofs.Common.{◌≡◌, ℕ, List, length, ◌∙◌}
 use Rattle.sender.proofs.Packing.{refilled, all_filled}
 use Rattle.sender.proofs.pack.pack.Goals as goal
@@ -19,11 +20,11 @@ pub fill_idle-requires : goal.fill_idle-requires
 fill_idle-requires c = let a = (from (goal.at.fill_idle-requires c).After-pack_used).args in (
   (from (goal.at.fill_idle-requires c).After-pack_used).requires.0,
   whole (goal.at.fill_idle-requires c).After-pack_used,
-  refilled a.set a.samples.now a.ancillary.now a.sequence a.cell.now (length a.samples.now)
+  refilled (settled_as a.set) a.samples.now a.ancillary.now a.sequence a.cell.now (length a.samples.now)
       c.pack_used.ensures,
 )
 
 pub returns : goal.returns
 returns c = let a = (from (goal.at.returns c).After-pack_used).args in
-    all_filled a.set a.samples.now a.ancillary.now (from (goal.at.returns c).After-pack_used).requires.0 a.sequence (used (goal.at.returns c).After-pack_used) (whole (goal.at.returns c).After-pack_used)
+    all_filled (settled_as a.set) a.samples.now a.ancillary.now (from (goal.at.returns c).After-pack_used).requires.0 a.sequence (used (goal.at.returns c).After-pack_used) (whole (goal.at.returns c).After-pack_used)
     c.fill_idle.ensures

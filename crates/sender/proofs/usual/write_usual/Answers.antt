@@ -1,7 +1,7 @@
 -- `sender::usual::write_usual` meets its contract.
 -- Assumes nothing.
 use Rattle.std.proofs.Common.{◌≡◌, length, sym, ap, ◌∙◌}
-use Rattle.formats.specs.Settings.{settings_of}
+use Rattle.formats.specs.Settings.{settled_as, settings_of}
 use Rattle.sender.specs.Packing.{Packable, filled_to}
 use Rattle.sender.proofs.Laws.{Call, refusal_of, writes_refused, can_pack, writes_taken}
 use Rattle.sender.proofs.Packing.{all_filled, usual_settles, usual_in_order, usual_named, all_used}
@@ -21,7 +21,7 @@ abbrev from : After-usual-set → Start
 from c = (goal.at.After-usual-set c).Start
 
 given : (c : After-usual-set)
-    → let st = (from c).args.state in c.usual-set.result ≡ settings_of st.format st.channels st.order
+    → let st = (from c).args.state in (settled_as c.usual-set.result) ≡ settings_of st.format st.channels st.order
 given c = usual_settles (from c).requires.0 c.usual-set.ensures
 
 none : (c : Else-refusal-ne0) → let s = from (goal.at.Else-refusal-ne0 c).After-usual-set in 0 ≡ refusal_of (call s) (length s.args.cell.now)
@@ -29,7 +29,7 @@ none c = sym c.if-refusal-ne0.false ∙ c.send_refusal-refusal.ensures
 
 ready : (c : Else-refusal-ne0)
     → let a = (from (goal.at.Else-refusal-ne0 c).After-usual-set).args in
-    Packable c.usual-set.result a.samples.now a.ancillary.now × (length a.cell.now ≡ 48)
+    Packable (settled_as c.usual-set.result) a.samples.now a.ancillary.now × (length a.cell.now ≡ 48)
 ready c = can_pack (call (from (goal.at.Else-refusal-ne0 c).After-usual-set)) (from (goal.at.Else-refusal-ne0 c).After-usual-set).args.cell.now (given (goal.at.Else-refusal-ne0 c).After-usual-set) (none c)
 
 pub send_refusal-refusal-requires : goal.send_refusal-refusal-requires
@@ -52,7 +52,7 @@ pub returns : goal.returns
 returns c = let a = (from (goal.at.returns c).After-usual-set).args in
     let bits = c.sequence_of-sequence in
     writes_taken (call (from (goal.at.returns c).After-usual-set)) a.cell.now (given (goal.at.returns c).After-usual-set) (none (goal.at.returns c).Else-refusal-ne0) (from (goal.at.returns c).After-usual-set).requires.1 bits.ensures
-    (all_filled c.usual-set.result a.samples.now a.ancillary.now (ready (goal.at.returns c).Else-refusal-ne0).0 bits.result a.cell.now (ready (goal.at.returns c).Else-refusal-ne0).1
+    (all_filled (settled_as c.usual-set.result) a.samples.now a.ancillary.now (ready (goal.at.returns c).Else-refusal-ne0).0 bits.result a.cell.now (ready (goal.at.returns c).Else-refusal-ne0).1
     (c.fill_usual.ensures
-    ∙ ap (filled_to c.usual-set.result bits.result a.samples.now a.ancillary.now a.cell.now)
+    ∙ ap (filled_to (settled_as c.usual-set.result) bits.result a.samples.now a.ancillary.now a.cell.now)
     (all_used (from (goal.at.returns c).After-usual-set).requires.0 c.usual-set.ensures)))

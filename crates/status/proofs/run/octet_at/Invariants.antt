@@ -1,10 +1,6 @@
--- `status::run::octet_at` meets its contract. The loop: so many entries add a bit, and the octet has their bits. The measure is what is
-use Prim.Native.Nat.{◌-◌}
+-- `status::run::octet_at` meets its contract. The loop: so many entries add a bit, and the octet has their bits.
 use Rattle.status.proofs.Eights.{Turned}
 use Rattle.status.proofs.run.octet_at.Given as goal
 
 abbrev pub invariant-loop-j : goal.invariant-loop-j
 invariant-loop-j l = Turned l.ancillary l.marks l.at l.step l.octet l.place l.j
-
-abbrev pub decreases-loop-j : goal.decreases-loop-j
-decreases-loop-j l = 8 - l.j

@@ -7,7 +7,7 @@ use Rattle.status.proofs.run.steps.Given as goal
 
 abbrev pub invariant-loop-at : goal.invariant-loop-at
 invariant-loop-at l = (l.at ≤ 18446744073709551615)
-    × (as_whole l.block (ran_from l.on l.ancillary l.marks (length l.ancillary) l.block l.from) ≡ as_whole l.block (ran_from l.on l.ancillary l.marks (length l.ancillary) l.now l.at))
+    × (as_whole l.fn.block (ran_from l.on l.ancillary l.marks (length l.ancillary) l.fn.block l.from) ≡ as_whole l.fn.block (ran_from l.on l.ancillary l.marks (length l.ancillary) l.now l.at))
 
 abbrev pub decreases-loop-at : goal.decreases-loop-at
 decreases-loop-at l = length l.ancillary - l.at

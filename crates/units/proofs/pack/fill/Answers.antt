@@ -12,4 +12,4 @@ pub loop-i-preserved : goal.loop-i-preserved
 loop-i-preserved c = let put = c.put in
     let a = c.args in
     filling_on a.base a.width a.samples.now a.ancillary.now a.out.now c.requires
-    c.loop-i.invariant c.loop-i-test.true c.wide.ensures.0 refl put.ensures put.auto.out
+    c.loop-i.invariant c.loop-i-test.true c.from.ensures refl put.ensures put.auto.out

@@ -1,9 +1,0 @@
--- `rimesatchel::kept::both` meets its contract.
--- Assumes nothing.
-use Rattle.rimesatchel.proofs.kept.both.Goals as goal
-
-pub returns-then-first : goal.returns-then-first
-returns-then-first c = rw c.if-first.true
-
-pub returns-else-first : goal.returns-else-first
-returns-else-first c = rw c.if-first.false

@@ -1,7 +1,0 @@
--- `salvaging::lines::log_refused_line` meets its contract: its parts are put one after the other.
--- Assumes nothing.
-use Rattle.text.proofs.Laws.{puts_then}
-use Rattle.salvaging.proofs.lines.log_refused_line.Goals as goal
-
-pub returns : goal.returns
-returns c = puts_then c.put_item-past.ensures c.put_all.ensures
