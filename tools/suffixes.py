@@ -20,7 +20,6 @@ SECTIONS = {
     'crates/formats/proofs/Laws.antt': {'not-true': 'not_true'},
     'crates/pages/proofs/Face.antt': {'received-here': 'received_call', 'sent-here': 'sent_call'},
     'crates/receiver/proofs/Spread.antt': {'so-many': 'so_many'},
-    'crates/sender/proofs/many/row_any/Answers.antt': {'in-a': 'in_a', 'in-s': 'in_s'},
     'crates/sender/proofs/many/walk/Answers.antt': {'or-whole': 'or_whole'},
 }
 

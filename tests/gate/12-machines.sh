@@ -39,6 +39,15 @@ if setarch i686 true 2> /dev/null; then # a machine that is neither
     done
 fi
 
+# What the archives ask of the C library, docs/LINKING.md: a caller without one has these functions and no others.
+asks_alone() { # ARCHIVE, FUNCTIONS
+    local asked
+    asked=$(nm -u "$1" | awk 'NF == 2 { print $2 }' | sort -u | paste -s -d ' ')
+    [ "$asked" = "$2" ] || fail "$1 needs $asked, and not $2 alone"
+}
+asks_alone "${RIME_LIB:-target/staticlib}/librimesatchel.a" 'memcpy memset'
+asks_alone "${RIME_LIB:-target/staticlib}/libmanagement.a" 'memcpy'
+
 compared() { # MACHINE, WORDS OF THE COMPARISON..
     local kind=$1
     shift
@@ -65,6 +74,8 @@ if [ "${RIME_LIB:-$PWD/target/staticlib}" != "$PWD/target/staticlib" ]; then
     exit 0
 fi
 make --no-print-directory lib "TARGET=$other"
+asks_alone "target/$other/librimesatchel.a" 'memcpy memset'
+asks_alone "target/$other/libmanagement.a" 'memcpy'
 emulator=$(command -v "qemu-$other" || command -v "qemu-$other-static" || echo)
 if [ -n "$emulator" ]; then
     answers "$other" "target/$other" "$emulator"

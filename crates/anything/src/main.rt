@@ -46,11 +46,11 @@ fn finish(rt: &HostRuntime, name: &[u8], search: Search, held: [u8; 49]) {
 fn find(rt: &HostRuntime, from: &mut Reader, name: &[u8], held: &mut [u8; 49], buffer: &mut [u8]) {
     let mut search = presence::start();
     let mut turn = source::first();
-    while source::goes_on(turn, presence::reads_on(search)) {
+    while turn.goes_on(presence::reads_on(search)) {
         turn = source::read(rt, b"anything", name, from, buffer, turn.left);
         search = take_read(search, held, buffer, turn);
     }
-    if source::well(turn) {
+    if turn.well() {
         finish(rt, name, search, *held);
     }
 }

@@ -6,7 +6,8 @@ use Rattle.refusals.specs.declared.Refusal.{Refusal}
 use Rattle.refusals.proofs.Laws.{number_injective, number_not_0}
 use Rattle.cable.specs.declared.Frame.{Frame}
 use Rattle.cable.specs.declared.Entries.{Entries}
-use Rattle.cable.specs.Frames.{Imported, Exported, import_answered, export_answered}
+use Rattle.cable.specs.Frames.{Imported, Exported}
+use Rattle.cable.specs.Answered.{import_answered, export_answered}
 
 pub import_injective : (x y : Result Entries Refusal) → import_answered x ≡ import_answered y → x ≡ y
 import_injective (Ok a) (Ok b) same =

@@ -8,22 +8,8 @@ use contract.Lifetimes.{Lfts}
 use lib.Count.{ones, ones_in}
 use Rattle.runs.proofs.Wrong.{Never}
 use Rattle.cable.specs.Slots.{time_slot, word_of, sample_in, ancillary_in, parity_of, carried_in, subframe_of}
-use Rattle.cable.specs.Frames.{
-  Exported,
-  Imported,
-  first,
-  second,
-  is_frame,
-  begins_by,
-  import_refusal,
-  import_of,
-  import_answered,
-  is_too_large,
-  export_refusal,
-  preamble_of,
-  export_of,
-  export_answered,
-}
+use Rattle.cable.specs.Frames.{Exported, Imported, first, second, is_frame, begins_by, import_refusal, import_of, is_too_large, export_refusal, preamble_of, export_of}
+use Rattle.cable.specs.Answered.{import_answered, export_answered}
 use Rattle.cable.proofs.import_frame.Kinds as import-kinds
 use Rattle.cable.proofs.import_frame.Reads as import-reads
 use Rattle.cable.proofs.export_frame.Kinds as export-kinds

@@ -1,11 +1,7 @@
 -- A frame of an AES3 cable, its first half first, and two entries of format 56 hex: import and export, request 1 of document 02.
 -- Assumes nothing.
-use Rattle.std.specs.Prelude.{Bool, cond, not, ◌&&◌, ◌||◌, List, [], ◌∷◌, ℕ, ◌/◌, ◌^◌, eqb, ltb, leb, get_or, Result, Ok, Err}
-use Rattle.refusals.specs.declared.Refusal.{Refusal}
-use Rattle.refusals.specs.Refusals.{number_of}
+use Rattle.std.specs.Prelude.{Bool, cond, not, ◌&&◌, ◌||◌, List, [], ◌∷◌, ℕ, ◌/◌, ◌^◌, eqb, ltb, leb, get_or}
 use Rattle.cable.specs.Slots.{sample_in, ancillary_in, parity_of, subframe_of}
-use Rattle.cable.specs.declared.Frame.{Frame}
-use Rattle.cable.specs.declared.Entries.{Entries}
 
 -- what an import reports: the refusal, and the samples and ancillary numbers of the two halves
 pub record Imported : Type 0 where
@@ -68,11 +64,6 @@ unfoldable pub import_of : List ℕ → List ℕ → Imported
 import_of preambles subframes =
     cond (eqb (import_refusal preambles subframes) 0) (imported preambles subframes) (not_imported (import_refusal preambles subframes))
 
--- the answer of an import as the paper reports it
-abbrev pub import_answered : Result Entries Refusal → Imported
-import_answered (Ok entries) = record { refusal = 0; samples = entries.samples; ancillary = entries.ancillary }
-import_answered (Err refusal) = not_imported (number_of refusal)
-
 -- 6 as in document 01: "a sample too large for its bits", which are 24; "ancillary above 15"
 unfoldable pub is_too_large : ℕ → ℕ → Bool
 is_too_large sample ancillary = leb (2 ^ 24) sample || ltb 15 ancillary
@@ -105,8 +96,3 @@ not_exported refusal = record { refusal = refusal; preambles = 0 ∷ 0 ∷ []; s
 unfoldable pub export_of : List ℕ → List ℕ → Exported
 export_of samples ancillary =
     cond (eqb (export_refusal samples ancillary) 0) (exported samples ancillary) (not_exported (export_refusal samples ancillary))
-
--- the answer of an export as the paper reports it
-abbrev pub export_answered : Result Frame Refusal → Exported
-export_answered (Ok frame) = record { refusal = 0; preambles = frame.preambles; subframes = frame.subframes }
-export_answered (Err refusal) = not_exported (number_of refusal)

@@ -1,3 +1,4 @@
+pub mod Answered
 pub mod Back
 pub mod Frames
 pub mod Labels

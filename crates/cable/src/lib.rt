@@ -4,18 +4,8 @@
 ghost use Rattle.std.specs.Prelude.{◌≡◌, ◌^◌, ◌≤◌, ◌<◌};
 ghost use Rattle.refusals.specs.Refusals.{refused_by};
 ghost use Rattle.cable.specs.Slots.{sample_in, ancillary_in, parity_of, subframe_of};
-ghost use Rattle.cable.specs.Frames.{
-  is_frame,
-  begins_by,
-  import_refusal,
-  import_of,
-  import_answered,
-  is_too_large,
-  export_refusal,
-  preamble_of,
-  export_of,
-  export_answered,
-};
+ghost use Rattle.cable.specs.Frames.{is_frame, begins_by, import_refusal, import_of, is_too_large, export_refusal, preamble_of, export_of};
+ghost use Rattle.cable.specs.Answered.{import_answered, export_answered};
 
 use refusals::Refusal;
 

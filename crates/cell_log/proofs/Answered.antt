@@ -12,9 +12,8 @@ use Rattle.cell_log.specs.declared.Number.{Number as ReadNumber}
 use Rattle.cell_log.specs.declared.Header.{Header as ReadHeader}
 use Rattle.cell_log.specs.declared.Record.{Record as ReadRecord}
 use Rattle.cell_log.specs.Answers.{Number, Header, Record, Kept}
-use Rattle.cell_log.specs.Numbers.{number_answered}
-use Rattle.cell_log.specs.Records.{end_at, header_answered, record_answered}
-use Rattle.cell_log.specs.Written.{kept_answered}
+use Rattle.cell_log.specs.Answered.{number_answered, header_answered, record_answered, kept_answered}
+use Rattle.cell_log.specs.Records.{end_at}
 
 -- a record that is read at a place, whatever it is called there
 abbrev pub cell_of : ReadRecord → Record

@@ -22,8 +22,8 @@ use Rattle.cell_log.specs.Answers.{Header}
 use Rattle.cell_log.specs.declared.Record.{Record}
 use Rattle.cell_log.specs.declared.reader.Reader.{Reader}
 use Rattle.cell_log.specs.Code.{from}
-use Rattle.cell_log.specs.Records.{record_answered, record_at, place_after, cell_at}
-use Rattle.cell_log.specs.Written.{kept_answered, Keeps}
+use Rattle.cell_log.specs.Records.{record_at, place_after, cell_at}
+use Rattle.cell_log.specs.Written.{Keeps}
 use Rattle.cell_log.proofs.Answered.{number_answered_injective, header_answered_injective, record_answered_injective, kept_answered_injective}
 use Rattle.cell_log.proofs.read_number.Kinds as read-number-kinds
 use Rattle.cell_log.proofs.read_number.Reads as read-number-reads
@@ -50,6 +50,7 @@ use Rattle.cell_log.specs.contracts.reader.Reader.record_here as record_here
 use Rattle.cell_log.specs.contracts.reader.Reader.cell as cell
 use Rattle.cell_log.specs.contracts.reader.Reader.past_record as past-record
 use Rattle.cell_log.specs.contracts.reader.read as read
+use Rattle.cell_log.specs.Answered.{record_answered, kept_answered}
 
 pub read_number_one : One read-number-kinds.ps read-number-kinds.r read-number-reads.Pre read-number-reads.Post
 read_number_one κs a x y v w pre p q = (number_answered_injective (p ∙ sym q), refl)

@@ -20,9 +20,10 @@ use Rattle.runs.proofs.Wrong.{Never, Place, lent, lent_mut, ruled_out}
 use Rattle.formats.proofs.Wrong as formats
 use Rattle.cell_log.specs.Answers.{Number, Header, Record, Kept}
 use Rattle.cell_log.specs.declared.reader.Reader.{Reader}
-use Rattle.cell_log.specs.Numbers.{groups_at, is_cut, is_long, is_padded, value_at, number_answered, number_at, groups_of}
-use Rattle.cell_log.specs.Records.{header_answered, header_refusal, header_of_numbers, header_of, record_answered, record_at, place_after, cell_at}
-use Rattle.cell_log.specs.Written.{kept_answered, number_refusal, header_refused_of, record_refusal}
+use Rattle.cell_log.specs.Numbers.{groups_at, is_cut, is_long, is_padded, value_at, number_at, groups_of}
+use Rattle.cell_log.specs.Records.{header_refusal, header_of_numbers, header_of, record_at, place_after, cell_at}
+use Rattle.cell_log.specs.Written.{number_refusal, header_refused_of, record_refusal}
+use Rattle.cell_log.specs.Answered.{number_answered, header_answered, record_answered, kept_answered}
 use Rattle.cell_log.proofs.One.{Answer, NewEnsures, RecordEnsures, CellEnsures, PastEnsures, ReadEnsures}
 use Rattle.cell_log.proofs.read_number.Kinds as read-number-kinds
 use Rattle.cell_log.proofs.read_number.Reads as read-number-reads

@@ -1,10 +1,7 @@
 -- Log numbers, document 01, "The log": "groups of seven bits, low group first, top bit set where more follow, shortest form, at
 -- most three groups".
 -- Assumes nothing.
-use Rattle.std.specs.Prelude.{Bool, cond, ◌&&◌, ◌||◌, List, [], ◌∷◌, ℕ, zero, suc, ◌+◌, ◌*◌, ◌-◌, ◌/◌, ◌%◌, eqb, ltb, length, get_or, Result, Ok, Err}
-use Rattle.refusals.specs.declared.Refusal.{Refusal}
-use Rattle.refusals.specs.Refusals.{number_of}
-use Rattle.cell_log.specs.declared.Number.{Number as ReadNumber}
+use Rattle.std.specs.Prelude.{Bool, cond, ◌&&◌, ◌||◌, List, [], ◌∷◌, ℕ, zero, suc, ◌+◌, ◌*◌, ◌-◌, ◌/◌, ◌%◌, eqb, ltb, length, get_or}
 use Rattle.cell_log.specs.Answers.{Number}
 
 -- "top bit set where more follow": how many groups the number at a place has, 4 standing for more than three
@@ -40,11 +37,6 @@ number value next = record { refusal = 0; value = value; next = next }
 
 abbrev pub no_number_of : Number
 no_number_of = record { refusal = 11; value = 0; next = 0 }
-
--- the code's answer
-abbrev pub number_answered : Result ReadNumber Refusal → Number
-number_answered (Ok read) = number read.value read.next
-number_answered (Err refusal) = record { refusal = number_of refusal; value = 0; next = 0 }
 
 -- the number at a place, and the place after it; 11 for "a log number not shortest, over three groups or cut"
 unfoldable pub number_at : List ℕ → ℕ → Number

@@ -1,23 +1,13 @@
 -- The header and the records, document 01, "The log".
 -- Assumes nothing.
-use Rattle.std.specs.Prelude.{cond, false, List, ℕ, ◌+◌, ◌*◌, eqb, leb, ltb, length, get_or, take, drop, Option, Some, None, Result, Ok, Err}
-use Rattle.refusals.specs.declared.Refusal.{Refusal}
-use Rattle.refusals.specs.Refusals.{number_of}
+use Rattle.std.specs.Prelude.{cond, false, List, ℕ, ◌+◌, ◌*◌, eqb, leb, ltb, length, get_or, take, drop}
 use Rattle.runs.specs.Refusals.{or_else}
 use Rattle.formats.specs.Formats.{settings_refusal}
-use Rattle.cell_log.specs.declared.Header.{Header as ReadHeader}
-use Rattle.cell_log.specs.declared.Record.{Record as ReadRecord}
 use Rattle.cell_log.specs.Answers.{Number, Header, Record}
 use Rattle.cell_log.specs.Numbers.{number_at}
 
 abbrev pub no_header : ℕ → Header
 no_header refusal = record { refusal = refusal; place = 0; format = 0; channels = 0; order = 0 }
-
--- the code's answer
-abbrev pub header_answered : Result ReadHeader Refusal → Header
-header_answered (Ok read) =
-    record { refusal = 0; place = read.place; format = read.format; channels = read.channels; order = read.order }
-header_answered (Err refusal) = no_header (number_of refusal)
 
 -- "First three numbers: subframe octet, C, order", and "11 as met, then 1 to 3"
 unfoldable pub header_refusal : Number → Number → Number → ℕ
@@ -47,13 +37,6 @@ end_at place = record { refusal = 0; what = 0; indication = false; start = 0; ne
 
 abbrev pub no_record : ℕ → Record
 no_record refusal = record { refusal = refusal; what = 0; indication = false; start = 0; next = 0 }
-
--- the code's answer at a place
-abbrev pub record_answered : ℕ → Result (Option ReadRecord) Refusal → Record
-record_answered place (Ok None) = end_at place
-record_answered place (Ok (Some read)) =
-    record { refusal = 0; what = 1; indication = read.indication; start = read.start; next = read.next }
-record_answered place (Err refusal) = no_record (number_of refusal)
 
 -- "per cell: the indication, 0 or 1, and 48 octets": 11 for "an indication above 1", 12 for "a record cut before its 48 octets end"
 unfoldable pub record_at : List ℕ → ℕ → Record

@@ -1,8 +1,6 @@
 -- What writing into a lent log answers and leaves. "Nothing lent is written" where it is refused.
 -- Assumes nothing.
-use Rattle.std.specs.Prelude.{Bool, cond, List, ◌∷◌, ◌++◌, ◌≡◌, ℕ, ◌+◌, eqb, ltb, length, Result, Ok, Err}
-use Rattle.refusals.specs.declared.Refusal.{Refusal}
-use Rattle.refusals.specs.Refusals.{number_of}
+use Rattle.std.specs.Prelude.{Bool, cond, List, ◌∷◌, ◌++◌, ◌≡◌, ℕ, ◌+◌, eqb, ltb, length}
 use Rattle.cell_log.specs.Answers.{Kept}
 use Rattle.runs.specs.Refusals.{or_else}
 use Rattle.runs.specs.Runs.{written}
@@ -14,11 +12,6 @@ kept next = record { refusal = 0; next = next }
 
 abbrev pub not_kept : ℕ → Kept
 not_kept refusal = record { refusal = refusal; next = 0 }
-
--- the code's answer
-abbrev pub kept_answered : Result ℕ Refusal → Kept
-kept_answered (Ok next) = kept next
-kept_answered (Err refusal) = not_kept (number_of refusal)
 
 -- octets written at a place of a lent log: the answer, and what the log holds afterwards
 pub record Keeps (refusal place : ℕ) (octets log : List ℕ) (answer : Kept) (after : List ℕ) : Type 0 where

@@ -1,15 +1,8 @@
 // Writes a log into a lent run: its numbers, its header and its records (document 01, "The log").
 ghost use Rattle.std.specs.Prelude.{◌≡◌, ◌+◌, ◌≤◌, length};
 ghost use Rattle.cell_log.specs.Numbers.{groups_of};
-ghost use Rattle.cell_log.specs.Written.{
-  Keeps,
-  kept_answered,
-  number_refusal,
-  header_refused_of,
-  header_octets,
-  record_refusal,
-  record_octets,
-};
+ghost use Rattle.cell_log.specs.Written.{Keeps, number_refusal, header_refused_of, header_octets, record_refusal, record_octets};
+ghost use Rattle.cell_log.specs.Answered.{kept_answered};
 
 use refusals::Refusal;
 

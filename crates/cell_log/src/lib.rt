@@ -3,8 +3,9 @@
 // log's start.
 ghost use Rattle.std.specs.Prelude.{◌≡◌, ◌<◌, ◌≤◌};
 ghost use Rattle.cell_log.specs.Code.{number_within, behind, from};
-ghost use Rattle.cell_log.specs.Numbers.{number, number_answered, number_at};
-ghost use Rattle.cell_log.specs.Records.{header_answered, header_of, record_answered, record_at, place_after, cell_at};
+ghost use Rattle.cell_log.specs.Numbers.{number, number_at};
+ghost use Rattle.cell_log.specs.Records.{header_of, record_at, place_after, cell_at};
+ghost use Rattle.cell_log.specs.Answered.{number_answered, header_answered, record_answered};
 
 use refusals::Refusal;
 

@@ -2,7 +2,8 @@
 // slice and the place that it holds. A caller that has the log as a slice uses `read`.
 ghost use Rattle.std.specs.Prelude.{◌≡◌};
 ghost use Rattle.cell_log.specs.Code.{from};
-ghost use Rattle.cell_log.specs.Records.{record_answered, record_at, place_after, cell_at};
+ghost use Rattle.cell_log.specs.Records.{record_at, place_after, cell_at};
+ghost use Rattle.cell_log.specs.Answered.{record_answered};
 
 use crate::Record;
 use refusals::Refusal;

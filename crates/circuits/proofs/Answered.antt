@@ -7,7 +7,8 @@ use Rattle.refusals.specs.Refusals.{refused_by}
 use Rattle.refusals.proofs.Laws.{number_injective, number_not_0}
 use Rattle.circuits.specs.declared.Verdict as Code
 use Rattle.circuits.specs.declared.Verdict.TheVariants as V
-use Rattle.circuits.specs.Circuits.{Verdict, Refused, Yes, Share, Allowance, Sum, refusal_of, verdict_of, check_answered}
+use Rattle.circuits.specs.Circuits.{Verdict, Refused, Yes, Share, Allowance, Sum, refusal_of}
+use Rattle.circuits.specs.Answered.{verdict_of, check_answered}
 
 back : Verdict → Code.Verdict
 back (Refused n) = V.Yes

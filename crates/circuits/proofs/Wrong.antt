@@ -11,19 +11,8 @@ use Rattle.runs.specs.Refusals.{or_else}
 use Rattle.runs.specs.Runs.{tab}
 use Rattle.runs.proofs.Wrong.{Never, Place, lent, lent_mut}
 use Rattle.formats.proofs.Wrong as formats
-use Rattle.circuits.specs.Circuits.{
-  Verdict,
-  answer_of,
-  circuit_of,
-  check_answered,
-  fits_slots,
-  cells_per_second,
-  judged_from,
-  check_refusal,
-  checked_of,
-  planned_of,
-  plan_refusal,
-}
+use Rattle.circuits.specs.Circuits.{Verdict, answer_of, circuit_of, fits_slots, cells_per_second, judged_from, check_refusal, checked_of, planned_of, plan_refusal}
+use Rattle.circuits.specs.Answered.{check_answered}
 use Rattle.circuits.proofs.check.Kinds as check-kinds
 use Rattle.circuits.proofs.check.Reads as check-reads
 use Rattle.circuits.proofs.plan.Kinds as plan-kinds

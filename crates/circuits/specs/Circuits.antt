@@ -1,13 +1,9 @@
 -- Sharing channels out over circuits: request 11 of document 02, sentence after sentence.
 -- Assumes nothing.
-use Rattle.std.specs.Prelude.{Bool, true, false, cond, not, ◌&&◌, ◌||◌, List, [], ◌∷◌, ◌≡◌, ℕ, suc, ◌+◌, ◌-◌, ◌*◌, ◌/◌, min, eqb, ltb, leb, length, Result, Ok, Err}
+use Rattle.std.specs.Prelude.{Bool, true, false, cond, not, ◌&&◌, ◌||◌, List, [], ◌∷◌, ◌≡◌, ℕ, suc, ◌+◌, ◌-◌, ◌*◌, ◌/◌, min, eqb, ltb, leb, length}
 use Rattle.runs.specs.Refusals.{or_else}
 use Rattle.runs.specs.Runs.{tab}
 use Rattle.formats.specs.Formats.{format_of, times_of, settings_refusal}
-use Rattle.refusals.specs.declared.Refusal.{Refusal}
-use Rattle.refusals.specs.Refusals.{number_of}
-use Rattle.circuits.specs.declared.Verdict as Code
-use Rattle.circuits.specs.declared.Verdict.TheVariants as V
 
 -- what the checker answers: the number of a refusal, or what it says of the plan
 pub data Verdict : Type 0 where
@@ -16,17 +12,6 @@ pub data Verdict : Type 0 where
   Share : ℕ → Verdict
   Allowance : ℕ → Verdict
   Sum : Verdict
-
--- the code's verdict, and its answer
-abbrev pub verdict_of : Code.Verdict → Verdict
-verdict_of V.Yes = Yes
-verdict_of (V.Share k) = Share k
-verdict_of (V.Allowance k) = Allowance k
-verdict_of V.Sum = Sum
-
-abbrev pub check_answered : Result Code.Verdict Refusal → Verdict
-check_answered (Ok verdict) = verdict_of verdict
-check_answered (Err refusal) = Refused (number_of refusal)
 
 -- the answer's numbers for each case: "1 yes, 2 a share, 3 an allowance, 4 the sum (0 on a refusal)"; the circuit that 2 or 3 names, else 0
 abbrev pub refusal_of : Verdict → ℕ

@@ -1,2 +1,3 @@
+pub mod Answered
 pub mod Circuits
 pub mod Plans

@@ -3,19 +3,8 @@
 // shares, the channels that each circuit carries; all circuits have one format.
 ghost use Rattle.std.specs.Prelude.{◌≡◌, ◌≤◌, length};
 ghost use Rattle.refusals.specs.Refusals.{refused_by};
-ghost use Rattle.circuits.specs.Circuits.{
-  fits_slots,
-  cells_per_second,
-  judged_from,
-  is_too_many,
-  check_refusal,
-  checked_of,
-  verdict_of,
-  check_answered,
-  planned_of,
-  plan_refusal,
-  Plans,
-};
+ghost use Rattle.circuits.specs.Circuits.{fits_slots, cells_per_second, judged_from, is_too_many, check_refusal, checked_of, planned_of, plan_refusal, Plans};
+ghost use Rattle.circuits.specs.Answered.{verdict_of, check_answered};
 
 use refusals::Refusal;
 
@@ -54,7 +43,8 @@ fn judge(slots: u32, channels: u32, frequency: u32, shares: &[u32], allowances: 
     ensures { verdict_of result ≡ judged_from slots channels frequency 0 0 shares.now allowances.now }
 {
     let mut carried = 0;
-    // no `zip`: the page's library, which has addresses of 32 bits, can't take an iterator's
+    // by a range: a `zip` hands out an `Option` of references, and the page's library, which is this code with addresses of 32 bits,
+    // would take a wrong one out of it
     for i in 0..shares.len() {
         let share = shares[i];
         if !fits_slots(slots, share) {

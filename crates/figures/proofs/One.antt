@@ -9,7 +9,8 @@ use Rattle.std.specs.Prelude.{Result, Ok, Err}
 use Rattle.refusals.specs.declared.Refusal.{Refusal}
 use Rattle.refusals.proofs.Laws.{number_injective, number_from}
 use Rattle.runs.proofs.One.{One}
-use Rattle.figures.specs.Sheets.{Answer, answered}
+use Rattle.figures.specs.Sheets.{Answer}
+use Rattle.figures.specs.Answered.{answered}
 use Rattle.figures.proofs.add.Kinds as add-kinds
 use Rattle.figures.proofs.add.Reads as add_reads
 use Rattle.figures.proofs.closed.Kinds as closed-kinds

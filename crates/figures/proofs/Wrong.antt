@@ -18,8 +18,9 @@ use Rattle.figures.specs.declared.Counts.{Counts}
 use Rattle.figures.specs.Adding.{rows_with, closed_of}
 use Rattle.figures.specs.Code.{cap_of, capped, held_row}
 use Rattle.figures.specs.Figures.{counts_of, per_million, row_of, too_many_of}
-use Rattle.figures.specs.Sheets.{Answer, answered, logs_of, heard_over, rows_of, unlike, sheet_refusal, sheet_of}
+use Rattle.figures.specs.Sheets.{Answer, logs_of, heard_over, rows_of, unlike, sheet_refusal, sheet_of}
 use Rattle.figures.specs.Taking.{part_noted, noted_by, start_tally}
+use Rattle.figures.specs.Answered.{answered}
 use Rattle.figures.proofs.add.Kinds as add-kinds
 use Rattle.figures.proofs.add.Reads as add_reads
 use Rattle.figures.proofs.closed.Kinds as closed-kinds

@@ -1,4 +1,5 @@
 pub mod Adding
+pub mod Answered
 pub mod Code
 pub mod Figures
 pub mod Sheets

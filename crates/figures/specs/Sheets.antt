@@ -1,8 +1,6 @@
 -- One sheet over many logs, request 3: a row for each log and one for all together, and its refusals.
 -- Assumes nothing.
-use Rattle.std.specs.Prelude.{Bool, cond, not, ◌||◌, List, [], ◌∷◌, ◌++◌, ◌≡◌, ℕ, ◌+◌, ◌*◌, ◌<◌, Result, Ok, Err, eqb, ltb, length, get_or, take, drop, replicate}
-use Rattle.refusals.specs.declared.Refusal.{Refusal}
-use Rattle.refusals.specs.Refusals.{number_of}
+use Rattle.std.specs.Prelude.{Bool, cond, not, ◌||◌, List, [], ◌∷◌, ◌++◌, ◌≡◌, ℕ, ◌+◌, ◌*◌, ◌<◌, eqb, ltb, length, get_or, take, drop, replicate}
 use Rattle.reading.specs.Heard.{Heard}
 use Rattle.reading.specs.Reading.{reading_of}
 use Rattle.reading.specs.Totals.{total_of}
@@ -56,11 +54,6 @@ pub record Answer : Type 0 where
 -- a refusal, and zeros
 abbrev pub refused_by : ℕ → Answer
 refused_by refusal = record { refusal = refusal; totals = replicate 10 0 }
-
--- the code's answer
-abbrev pub answered : Result (List ℕ) Refusal → Answer
-answered (Ok totals) = record { refusal = 0; totals = totals }
-answered (Err refusal) = refused_by (number_of refusal)
 
 -- the row of all together has its own missing per million, worked out from the totals
 unfoldable pub sheet_of : List ℕ → List ℕ → ℕ → Answer

@@ -4,8 +4,9 @@ ghost use Rattle.std.specs.Prelude.{◌≡◌, ◌*◌, ◌≤◌, eqb, length};
 ghost use Rattle.figures.specs.Adding.{Adds, closed_of};
 ghost use Rattle.figures.specs.Code.{capped, Fills};
 ghost use Rattle.figures.specs.Figures.{counts_of};
-ghost use Rattle.figures.specs.Sheets.{heard_in, sum_of, unlike, answered, Sheets};
+ghost use Rattle.figures.specs.Sheets.{heard_in, sum_of, unlike, Sheets};
 ghost use Rattle.figures.specs.Taking.{start_tally, Takes};
+ghost use Rattle.figures.specs.Answered.{answered};
 
 use pieces::Standing;
 use receiver::Receiver;

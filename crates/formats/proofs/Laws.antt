@@ -209,7 +209,7 @@ pub not_listed : (octet : ℕ) → (format_of octet).slots ≡ 0 → is_listed o
 not_listed octet e =
     ⊎_elim (λ h. absurd (let l = (sound_format octet h).slots_from in omega arith)) (λ h. h) (listed_or_not octet)
 
-is_listed_lem : (octet : ℕ) → ((format_of octet).slots ≡ 0 → ⊥) → is_listed octet ≡ true
+pub is_listed_lem : (octet : ℕ) → ((format_of octet).slots ≡ 0 → ⊥) → is_listed octet ≡ true
 unfolding format_of
 is_listed_lem octet some = ⊎_elim (λ h. h) (λ h. absurd (some (rw h))) (listed_or_not octet)
 

@@ -1,6 +1,6 @@
 #![tactic(auto)]
 // Protection of a sample, document 01: the three bits as a table. tools/tables.py prints its numbers.
-ghost use Rattle.std.specs.Prelude.{◌≡◌, ◌<◌};
+ghost use Rattle.std.specs.Prelude.{◌≡◌, ◌%◌};
 ghost use Rattle.guards.specs.Guards.{ten_guard};
 ghost use Rattle.guards.specs.Code.{seven_guards};
 
@@ -13,11 +13,11 @@ static SEVENS: [u8; 128] = [
     1, 2, 7, 4, 6, 5, 0, 3, 4, 7, 2, 1, 3, 0, 5, 6, 0, 3, 6, 5, 7, 4, 1, 2, 5, 6, 3, 0, 2, 1, 4, 7,
 ];
 
-// The protection bits of ten bits, read at the seven that they are folded to.
-pub fn of_ten(ten: u64) -> u64
-    requires { ten < 1024 }
-    ensures { result ≡ ten_guard ten }
+// The protection bits of ten bits, read at the seven that they are folded to; of a number above 1,023 those of its ten low bits.
+pub fn of_ten(number: u64) -> u64
+    ensures { result ≡ ten_guard (number % 1024) }
 {
+    let ten = number % 1024;
     u64::from(SEVENS[((ten ^ (ten >> 7)) % 128) as usize])
 }
 

@@ -2,7 +2,7 @@
 -- Assumes nothing.
 use mathlib.Core.List.{List, [], ◌∷◌, ◌++◌, append_assoc, append-nil, flat_map}
 use mathlib.Core.Path.{◌≡◌, refl, sym, ◌∙◌, ap, ap₂}
-use Prim.Native.Nat.{ℕ, ◌+◌, ◌*◌, ◌/◌, ◌≤◌, ◌<◌}
+use Prim.Native.Nat.{ℕ, ◌+◌, ◌*◌, ◌/◌, ◌≤◌, ◌<◌, ◌-◌}
 use native.Mathlib.Omega.{arith}
 use lib.ListN.{length, take, drop, length-append}
 use lib.Seq.{take_at, take_all, drop-append-add, drop-drop}
@@ -185,3 +185,6 @@ module _ (st : Receiver) (log : List ℕ) (place : ℕ) (reports₀ : List ℕ) 
         (ap (take (length reports₀ / 5))
         (s.all ∙ ap (λ (hs : List Heard). s.done ++ hs) (nothing_comes none) ∙ append-nil s.done)
         ∙ take_all (length reports₀ / 5) s.done (omega (arith, s.within, s.count)))
+
+pub one_fewer : {n most : ℕ} → n < most → most - (n + 1) < most - n
+one_fewer h = omega arith

@@ -35,9 +35,7 @@ use Rattle.status.proofs.assembler.brought_forward.Kinds as brought-forward-kind
 use Rattle.status.proofs.assembler.brought_forward.Reads as brought-forward-reads
 use Rattle.status.specs.contracts.assembler.bring_forward as bring-forward
 use Rattle.status.proofs.One as status
-use Rattle.cell_log.specs.Numbers.{number_answered}
-use Rattle.cell_log.specs.Records.{header_answered, record_answered}
-use Rattle.cell_log.specs.Written.{kept_answered}
+use Rattle.cell_log.specs.Answered.{number_answered, header_answered, record_answered, kept_answered}
 use Rattle.cell_log.specs.declared.reader.Reader.{Reader}
 use Rattle.cell_log.proofs.read_number.Kinds as read-number-kinds
 use Rattle.cell_log.proofs.read_number.Reads as read-number-reads
@@ -64,7 +62,7 @@ use Rattle.presence.proofs.anything.Kinds as anything-kinds
 use Rattle.presence.proofs.anything.Reads as anything-reads
 use Rattle.saving.proofs.salvage.Kinds as salvage-kinds
 use Rattle.saving.proofs.salvage.Reads as salvage-reads
-use Rattle.cable.specs.Frames.{import_answered, export_answered}
+use Rattle.cable.specs.Answered.{import_answered, export_answered}
 use Rattle.cable.proofs.import_frame.Kinds as import-kinds
 use Rattle.cable.proofs.import_frame.Reads as import-reads
 use Rattle.cable.proofs.export_frame.Kinds as export-kinds
@@ -74,12 +72,12 @@ use Rattle.units.proofs.export_units.Reads as export-units-reads
 use Rattle.units.proofs.read_unit.Kinds as read-unit-kinds
 use Rattle.units.proofs.read_unit.Reads as read-unit-reads
 use Rattle.refusals.specs.Refusals.{refused_by}
-use Rattle.circuits.specs.Circuits.{check_answered}
+use Rattle.circuits.specs.Answered.{check_answered}
 use Rattle.circuits.proofs.check.Kinds as check-circuits-kinds
 use Rattle.circuits.proofs.check.Reads as check-circuits-reads
 use Rattle.circuits.proofs.plan.Kinds as plan-circuits-kinds
 use Rattle.circuits.proofs.plan.Reads as plan-circuits-reads
-use Rattle.figures.specs.Sheets.{answered}
+use Rattle.figures.specs.Answered.{answered}
 use Rattle.figures.proofs.sheet.Kinds as sheet-kinds
 use Rattle.figures.proofs.sheet.Reads as sheet-reads
 use Rattle.line.specs.Calls.{

@@ -65,7 +65,7 @@ fn list(
 {
     let mut listing = listing::start_longest();
     let mut turn = source::first();
-    while source::goes_on(turn, listing::reads_on(listing)) {
+    while turn.goes_on(listing::reads_on(listing)) {
         turn = source::read(rt, b"linelist", name, from, buffer, turn.left);
         let printed = take_read(listing, held, buffer, turn, text);
         let listed = printed.listed;
@@ -74,7 +74,7 @@ fn list(
         }
         listing = printed.listing;
     }
-    if source::well(turn) {
+    if turn.well() {
         finish(rt, listing, *held, text);
     }
 }

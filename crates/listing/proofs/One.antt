@@ -3,8 +3,13 @@
 -- Assumes nothing.
 use Rattle.std.proofs.Common.{sym, refl, ◌∙◌}
 use Rattle.runs.proofs.One.{One}
+use Rattle.text.proofs.One.{same_past, same_run}
 use Rattle.listing.proofs.end.Kinds as end-kinds
 use Rattle.listing.proofs.end.Reads as end_reads
+use Rattle.listing.proofs.lines.log_refused_line.Kinds as log-refused-line-kinds
+use Rattle.listing.proofs.lines.log_refused_line.Reads as log-refused-line-reads
+use Rattle.listing.proofs.lines.refused_line.Kinds as refused-line-kinds
+use Rattle.listing.proofs.lines.refused_line.Reads as refused-line-reads
 use Rattle.listing.proofs.reads_on.Kinds as reads-on-kinds
 use Rattle.listing.proofs.reads_on.Reads as reads-on-reads
 use Rattle.listing.proofs.start.Kinds as start-kinds
@@ -31,3 +36,9 @@ take_one κs a x y v w pre p q = (
 
 pub end_one : One end-kinds.ps end-kinds.r end_reads.Pre end_reads.Post
 end_one κs a x y v w pre p q = (p.printed ∙ sym q.printed, λ i. (tt, (tt, ((p.wrote ∙ sym q.wrote) i, tt))))
+
+pub refused_line_one : One refused-line-kinds.ps refused-line-kinds.r refused-line-reads.Pre refused-line-reads.Post
+refused_line_one κs a x y v w pre p q = (same_past p q, λ i. (same_run p q i, (tt, (tt, (tt, tt)))))
+
+pub log_refused_line_one : One log-refused-line-kinds.ps log-refused-line-kinds.r log-refused-line-reads.Pre log-refused-line-reads.Post
+log_refused_line_one κs a x y v w pre p q = (same_past p q, λ i. (same_run p q i, (tt, (tt, tt))))

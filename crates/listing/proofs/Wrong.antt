@@ -8,6 +8,7 @@ use Rattle.receiver.proofs.Wrong as receiver
 use Rattle.pieces.proofs.Wrong as pieces
 use Rattle.pieces.specs.Steps.{steps_from, stood_of}
 use Rattle.text.specs.declared.Put.{Put}
+use Rattle.text.specs.Put.{Filling, put_one, put_all}
 use Rattle.listing.specs.declared.Listing.{Listing}
 use Rattle.listing.specs.declared.Printed.{Printed}
 use Rattle.listing.specs.List.{line_of}
@@ -16,6 +17,10 @@ use Rattle.text.specs.Text.{digits_of}
 use Rattle.text.specs.Words.{words}
 use Rattle.listing.proofs.end.Kinds as end-kinds
 use Rattle.listing.proofs.end.Reads as end_reads
+use Rattle.listing.proofs.lines.log_refused_line.Kinds as log-refused-line-kinds
+use Rattle.listing.proofs.lines.log_refused_line.Reads as log-refused-line-reads
+use Rattle.listing.proofs.lines.refused_line.Kinds as refused-line-kinds
+use Rattle.listing.proofs.lines.refused_line.Reads as refused-line-reads
 use Rattle.listing.proofs.reads_on.Kinds as reads-on-kinds
 use Rattle.listing.proofs.reads_on.Reads as reads-on-reads
 use Rattle.listing.proofs.start.Kinds as start-kinds
@@ -141,3 +146,31 @@ module _ (κs : Lfts 0) where
 
   pub broken_reads_no_more : Wanted (at_stage 3) (λ x. x ≡ true)
   broken_reads_no_more x v wrong s = true≢false (sym wrong ∙ s)
+
+module _ (κs : Lfts 1) (p : Place) where
+  abbrev empty : Put
+  empty = record { octets = 0; whole = true }
+
+  -- record 7 refused by 9: the two in each other's place, and no line
+  abbrev Refused : (Put → List ℕ → Type 0) → Type 0
+  Refused Wrong = Never refused-line-kinds.ps refused-line-kinds.r refused-line-reads.Post κs (lent_mut p (zeros 20), (empty, (7, (9, tt)))) (λ x v. Wrong x v.0)
+
+  pub record_before_its_refusal : Refused (λ x run. get_or run 0 0 ≡ 57)
+  unfolding unfolded put_one put_all
+  record_before_its_refusal x v wrong s = let digit : ◌≡◌ {A = ℕ} 57 55 = sym wrong ∙ ap (λ (f : Filling). get_or f.run 0 0) s.is in omega arith
+
+  pub refused_record_has_a_line : Refused (λ x run. x.octets ≡ 0)
+  unfolding unfolded put_one put_all
+  refused_record_has_a_line x v wrong s = let right : x.octets ≡ 12 = ap (λ (f : Filling). f.past.octets) s.is in omega arith
+
+  -- a log refused by 3: told without the number, and with another one
+  abbrev LogRefused : (Put → List ℕ → Type 0) → Type 0
+  LogRefused Wrong = Never log-refused-line-kinds.ps log-refused-line-kinds.r log-refused-line-reads.Post κs (lent_mut p (zeros 20), (empty, (3, tt))) (λ x v. Wrong x v.0)
+
+  pub log_refused_by_a_number : LogRefused (λ x run. x.octets ≡ 12)
+  unfolding unfolded put_one put_all
+  log_refused_by_a_number x v wrong s = let right : x.octets ≡ 14 = ap (λ (f : Filling). f.past.octets) s.is in omega arith
+
+  pub log_refused_by_its_number : LogRefused (λ x run. get_or run 12 0 ≡ 48)
+  unfolding unfolded put_one put_all
+  log_refused_by_its_number x v wrong s = let digit : ◌≡◌ {A = ℕ} 48 51 = sym wrong ∙ ap (λ (f : Filling). get_or f.run 12 0) s.is in omega arith

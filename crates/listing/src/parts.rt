@@ -1,6 +1,7 @@
 // The lines of a log's parts, and the counts behind them.
 ghost use Rattle.std.specs.Prelude.{◌≡◌, ◌+◌, ◌≤◌, length, take};
-ghost use Rattle.cell_log.specs.Records.{header_answered, header_of};
+ghost use Rattle.cell_log.specs.Records.{header_of};
+ghost use Rattle.cell_log.specs.Answered.{header_answered};
 ghost use Rattle.pieces.specs.Found.{number_of, numbered};
 ghost use Rattle.pieces.specs.Steps.{found_parts};
 ghost use Rattle.pieces.specs.Taken.{fault_part};
@@ -117,7 +118,7 @@ pub(crate) fn step(
     ensures { Puts run.old at run.new result.past (text_of tally (found_parts (numbered found) held.now piece.now place))
         × (result.tally ≡ tally_of tally (found_parts (numbered found) held.now piece.now place)) }
 {
-    if let Some(octets) = pieces::record_octets(found.what, held, piece, place) {
+    if let Some(octets) = pieces::octets_found(found.what, held, piece, place) {
         let got = judged_front(tally.state, octets);
         return Stepped {
             past: record_line(run, at, tally.records, got),

@@ -7,16 +7,18 @@ ghost use Rattle.management.specs.Tables.{brought_to};
 pub(crate) fn octet(message: &[u8], at: usize) -> u8
     ensures { result ≡ get_or message.now at 0 }
 {
-    message.get(at).copied().unwrap_or(0)
+    if at < message.len() { message[at] } else { 0 }
 }
 
 // The first 29 octets of a message, zeros added where it is shorter. No table has more.
 pub(crate) fn brought(message: &[u8]) -> [u8; 29]
     ensures { result ≡ brought_to 29 message.now }
 {
+    // by a loop: for the slice's `copy_from_slice` the archive for C would need `memset` from outside
     let mut octets = [0; 29];
-    let length = message.len().min(29);
-    octets[..length].copy_from_slice(&message[..length]);
+    for i in 0..29 {
+        octets[i] = octet(message, i);
+    }
     octets
 }
 

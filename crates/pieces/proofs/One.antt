@@ -13,12 +13,16 @@ use Rattle.pieces.proofs.is_record.Kinds as is-record-kinds
 use Rattle.pieces.proofs.is_record.Reads as is-record-reads
 use Rattle.pieces.proofs.next.Kinds as next-kinds
 use Rattle.pieces.proofs.next.Reads as next-reads
+use Rattle.pieces.proofs.octets_found.Kinds as octets-found-kinds
+use Rattle.pieces.proofs.octets_found.Reads as octets-found-reads
 use Rattle.pieces.proofs.record_octets.Kinds as record-octets-kinds
 use Rattle.pieces.proofs.record_octets.Reads as record-octets-reads
 use Rattle.pieces.proofs.start.Kinds as start-kinds
 use Rattle.pieces.proofs.start.Reads as start-reads
 use Rattle.pieces.proofs.stretch_at.Kinds as stretch-at-kinds
 use Rattle.pieces.proofs.stretch_at.Reads as stretch-at-reads
+use Rattle.pieces.proofs.U8FromWhat.from.Kinds as from-kinds
+use Rattle.pieces.proofs.U8FromWhat.from.Reads as from-reads
 
 pub start_one : One start-kinds.ps start-kinds.r start-reads.Pre start-reads.Post
 start_one κs a x y v w pre p q = (p ∙ sym q, refl)
@@ -57,5 +61,11 @@ is_record_one κs a x y v w pre p q = (p ∙ sym q, refl)
 pub record_octets_one : One record-octets-kinds.ps record-octets-kinds.r record-octets-reads.Pre record-octets-reads.Post
 record_octets_one κs a x y v w pre p q = (p ∙ sym q, refl)
 
+pub octets_found_one : One octets-found-kinds.ps octets-found-kinds.r octets-found-reads.Pre octets-found-reads.Post
+octets_found_one κs a x y v w pre p q = (p ∙ sym q, refl)
+
 pub stretch_at_one : One stretch-at-kinds.ps stretch-at-kinds.r stretch-at-reads.Pre stretch-at-reads.Post
 stretch_at_one κs a x y v w pre p q = (p ∙ sym q, refl)
+
+pub from_one : One from-kinds.ps from-kinds.r from-reads.Pre from-reads.Post
+from_one κs a x y v w pre p q = (p ∙ sym q, refl)

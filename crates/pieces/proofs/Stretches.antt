@@ -122,6 +122,9 @@ module _ {piece : List ℕ} {place most : ℕ} (fits : place + 49 * most ≤ len
     abbrev at : ℕ
     at = place + 49 * n
 
+    pub passing_in : n < most → at + 49 ≤ length piece
+    passing_in more = omega (arith, fits, more)
+
     first : get_or (drop at piece) 0 0 ≡ get_or piece at 0
     first = let none : at + 0 ≡ at = omega arith in get_or-drop at piece 0 0 ∙ ap (λ (k : ℕ). get_or piece k 0) none
 

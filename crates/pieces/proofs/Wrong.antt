@@ -33,12 +33,16 @@ use Rattle.pieces.proofs.is_record.Kinds as is-record-kinds
 use Rattle.pieces.proofs.is_record.Reads as is-record-reads
 use Rattle.pieces.proofs.next.Kinds as next-kinds
 use Rattle.pieces.proofs.next.Reads as next-reads
+use Rattle.pieces.proofs.octets_found.Kinds as octets-found-kinds
+use Rattle.pieces.proofs.octets_found.Reads as octets-found-reads
 use Rattle.pieces.proofs.record_octets.Kinds as record-octets-kinds
 use Rattle.pieces.proofs.record_octets.Reads as record-octets-reads
 use Rattle.pieces.proofs.start.Kinds as start-kinds
 use Rattle.pieces.proofs.start.Reads as start-reads
 use Rattle.pieces.proofs.stretch_at.Kinds as stretch-at-kinds
 use Rattle.pieces.proofs.stretch_at.Reads as stretch-at-reads
+use Rattle.pieces.proofs.U8FromWhat.from.Kinds as from-kinds
+use Rattle.pieces.proofs.U8FromWhat.from.Reads as from-reads
 
 -- every definition on the way down to the numbers
 unfoldable pub steps_unfolded : Unit {0}
@@ -101,20 +105,34 @@ module _ (κs : Lfts 2) (p q : Place) where
   whole_record_counted x v wrong s =
       let right : x.standing.records ≡ 8 = ap (λ (f : Found). f.standing.records) s.answered in omega arith
 
-  abbrev Octets : What → (Option (List ℕ) → Type 0) → Type 0
+  abbrev Octets : ℕ → (List ℕ → Type 0) → Type 0
   Octets what Wrong =
       Never record-octets-kinds.ps record-octets-kinds.r record-octets-reads.Post κs
       (what, (lent p zeros, (lent q ones, (0, tt)))) (λ x v. Wrong x)
 
   -- a record in the piece taken from what is held, and one that is held from the piece
-  pub octets_in_the_piece : Octets kind.InPiece (λ x. x ≡ Some zeros)
+  pub octets_in_the_piece : Octets 2 (λ x. x ≡ zeros)
+  unfolding in_piece found_octets first
+  octets_in_the_piece x v wrong s = let octet : ◌≡◌ {A = ℕ} 0 1 = ap first (sym wrong ∙ s) in omega arith
+
+  pub octets_that_are_held : Octets 3 (λ x. x ≡ ones)
+  unfolding in_piece found_octets first
+  octets_that_are_held x v wrong s = let octet : ◌≡◌ {A = ℕ} 1 0 = ap first (sym wrong ∙ s) in omega arith
+
+  abbrev OctetsFound : What → (Option (List ℕ) → Type 0) → Type 0
+  OctetsFound what Wrong =
+      Never octets-found-kinds.ps octets-found-kinds.r octets-found-reads.Post κs
+      (what, (lent p zeros, (lent q ones, (0, tt)))) (λ x v. Wrong x)
+
+  -- the same of what was found
+  pub octets_found_in_the_piece : OctetsFound kind.InPiece (λ x. x ≡ Some zeros)
   unfolding is_record in_piece found_octets octets_or first
-  octets_in_the_piece x v wrong s =
+  octets_found_in_the_piece x v wrong s =
       let octet : ◌≡◌ {A = ℕ} 0 1 = ap (λ (x : Option (List ℕ)). first (octets_or x)) (sym wrong ∙ s) in omega arith
 
-  pub octets_that_are_held : Octets kind.Held (λ x. x ≡ Some ones)
+  pub octets_found_that_are_held : OctetsFound kind.Held (λ x. x ≡ Some ones)
   unfolding is_record in_piece found_octets octets_or first
-  octets_that_are_held x v wrong s =
+  octets_found_that_are_held x v wrong s =
       let octet : ◌≡◌ {A = ℕ} 1 0 = ap (λ (x : Option (List ℕ)). first (octets_or x)) (sym wrong ∙ s) in omega arith
 
 -- two records and the first octet of a third, which is none
@@ -152,17 +170,24 @@ module _ (κs : Lfts 1) (p : Place) where
   stretch_is_counted x v wrong s = let right : x.standing.records ≡ 9 = ap (λ (f : Stretch). f.standing.records) s in omega arith
 
 module _ (κs : Lfts 0) where
-  abbrev IsRecord : What → (Bool → Type 0) → Type 0
+  abbrev IsRecord : ℕ → (Bool → Type 0) → Type 0
   IsRecord what Wrong = Never is-record-kinds.ps is-record-kinds.r is-record-reads.Post κs (what, tt) (λ x v. Wrong x)
 
   -- a record that is held passed over, and a fault taken for a record
-  pub held_record_not_passed_over : IsRecord kind.Held (λ x. x ≡ false)
+  pub held_record_not_passed_over : IsRecord 3 (λ x. x ≡ false)
   unfolding is_record
   held_record_not_passed_over x v wrong s = true≢false (sym s ∙ wrong)
 
-  pub fault_is_no_record : IsRecord kind.Fault (λ x. x ≡ true)
+  pub fault_is_no_record : IsRecord 4 (λ x. x ≡ true)
   unfolding is_record
   fault_is_no_record x v wrong s = true≢false (sym wrong ∙ s)
+
+  -- a header with the number of nothing, and a fault with that of a record
+  pub header_not_nothing : Never from-kinds.ps from-kinds.r from-reads.Post κs (kind.Header, tt) (λ x v. x ≡ 0)
+  header_not_nothing x v wrong p = omega (arith, p)
+
+  pub fault_no_record : Never from-kinds.ps from-kinds.r from-reads.Post κs (kind.Fault, tt) (λ x v. x ≡ 3)
+  fault_no_record x v wrong p = omega (arith, p)
 
   abbrev End : Standing → (ℕ → Type 0) → Type 0
   End s Wrong = Never end-kinds.ps end-kinds.r end_reads.Post κs (s, (zeros, tt)) (λ x v. Wrong x)

@@ -16,6 +16,7 @@ ghost use Rattle.pieces.specs.Steps.{
   Steps,
   is_record,
   in_piece,
+  found_octets,
   octets_found,
 };
 ghost use Rattle.pieces.specs.Stretch.{stretch_of, past_stretch};
@@ -48,6 +49,15 @@ pub enum What {
     // a record, which is the octets held
     Held,
     Fault,
+}
+
+// Its number, as the definitions have it.
+impl From<What> for u8 {
+    ghost from_gives = { λ what number. number ≡ number_of what };
+
+    fn from(what: What) -> u8 {
+        what as u8
+    }
 }
 
 // What was found, the place to go on at, and the standing there.
@@ -255,20 +265,20 @@ pub fn end(standing: Standing, held: [u8; 49]) -> u8
     12
 }
 
-// Whether what was found is a record.
+// Whether this is the number of a kind that is a record.
 #[tactic(auto, unfolding(crate::specs::Steps::is_record))]
-pub fn is_record(what: What) -> bool
-    ensures { result ≡ is_record (number_of what) }
+pub fn is_record(what: u8) -> bool
+    ensures { result ≡ is_record what }
 {
-    matches!(what, What::InPiece | What::Held)
+    what == 2 || what == 3
 }
 
-// Whether it lies in a piece of this size, at this place.
+// Whether it is that of a record in the piece, and one lies in a piece of this size, at this place.
 #[tactic(auto, unfolding(crate::specs::Steps::in_piece))]
-fn in_piece(what: What, size: usize, place: usize) -> bool
-    ensures { result ≡ in_piece (number_of what) size place }
+fn in_piece(what: u8, size: usize, place: usize) -> bool
+    ensures { result ≡ in_piece what size place }
 {
-    matches!(what, What::InPiece) && 49 <= size && place <= size - 49
+    what == 2 && 49 <= size && place <= size - 49
 }
 
 // A record that lies in a piece, as an array.
@@ -281,19 +291,28 @@ fn copied(piece: &[u8], place: usize) -> [u8; 49]
     octets
 }
 
-// The octets of a record, where one was found: those in the piece, or else those held. With them in one array a caller handles a
-// record in one place of the program: what is called in two isn't compiled into its loop.
+// The octets of a record whose kind has this number: those in the piece, or else those held.
 #[tactic(auto, using(crate::proofs::Laws::in_room), unfolding(crate::specs::Steps::found_octets))]
-pub fn record_octets(what: What, held: &[u8; 49], piece: &[u8], place: usize) -> Option<[u8; 49]>
+pub fn record_octets(what: u8, held: &[u8; 49], piece: &[u8], place: usize) -> [u8; 49]
+    ensures { result ≡ found_octets what held.now piece.now place }
+{
+    if in_piece(what, piece.len(), place) {
+        return copied(piece, place);
+    }
+    *held
+}
+
+// The octets of a record, where one was found. With them in one array a caller handles a record in one place of the program: what is
+// called in two isn't compiled into its loop.
+pub fn octets_found(what: What, held: &[u8; 49], piece: &[u8], place: usize) -> Option<[u8; 49]>
     ensures { result ≡ octets_found (number_of what) held.now piece.now place }
 {
-    if !is_record(what) {
-        return None;
+    let number = what.into();
+    if is_record(number) {
+        Some(record_octets(number, held, piece, place))
+    } else {
+        None
     }
-    if in_piece(what, piece.len(), place) {
-        return Some(copied(piece, place));
-    }
-    Some(*held)
 }
 
 // Whole records that lie one behind the other in a piece: how many, the place behind them, and the standing there.

@@ -1,7 +1,7 @@
 #![tactic(auto)]
 // Is there anything on it at all? Request 7: whether a log holds a sample marked 0 that isn't zero, and in which record first.
 ghost use Rattle.std.specs.Prelude.{◌≡◌, true, false};
-ghost use Rattle.cell_log.specs.Records.{header_answered};
+ghost use Rattle.cell_log.specs.Answered.{header_answered};
 ghost use Rattle.presence.specs.Line.{Writes};
 ghost use Rattle.presence.specs.Presence.{presence_of, read_from};
 ghost use Rattle.presence.specs.Taking.{search_start, reads_on, Takes, answer_at_end};

@@ -74,7 +74,7 @@ pub(crate) fn step(
     requires { number_of found.what ≡ 2 → place + 49 ≤ length piece.now }
     ensures { result ≡ sought_of sought (found_parts (numbered found) held.now piece.now place) }
 {
-    if let Some(octets) = pieces::record_octets(found.what, held, piece, place) {
+    if let Some(octets) = pieces::octets_found(found.what, held, piece, place) {
         return past_front(sought, octets);
     }
     match found.what {

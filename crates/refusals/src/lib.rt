@@ -1,6 +1,6 @@
 #![tactic(auto)]
-// Refusals, documents 01 and 02: each way in which a call says no, with the number that the papers give it. 24 and 25 are no refusals
-// of a call: a program has them.
+// Refusals, documents 01 and 02: each way in which a call says no, with the number that the papers give it. 24 and 25 are the
+// management port's, which has them for itself.
 ghost use Rattle.std.specs.Prelude.{◌≡◌};
 ghost use Rattle.refusals.specs.Refusals.{number_of, refused_by};
 

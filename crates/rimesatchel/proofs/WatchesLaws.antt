@@ -5,16 +5,13 @@ use mathlib.Core.Path.{◌≡◌, refl, sym, ◌∙◌, ap}
 use Prim.Native.Nat.{ℕ}
 use borrow.Author.Tests.{eq-eqb, ne_eqb}
 use lib.ListN.{get_or}
-use Rattle.std.proofs.Common.{Ok, Err}
+use Rattle.std.proofs.Common.{Result, Ok, Err}
 use Rattle.refusals.specs.declared.Refusal.{Refusal}
-use Rattle.refusals.specs.declared.Refusal.TheVariants.{State}
 use Rattle.refusals.specs.Refusals.{number_of}
 use Rattle.refusals.proofs.Laws.{number_not_0}
-use Rattle.slips.specs.declared.Watch as Code
 use Rattle.slips.specs.declared.Slip.{Slip}
-use Rattle.slips.specs.Watch.{Watch, Stepped, step_of}
-use Rattle.slips.specs.Known.{known_of, what_of, cells_of, stepped_of, octets_in, Reads}
-use Rattle.slips.proofs.Steps.{step_4}
+use Rattle.slips.specs.Watch.{Stepped, step_of}
+use Rattle.slips.specs.Known.{what_of, cells_of, stepped_from, watch_in, octets_in}
 use Rattle.rimesatchel.specs.Watches.{watch_of, watch_octets, slipped_of, SlippedOctets}
 
 module _ (watch report : List ℕ) {s : Stepped} (is : s ≡ slipped_of watch report) where
@@ -43,24 +40,15 @@ module _ (watch report : List ℕ) {s : Stepped} (is : s ≡ slipped_of watch re
       }
 
 module _ (watch report : List ℕ) where
-  -- the watch is that of the octets
-  abbrev stepped_by : Watch → Stepped
-  stepped_by w = step_of w (get_or report 0 0) (get_or report 1 0) (get_or report 2 0)
+  -- the step by octets, of those of the watch and of the report
+  abbrev stepped_by : Result (List ℕ × Slip) Refusal → Type 0
+  stepped_by result = stepped_from watch result ≡ step_of (watch_in watch) (get_or report 0 0) (get_or report 1 0) (get_or report 2 0)
 
-  seen_as : (seen : Code.Watch) → Reads watch (Ok seen) → stepped_by (known_of seen) ≡ slipped_of watch report
+  pub report_refused : (refusal : Refusal) → stepped_by (Err refusal) → SlippedOctets watch report (number_of refusal) watch (0 ∷ 0 ∷ [])
   unfolding watch_of
-  seen_as seen read = ap stepped_by read.0
+  report_refused refusal is = slip_refused watch report is (number_not_0 refusal)
 
-  pub read_refused : {refusal : Refusal} → Reads watch (Err refusal) → SlippedOctets watch report (number_of refusal) watch (0 ∷ 0 ∷ [])
-  unfolding number_of watch_of
-  read_refused read = rw read.0 (slip_refused watch report (sym (step_4 _ _ _ _ read.1)) (number_not_0 State))
-
-  module _ (seen after : Code.Watch) (read : Reads watch (Ok seen)) where
-    pub report_refused : (refusal : Refusal) → stepped_of (Err refusal) after ≡ stepped_by (known_of seen)
-        → SlippedOctets watch report (number_of refusal) watch (0 ∷ 0 ∷ [])
-    report_refused refusal is = slip_refused watch report (is ∙ seen_as seen read) (number_not_0 refusal)
-
-    pub step_taken : (slip : Slip) {left : List ℕ} → stepped_of (Ok slip) after ≡ stepped_by (known_of seen) → left ≡ octets_in (known_of after)
-        → SlippedOctets watch report 0 left (what_of slip ∷ cells_of slip ∷ [])
-    unfolding watch_octets
-    step_taken slip is leaves = slip_taken watch report (is ∙ seen_as seen read) refl leaves
+  pub step_taken : (r : List ℕ × Slip) → stepped_by (Ok r) → r.0 ≡ octets_in (watch_in r.0)
+      → SlippedOctets watch report 0 r.0 (what_of r.1 ∷ cells_of r.1 ∷ [])
+  unfolding watch_of watch_octets
+  step_taken r is leaves = slip_taken watch report is refl leaves

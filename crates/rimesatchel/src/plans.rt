@@ -1,6 +1,7 @@
 // Sharing channels out over circuits for C, Rust and Python: the checker's verdict as numbers, and the planner.
 ghost use Rattle.std.specs.Prelude.{[], ◌∷◌, ◌≡◌};
-ghost use Rattle.circuits.specs.Circuits.{verdict_of, answer_of, circuit_of, Plans};
+ghost use Rattle.circuits.specs.Circuits.{answer_of, circuit_of, Plans};
+ghost use Rattle.circuits.specs.Answered.{verdict_of};
 ghost use Rattle.rimesatchel.specs.Plans.{CheckedPlan};
 
 use circuits::Verdict;

@@ -3,16 +3,15 @@ ghost use Rattle.refusals.specs.Refusals.{refused_by};
 ghost use Rattle.rimesatchel.specs.Watches.{SlippedOctets, told_by};
 
 use refusals::Refusal;
-use slips::{Slip, Watch};
+use slips::Slip;
 
 // Brings the watch forward by the report of a cell that was taken.
 fn stepped(watch: &mut [u8; 7], report: &[u8; 4]) -> Result<Slip, Refusal>
     ensures { SlippedOctets watch.old report.now (refused_by result) watch.new (told_by result) }
 {
     let [missing, number, second, _] = *report;
-    let mut seen = Watch::try_from(*watch)?;
-    let slip = seen.step(missing, number, second)?;
-    *watch = seen.octets();
+    let (after, slip) = slips::step(*watch, missing, number, second)?;
+    *watch = after;
     Ok(slip)
 }
 

@@ -101,7 +101,7 @@ fn save(
 {
     let mut salvaging = salvaging::start();
     let mut turn = source::first();
-    while source::goes_on(turn, true) {
+    while turn.goes_on(true) {
         turn = source::read(rt, b"salvage", name, from, buffer, turn.left);
         let wrote = take_read(salvaging, held, buffer, turn, out, notes);
         if !print_both(rt, out, wrote.saved, notes, wrote.noted) {
@@ -109,7 +109,7 @@ fn save(
         }
         salvaging = wrote.salvaging;
     }
-    if source::well(turn) {
+    if turn.well() {
         finish(rt, salvaging, *held, notes);
     }
 }

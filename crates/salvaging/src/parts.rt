@@ -1,7 +1,8 @@
 // What is written of a log's parts, and the counts behind them.
 ghost use Rattle.std.specs.Prelude.{◌≡◌, ◌+◌, ◌-◌, ◌≤◌, length, take};
-ghost use Rattle.cell_log.specs.Records.{header_answered, header_of};
+ghost use Rattle.cell_log.specs.Records.{header_of};
 ghost use Rattle.cell_log.specs.Written.{record_octets};
+ghost use Rattle.cell_log.specs.Answered.{header_answered};
 ghost use Rattle.reading.specs.Records.{front_of};
 ghost use Rattle.pieces.specs.Limit.{whole};
 ghost use Rattle.pieces.specs.Found.{number_of, numbered};
@@ -145,7 +146,7 @@ pub(crate) fn step(
     ensures { Tells tally (found_parts (numbered found) held.now piece.now place) out.old saved
         out.new result.saved notes.old noted notes.new result.noted result.tally }
 {
-    if let Some(octets) = pieces::record_octets(found.what, held, piece, place) {
+    if let Some(octets) = pieces::octets_found(found.what, held, piece, place) {
         return record_step(out, notes, saved, noted, tally, octets);
     }
     match found.what {

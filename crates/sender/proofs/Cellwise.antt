@@ -375,3 +375,6 @@ module _ (set : Settled) (indications : Bool) (st : Sender) (samples ancillary l
                 let named : octet ≡ octet_of cell-now.indication = octet_is ∙ ap octet_of is in
                 turned none_here (sym (ap length canonical) ∙ long) (put ∙ whole ∙ (λ i. written log to (named i ∷ canonical i))) kept
                 (far ∙ ap (λ (n : ℕ). at + n) (used_now_lem now s.sound s.given ∙ s.used)) next_to (e ∙ ap (after now) is)
+
+pub one_fewer : {n most : ℕ} → n < most → most - (n + 1) < most - n
+one_fewer h = omega (arith, h)

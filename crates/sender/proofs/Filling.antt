@@ -16,7 +16,7 @@ use Rattle.cells.proofs.Placement.{entry_lt, entry_next}
 use Rattle.cells.proofs.Places.{step_fits}
 use Rattle.cells.proofs.Subframes.{guard_zero, slot_room}
 use Rattle.sender.specs.Packing.{Packable, Named, entry_at, slot_by, filled_to, idle_number}
-use Rattle.sender.proofs.Subframes.{guarded_is}
+use Rattle.sender.proofs.Subframes.{guarded_is, plain_fits}
 
 -- a cell filled up to `slot`, of the slots before `end` that a loop fills
 pub record Filling (set : Settled) (sequence : ℕ) (samples ancillary cell₀ : List ℕ) (end : ℕ) (cell : List ℕ) (slot : ℕ) : Type 0 where
@@ -148,6 +148,14 @@ module _ {set : Settled} {samples ancillary : List ℕ} (p : Packable set sample
         → number ≡ subframe_of set.format (carried_at set samples slot) (carried_at set ancillary slot) sequencing
     guarded_number {at = at} {few = few} {bit = bit} at_is less few-is bit_is e =
         used_number at_is less few-is bit_is (e ∙ guarded_is (get_or samples at 0) few bit named)
+
+  -- without overhead
+  module _ {sample-bits ancillary-bits width : ℕ} (named : Named set.format sample-bits ancillary-bits 0 width) where
+    short : sample-bits + ancillary-bits ≤ 63
+    short = omega (arith, bits_to named, few_to named)
+
+    pub plain_room : (i : ℕ) {few : ℕ} → few ≡ get_or ancillary i 0 → (get_or samples i 0 * 2 ^ ancillary-bits) % 2 ^ 64 + few < 2 ^ 64
+    plain_room i {few} few-is = plain_fits (get_or samples i 0) few 0 named short (small_at named i) (few_at named i few-is)
 
   -- and an unused one's
   pub idle_number_lem : (bit : ℕ) {slot number : ℕ} → length samples ≤ slot → number ≡ idle_number set.format.overhead_bits bit

@@ -40,6 +40,15 @@ module _ (set : Settled) (samples ancillary : List ℕ) where
       joined_same (slot_by set sequence samples ancillary) (slot_by set bits samples ancillary) set.format.slots (λ k less. rw none))
       (λ t. let same : sequence ≡ bits = is ∙ rw t in ap (λ (n : ℕ). filled_cell set n samples ancillary) same)
 
+  pub no_bits : set.format.overhead_bits ≡ 0 → (sequence other : ℕ) (cell : List ℕ) {cell₁ : List ℕ}
+      → cell₁ ≡ filled_to set sequence samples ancillary cell (length samples)
+      → cell₁ ≡ filled_to set other samples ancillary cell (length samples)
+  unfolding slot_by subframe_of overhead_of
+  no_bits none sequence other cell e =
+      e
+      ∙ ap (λ (part : List ℕ). part ++ drop (length samples * set.format.width) cell)
+      (joined_same (slot_by set sequence samples ancillary) (slot_by set other samples ancillary) (length samples) (λ k less. rw none))
+
   -- filling leaves what is behind the slots as it was
   pub refilled : (sequence : ℕ) (cell : List ℕ) (k : ℕ) {cell₁ : List ℕ} → cell₁ ≡ filled_to set sequence samples ancillary cell k
       → cell₁ ≡ filled_to set sequence samples ancillary cell₁ k

@@ -169,3 +169,9 @@ module _ {f : Format} {sample-bits ancillary-bits width : ℕ} (sample ancillary
         (λ (o : ℕ).
         (sample * 2 ^ f.ancillary_bits + ancillary) * 2 ^ o + cond (eqb o 0) 0 (bit * 8 + guard_in f sample ancillary))
         named.overhead_is
+
+    pub plain_fits : ancillary < 2 ^ ancillary-bits → (sample * 2 ^ ancillary-bits) % 2 ^ 64 + ancillary < 2 ^ 64
+    plain_fits ha =
+        let both : 2 ^ sample-bits * 2 ^ ancillary-bits ≡ 2 ^ (sample-bits + ancillary-bits) = sym (pow-add 2 sample-bits ancillary-bits) in
+        let far : 2 ^ (sample-bits + ancillary-bits) ≤ 2 ^ 63 = pow_mono {i = sample-bits + ancillary-bits} {j = 63} short in
+        omega (arith, plain_moved, both, digits_lt hs ha)

@@ -89,11 +89,11 @@ fn read_all(
 ) -> Option<Sheet> {
     let mut sheet = start;
     let mut turn = source::first();
-    while source::goes_on(turn, table::reads_on(sheet)) {
+    while turn.goes_on(table::reads_on(sheet)) {
         turn = source::read(rt, b"sheet", name, from, &mut room.buffer, turn.left);
         sheet = take_read(sheet, room, turn);
     }
-    source::well(turn).then_some(sheet)
+    turn.well().then_some(sheet)
 }
 
 // The file that an argument names; argument 0 is standard input.

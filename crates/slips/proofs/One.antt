@@ -8,6 +8,8 @@ use Rattle.slips.proofs.Watch.step.Kinds as step-kinds
 use Rattle.slips.proofs.Watch.step.Reads as step-reads
 use Rattle.slips.proofs.step.Kinds as from-kinds
 use Rattle.slips.proofs.step.Reads as from-reads
+use Rattle.slips.proofs.Slip.octets.Kinds as slip-octets-kinds
+use Rattle.slips.proofs.Slip.octets.Reads as slip-octets-reads
 use Rattle.slips.proofs.Watch.octets.Kinds as octets-kinds
 use Rattle.slips.proofs.Watch.octets.Reads as octets-reads
 use Rattle.slips.proofs.WatchTryFromArrayU87.try_from.Kinds as read-kinds
@@ -25,3 +27,6 @@ try_from_one κs a x y v w pre p q = (reads_one a.0 x y p q, refl)
 
 pub step_of_octets_one : One from-kinds.ps from-kinds.r from-reads.Pre from-reads.Post
 step_of_octets_one κs a x y v w pre p q = (from_injective a.0 x y (p.0 ∙ sym q.0) p.1 q.1, refl)
+
+pub slip_octets_one : One slip-octets-kinds.ps slip-octets-kinds.r slip-octets-reads.Pre slip-octets-reads.Post
+slip_octets_one κs a x y v w pre p q = (p ∙ sym q, refl)

@@ -6,6 +6,7 @@ use mathlib.Core.Path.{◌≡◌, refl, sym, ap}
 use Prim.Native.Nat.{ℕ}
 use native.Mathlib.Omega.{arith}
 use contract.Lifetimes.{Lfts}
+use lib.ListN.{get_or}
 use Rattle.std.proofs.Common.{Ok, Err}
 use Rattle.refusals.specs.Refusals.{refused_by}
 use Rattle.refusals.proofs.Laws.{number_not_0}
@@ -30,8 +31,13 @@ use Rattle.slips.specs.Watch.{
 use Rattle.slips.specs.Known.{stepped_of, stepped_from}
 use Rattle.slips.specs.declared.Watch as Code
 use Rattle.slips.specs.declared.Watch.TheVariants.{InStep, OutOfStep}
+use Rattle.slips.specs.declared.Slip.TheVariants.{Missing}
 use Rattle.slips.proofs.WatchTryFromArrayU87.try_from.Kinds as read-kinds
 use Rattle.slips.proofs.WatchTryFromArrayU87.try_from.Reads as read-reads
+use Rattle.slips.proofs.Slip.octets.Kinds as slip-octets-kinds
+use Rattle.slips.proofs.Slip.octets.Reads as slip-octets-reads
+use Rattle.slips.proofs.Watch.octets.Kinds as octets-kinds
+use Rattle.slips.proofs.Watch.octets.Reads as octets-reads
 use Rattle.slips.proofs.step.Kinds as from-kinds
 use Rattle.slips.proofs.step.Reads as from-reads
 use Rattle.slips.proofs.Watch.step.Kinds as step-kinds
@@ -107,3 +113,31 @@ module _ (κs : Lfts 0) where
   unfolding unfolded
   report_not_before_watch x v wrong p =
       let right : (stepped_from (2 ∷ 3 ∷ 1 ∷ 0 ∷ 0 ∷ 0 ∷ 0 ∷ []) x).refusal ≡ 4 = ap (λ (s : Stepped). s.refusal) p.0 in omega arith
+
+  -- the second cell agrees, and nothing is told
+  pub slip_in_octets_not_kept_back :
+      Never from-kinds.ps from-kinds.r from-reads.Post κs (1 ∷ 4 ∷ 1 ∷ 0 ∷ 0 ∷ 1 ∷ 8 ∷ [], (0, (5, (8, tt))))
+      (λ x v. (stepped_from (1 ∷ 4 ∷ 1 ∷ 0 ∷ 0 ∷ 1 ∷ 8 ∷ []) x).cells ≡ 0)
+  unfolding unfolded
+  slip_in_octets_not_kept_back x v wrong p =
+      let right : (stepped_from (1 ∷ 4 ∷ 1 ∷ 0 ∷ 0 ∷ 1 ∷ 8 ∷ []) x).cells ≡ 64 = ap (λ (s : Stepped). s.cells) p.0 in omega arith
+
+  -- a watch in step kept as one of no cell, and as one that isn't sure
+  abbrev Kept : (List ℕ → Type 0) → Type 0
+  Kept Wrong = Never octets-kinds.ps octets-kinds.r octets-reads.Post κs (InStep 3 5, tt) (λ x v. Wrong x)
+
+  pub watch_not_kept_as_new : Kept (λ x. get_or x 0 0 ≡ 0)
+  watch_not_kept_as_new x v wrong p = let right : get_or x 0 0 ≡ 1 = ap (λ (l : List ℕ). get_or l 0 0) p in omega arith
+
+  pub watch_kept_as_sure : Kept (λ x. get_or x 2 0 ≡ 0)
+  watch_kept_as_sure x v wrong p = let right : get_or x 2 0 ≡ 1 = ap (λ (l : List ℕ). get_or l 2 0) p in omega arith
+
+  -- 64 cells missing, told as nothing, and without their number
+  abbrev Tells : (List ℕ → Type 0) → Type 0
+  Tells Wrong = Never slip-octets-kinds.ps slip-octets-kinds.r slip-octets-reads.Post κs (Missing 64, tt) (λ x v. Wrong x)
+
+  pub missing_not_nothing : Tells (λ x. get_or x 0 0 ≡ 0)
+  missing_not_nothing x v wrong p = let right : get_or x 0 0 ≡ 1 = ap (λ (l : List ℕ). get_or l 0 0) p in omega arith
+
+  pub missing_not_uncounted : Tells (λ x. get_or x 1 0 ≡ 0)
+  missing_not_uncounted x v wrong p = let right : get_or x 1 0 ≡ 64 = ap (λ (l : List ℕ). get_or l 1 0) p in omega arith

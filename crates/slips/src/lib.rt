@@ -288,8 +288,7 @@ pub fn step(watch: [u8; 7], missing: u8, number: u8, second: u8) -> Result<([u8;
     ensures step { stepped_from watch result ≡ step_of (watch_in watch) missing number second }
     ensures octets { IfOk result (λ r. r.0 ≡ octets_in (watch_in r.0)) }
 {
-    let seen = Watch::try_from(watch)?;
-    seen.checked(missing, number, second)?;
-    let (after, slip) = seen.forward(missing, number, second);
-    Ok((after.octets(), slip))
+    let mut seen = Watch::try_from(watch)?;
+    let slip = seen.step(missing, number, second)?;
+    Ok((seen.octets(), slip))
 }

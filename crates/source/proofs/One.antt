@@ -11,8 +11,9 @@ use Rattle.source.specs.declared.Argument.TheVariants.{File, Standard, Other}
 use Rattle.source.specs.declared.turns.Next.{Next}
 use Rattle.source.specs.declared.turns.Next.TheVariants.{On, End, Failed, Uncounted}
 use Rattle.source.specs.declared.turns.Turn as code
-use Rattle.source.specs.Kinds as kinds
-use Rattle.source.specs.Turns.{Turn, number_of, turned}
+use Rattle.source.specs.Arguments as kinds
+use Rattle.source.specs.Turns.{Turn}
+use Rattle.source.specs.Numbered.{number_of, turned}
 use Rattle.source.proofs.kind.Kinds as kind-kinds
 use Rattle.source.proofs.kind.Reads as kind-reads
 use Rattle.source.proofs.turns.answered.Kinds as answered-kinds
@@ -21,8 +22,14 @@ use Rattle.source.proofs.turns.first.Kinds as first-kinds
 use Rattle.source.proofs.turns.first.Reads as first_reads
 use Rattle.source.proofs.turns.goes_on.Kinds as goes-on-kinds
 use Rattle.source.proofs.turns.goes_on.Reads as goes-on-reads
+use Rattle.source.proofs.turns.U8FromNext.from.Kinds as from-kinds
+use Rattle.source.proofs.turns.U8FromNext.from.Reads as from-reads
 use Rattle.source.proofs.turns.well.Kinds as well-kinds
 use Rattle.source.proofs.turns.well.Reads as well-reads
+use Rattle.source.proofs.turns.Turn.goes_on.Kinds as turn-goes-on-kinds
+use Rattle.source.proofs.turns.Turn.goes_on.Reads as turn-goes-on-reads
+use Rattle.source.proofs.turns.Turn.well.Kinds as turn-well-kinds
+use Rattle.source.proofs.turns.Turn.well.Reads as turn-well-reads
 
 -- a number is one kind's alone, and one answer's
 kind_at : ℕ → Argument
@@ -67,3 +74,12 @@ goes_on_one κs a x y v w pre p q = (p ∙ sym q, refl)
 
 pub well_one : One well-kinds.ps well-kinds.r well-reads.Pre well-reads.Post
 well_one κs a x y v w pre p q = (p ∙ sym q, refl)
+
+pub turn_goes_on_one : One turn-goes-on-kinds.ps turn-goes-on-kinds.r turn-goes-on-reads.Pre turn-goes-on-reads.Post
+turn_goes_on_one κs a x y v w pre p q = (p ∙ sym q, refl)
+
+pub turn_well_one : One turn-well-kinds.ps turn-well-kinds.r turn-well-reads.Pre turn-well-reads.Post
+turn_well_one κs a x y v w pre p q = (p ∙ sym q, refl)
+
+pub from_one : One from-kinds.ps from-kinds.r from-reads.Pre from-reads.Post
+from_one κs a x y v w pre p q = (p ∙ sym q, refl)

@@ -10,10 +10,13 @@ use contract.Lifetimes.{Lfts}
 use lib.IntN.{ℤ, pos, negsuc}
 use Rattle.runs.proofs.Wrong.{Never, Place, lent}
 use Rattle.text.specs.Words.{words}
+use Rattle.source.specs.declared.turns.Next.{Next}
 use Rattle.source.specs.declared.turns.Next.TheVariants.{On, End, Failed}
-use Rattle.source.specs.Kinds as kinds
+use Rattle.source.specs.declared.turns.Turn as code
+use Rattle.source.specs.Arguments as kinds
 use Rattle.source.specs.Kinds.{kind_of}
-use Rattle.source.specs.Turns.{Turn, number_of, turned, came_of, turn_of}
+use Rattle.source.specs.Turns.{Turn, came_of, turn_of}
+use Rattle.source.specs.Numbered.{number_of, turned}
 use Rattle.source.proofs.kind.Kinds as kind-kinds
 use Rattle.source.proofs.kind.Reads as kind-reads
 use Rattle.source.proofs.turns.answered.Kinds as answered-kinds
@@ -22,8 +25,14 @@ use Rattle.source.proofs.turns.first.Kinds as first-kinds
 use Rattle.source.proofs.turns.first.Reads as first_reads
 use Rattle.source.proofs.turns.goes_on.Kinds as goes-on-kinds
 use Rattle.source.proofs.turns.goes_on.Reads as goes-on-reads
+use Rattle.source.proofs.turns.U8FromNext.from.Kinds as from-kinds
+use Rattle.source.proofs.turns.U8FromNext.from.Reads as from-reads
 use Rattle.source.proofs.turns.well.Kinds as well-kinds
 use Rattle.source.proofs.turns.well.Reads as well-reads
+use Rattle.source.proofs.turns.Turn.goes_on.Kinds as turn-goes-on-kinds
+use Rattle.source.proofs.turns.Turn.goes_on.Reads as turn-goes-on-reads
+use Rattle.source.proofs.turns.Turn.well.Kinds as turn-well-kinds
+use Rattle.source.proofs.turns.Turn.well.Reads as turn-well-reads
 
 module _ (κs : Lfts 1) (p : Place) where
   abbrev Word : List ℕ → (ℕ → Type 0) → Type 0
@@ -86,15 +95,38 @@ module _ (κs : Lfts 0) where
       let right : x.left ≡ 18446744073709551615 = ap (λ (t : Turn). t.left) s in omega arith
 
   -- a loop that goes on behind a failed read, or behind the caller's last wish
-  pub failed_goes_not_on : Never goes-on-kinds.ps goes-on-kinds.r goes-on-reads.Post κs (record { what = Failed; octets = 0; left = 7 }, (true, tt)) (λ x v. x ≡ true)
+  pub failed_goes_not_on : Never goes-on-kinds.ps goes-on-kinds.r goes-on-reads.Post κs (3, (true, tt)) (λ x v. x ≡ true)
   failed_goes_not_on x v wrong s = true≢false (sym wrong ∙ s)
 
-  pub unwanted_goes_not_on : Never goes-on-kinds.ps goes-on-kinds.r goes-on-reads.Post κs (record { what = On; octets = 0; left = 7 }, (false, tt)) (λ x v. x ≡ true)
+  pub unwanted_goes_not_on : Never goes-on-kinds.ps goes-on-kinds.r goes-on-reads.Post κs (1, (false, tt)) (λ x v. x ≡ true)
   unwanted_goes_not_on x v wrong s = true≢false (sym wrong ∙ s)
 
   -- a failed read that ended well, and an end that didn't
-  pub failed_not_well : Never well-kinds.ps well-kinds.r well-reads.Post κs (record { what = Failed; octets = 0; left = 7 }, tt) (λ x v. x ≡ true)
+  pub failed_not_well : Never well-kinds.ps well-kinds.r well-reads.Post κs (3, tt) (λ x v. x ≡ true)
   failed_not_well x v wrong s = true≢false (sym wrong ∙ s)
 
-  pub end_well : Never well-kinds.ps well-kinds.r well-reads.Post κs (record { what = End; octets = 0; left = 7 }, tt) (λ x v. x ≡ false)
+  pub end_well : Never well-kinds.ps well-kinds.r well-reads.Post κs (2, tt) (λ x v. x ≡ false)
   end_well x v wrong s = true≢false (sym s ∙ wrong)
+
+  -- the same of a turn
+  abbrev Turned : Next → code.Turn
+  Turned what = record { what = what; octets = 0; left = 7 }
+
+  pub failed_turn_goes_not_on : Never turn-goes-on-kinds.ps turn-goes-on-kinds.r turn-goes-on-reads.Post κs (Turned Failed, (true, tt)) (λ x v. x ≡ true)
+  failed_turn_goes_not_on x v wrong s = true≢false (sym wrong ∙ s)
+
+  pub unwanted_turn_goes_not_on : Never turn-goes-on-kinds.ps turn-goes-on-kinds.r turn-goes-on-reads.Post κs (Turned On, (false, tt)) (λ x v. x ≡ true)
+  unwanted_turn_goes_not_on x v wrong s = true≢false (sym wrong ∙ s)
+
+  pub failed_turn_not_well : Never turn-well-kinds.ps turn-well-kinds.r turn-well-reads.Post κs (Turned Failed, tt) (λ x v. x ≡ true)
+  failed_turn_not_well x v wrong s = true≢false (sym wrong ∙ s)
+
+  pub end_turn_well : Never turn-well-kinds.ps turn-well-kinds.r turn-well-reads.Post κs (Turned End, tt) (λ x v. x ≡ false)
+  end_turn_well x v wrong s = true≢false (sym s ∙ wrong)
+
+  -- a failed read with the number of an end, and octets that came with none
+  pub failed_not_2 : Never from-kinds.ps from-kinds.r from-reads.Post κs (Failed, tt) (λ x v. x ≡ 2)
+  failed_not_2 x v wrong p = omega (arith, p)
+
+  pub on_not_0 : Never from-kinds.ps from-kinds.r from-reads.Post κs (On, tt) (λ x v. x ≡ 0)
+  on_not_0 x v wrong p = omega (arith, p)

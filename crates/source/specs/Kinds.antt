@@ -1,14 +1,6 @@
 -- Words of a program's command line.
 -- Assumes nothing.
 use Rattle.std.specs.Prelude.{cond, List, ℕ, eqb, length, get_or}
-use Rattle.source.specs.declared.Argument.{Argument}
-use Rattle.source.specs.declared.Argument.TheVariants.{File, Standard, Other}
-
--- 1 a file's name; 2 `-`, which is standard input; 3 another word that begins with `-`
-abbrev pub number_of : Argument → ℕ
-number_of File = 1
-number_of Standard = 2
-number_of Other = 3
 
 -- "`-` is standard input too; any other word that begins with `-` .. gets a line of usage": 45 is `-`
 unfoldable pub kind_of : List ℕ → ℕ

@@ -1,2 +1,4 @@
+pub mod Arguments
 pub mod Kinds
+pub mod Numbered
 pub mod Turns

@@ -1,9 +1,6 @@
 -- What a program does behind a read.
 -- Assumes nothing.
 use Rattle.std.specs.Prelude.{cond, ◌≡◌, ℕ, ◌-◌, min, eqb, ltb, ℤ, pos, negsuc}
-use Rattle.source.specs.declared.turns.Next.{Next}
-use Rattle.source.specs.declared.turns.Next.TheVariants.{On, End, Failed, Uncounted}
-use Rattle.source.specs.declared.turns.Turn as code
 
 -- what is to be done: 1 go on, 2 finish, since the input ends, 3 say that the read failed, 4 say that more octets came than can be
 -- counted; how many octets came, and how many may still come
@@ -11,16 +8,6 @@ pub record Turn : Type 0 where
   pub what : ℕ
   pub octets : ℕ
   pub left : ℕ
-
-abbrev pub number_of : Next → ℕ
-number_of On = 1
-number_of End = 2
-number_of Failed = 3
-number_of Uncounted = 4
-
--- the code's
-abbrev pub turned : code.Turn → Turn
-turned t = record { what = number_of t.what; octets = t.octets; left = t.left }
 
 -- before the first read: so many octets can be counted
 abbrev pub first_turn : Turn

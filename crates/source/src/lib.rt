@@ -2,7 +2,8 @@
 // Where a program reads a log from: the file that a word of its command line names, or standard input; and what it says where that
 // fails. What the system does is as its library's contracts assume.
 ghost use Rattle.std.specs.Prelude.{true, ◌≡◌, ◌≤◌, ◌↔◌, IsTrue, length};
-ghost use Rattle.source.specs.Kinds.{number_of, kind_of};
+ghost use Rattle.source.specs.Kinds.{kind_of};
+ghost use Rattle.source.specs.Arguments.{number_of};
 
 use std::fmt::InlineText;
 use std::fs::File;

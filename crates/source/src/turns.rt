@@ -1,7 +1,8 @@
-// What a program does behind a read. The four programs read in one loop, `while goes_on(turn, ..) { turn = read(..); .. }`, and what
+// What a program does behind a read. The four programs read in one loop, `while turn.goes_on(..) { turn = read(..); .. }`, and what
 // makes it end, and whether it ended well, is here.
 ghost use Rattle.std.specs.Prelude.{◌&&◌, ◌≡◌, eqb, ltb, length};
-ghost use Rattle.source.specs.Turns.{number_of, turned, first_turn, without, turn_of, clamp_len, Reads};
+ghost use Rattle.source.specs.Turns.{first_turn, without, turn_of, clamp_len, Reads};
+ghost use Rattle.source.specs.Numbered.{number_of, turned};
 
 use std::io;
 use std::io::Read;
@@ -10,13 +11,22 @@ use std::io::Read;
 #[derive(Clone, Copy, Debug, PartialEq, Eq, Hash)]
 pub enum Next {
     // go on
-    On,
+    On = 1,
     // finish, since the input ends
     End,
     // say that the read failed
     Failed,
     // say that more octets came than can be counted
     Uncounted,
+}
+
+// Its number, as the definitions have it.
+impl From<Next> for u8 {
+    ghost from_gives = { λ next number. number ≡ number_of next };
+
+    fn from(next: Next) -> u8 {
+        next as u8
+    }
 }
 
 // What to do, how many octets came, which lie at the start of the buffer, and how many may still come.
@@ -125,16 +135,30 @@ fn say_failure(rt: &HostRuntime, program: &[u8], name: &[u8], outcome: io::Resul
     }
 }
 
-// Whether to read on: where the last read brought octets, and the caller wants more.
-pub fn goes_on(turn: Turn, wanted: bool) -> bool
-    ensures { result ≡ (eqb (number_of turn.what) 1 && wanted) }
+// Whether to read on, by the number of what is to be done: where the last read brought octets, and the caller wants more.
+pub fn goes_on(what: u8, wanted: bool) -> bool
+    ensures { result ≡ (eqb what 1 && wanted) }
 {
-    matches!(turn.what, Next::On) && wanted
+    what == 1 && wanted
 }
 
-// Whether no read failed: what was read may be answered for.
-pub fn well(turn: Turn) -> bool
-    ensures { result ≡ ltb (number_of turn.what) 3 }
+// Whether no read failed, by that number: what was read may be answered for.
+pub fn well(what: u8) -> bool
+    ensures { result ≡ ltb what 3 }
 {
-    matches!(turn.what, Next::On | Next::End)
+    what < 3
+}
+
+impl Turn {
+    pub fn goes_on(self, wanted: bool) -> bool
+        ensures { result ≡ (eqb (number_of self.what) 1 && wanted) }
+    {
+        goes_on(self.what.into(), wanted)
+    }
+
+    pub fn well(self) -> bool
+        ensures { result ≡ ltb (number_of self.what) 3 }
+    {
+        well(self.what.into())
+    }
 }

@@ -25,11 +25,16 @@ use Rattle.status.proofs.check.check_character.Kinds as check-character-kinds
 use Rattle.status.proofs.check.check_character.Reads as check-character-reads
 use Rattle.status.proofs.run.run.Kinds as run-kinds
 use Rattle.status.proofs.run.run.Reads as run-reads
+use Rattle.status.proofs.step.U8FromFit.from.Kinds as from-kinds
+use Rattle.status.proofs.step.U8FromFit.from.Reads as from-reads
 use Rattle.status.proofs.step.step.Kinds as step-kinds
 use Rattle.status.proofs.step.step.Reads as step-reads
 
 pub check_character_one : One check-character-kinds.ps check-character-kinds.r check-character-reads.Pre check-character-reads.Post
 check_character_one κs a x y v w pre p q = (p ∙ sym q, refl)
+
+pub from_one : One from-kinds.ps from-kinds.r from-reads.Pre from-reads.Post
+from_one κs a x y v w pre p q = (p ∙ sym q, refl)
 
 pub run_one : One run-kinds.ps run-kinds.r run-reads.Pre run-reads.Post
 run_one κs a x y v w pre p q = (run_injective a.0 x y (p ∙ sym q), refl)

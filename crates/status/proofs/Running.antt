@@ -3,7 +3,7 @@
 use mathlib.Core.Bool.{true, false, cond}
 use mathlib.Core.List.{List, [], ◌∷◌}
 use mathlib.Core.Path.{◌≡◌, refl, sym, ◌∙◌, ap}
-use Prim.Native.Nat.{ℕ, zero, suc, ◌+◌, ◌*◌, ◌/◌, ◌%◌, ◌^◌, ◌≤◌, ◌<◌}
+use Prim.Native.Nat.{ℕ, zero, suc, ◌+◌, ◌*◌, ◌/◌, ◌%◌, ◌^◌, ◌≤◌, ◌<◌, ◌-◌}
 use native.Mathlib.Nat.{pos_of_ne-zero, suc-mul, zero-mul, mul-le-mul_right, pow-suc, div-one}
 use native.Mathlib.Omega.{arith}
 use borrow.Author.Tests.{eqb-true, eqb-false, ltb-true, ltb-false, lt-ltb, le-ltb, ne_eqb, eq-eqb}
@@ -371,3 +371,8 @@ module _ (block : Block) where
           ap is_last (sym is) ∙ rw (eq-eqb s.handed.refusal 0 r, eq-eqb s.handed.answer 0 a) in
           ap (as_whole block) (goes_on step ancillary marks some now at here on ∙ ap (λ (t : Stepped). rest step ancillary marks some t.block (at + step)) (sym is))
           ∙ rest_cut s.block (at + step) long
+
+pub cut_less : {long : ℕ} (at step : ℕ) {m : ℕ} → at < long → 1 ≤ step → long ≤ 18446744073709551615 → m ≡ cut_to64 (at + step) → long - m < long - at
+cut_less at step here some short e =
+    split (ltb (at + step) 18446744073709551615) (λ t. let is : cut_to64 (at + step) ≡ at + step = rw t in omega (arith, e, is))
+    (λ t. let is : cut_to64 (at + step) ≡ 18446744073709551615 = rw t in omega (arith, e, is))

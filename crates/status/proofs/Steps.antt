@@ -1,13 +1,15 @@
 -- Each kind of step, by what was given to it.
 -- Assumes nothing.
-use mathlib.Core.Bool.{true, false}
+use mathlib.Core.Bool.{true, false, ◌||◌}
 use mathlib.Core.List.{List}
 use mathlib.Core.Path.{◌≡◌}
 use Prim.Native.Nat.{ℕ, ◌+◌, ◌≤◌, ◌<◌}
-use borrow.Author.Tests.{eq-eqb, ne_eqb, lt-ltb, le-ltb}
+use borrow.Author.Tests.{eq-eqb, ne_eqb, lt-ltb, le-ltb, ltb-false}
+use lib.Dec.{ltb}
 use Rattle.status.specs.Bits.{with_bit, zeros}
 use Rattle.status.specs.Step.{step_of, is_refused, unfinished, no_block, finished, added_to, b_of, c_of}
 use Rattle.status.specs.declared.step.Block.{Block}
+use Rattle.runs.proofs.Laws.{neither}
 
 module _ (block : Block) (a m : ℕ) where
   pub step_refused : is_refused block.bits a m ≡ true → step_of block a m ≡ unfinished 14 block
@@ -45,3 +47,7 @@ added_last bits octets h = rw (le-ltb bits 191 h)
 pub within_taken : (bits a m : ℕ) → bits ≤ 191 → a ≤ 15 → m ≤ 2 → is_refused bits a m ≡ false
 unfolding is_refused
 within_taken bits a m b≤ a≤ m≤ = rw (le-ltb 2 m m≤, le-ltb 15 a a≤, le-ltb 191 bits b≤)
+
+pub taken_bits : (bits a m : ℕ) → is_refused bits a m ≡ false → bits ≤ 191
+unfolding is_refused
+taken_bits bits a m e = ltb-false 191 bits (neither (ltb 15 a) (ltb 191 bits) (neither (ltb 2 m) (ltb 15 a || ltb 191 bits) e).1).1

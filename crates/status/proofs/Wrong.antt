@@ -17,12 +17,13 @@ use prog.Routine.{Routine}
 use Rattle.runs.specs.Division.{divided, taken_down}
 use Rattle.runs.specs.Runs.{tab}
 use Rattle.runs.proofs.Wrong.{Never, Place, lent, lent_mut, ruled_out}
-use Rattle.status.specs.Answers.{answered_step, answered_run}
+use Rattle.status.specs.Answers.{answered_step, answered_run, number_of_fit}
 use Rattle.status.specs.Bits.{bit_of, octet_with, with_bit, zeros}
 use Rattle.status.specs.Check.{coefficient_of, check_character}
 use Rattle.status.specs.Run.{Ran, ran_from, ran_of}
 use Rattle.status.specs.Step.{Stepped, fit_of, is_refused, added_to, step_of, no_block}
 use Rattle.status.specs.declared.step.Block.{Block}
+use Rattle.status.specs.declared.step.Fit.TheVariants.{Differs, NoneCarried}
 use Rattle.status.proofs.One.{Answer, Ensures, Says}
 use Rattle.status.specs.contracts.assembler.bring_forward as bring-forward
 use Rattle.status.proofs.assembler.brought_forward.Kinds as brought-forward-kinds
@@ -31,6 +32,8 @@ use Rattle.status.proofs.check.check_character.Kinds as check-character-kinds
 use Rattle.status.proofs.check.check_character.Reads as check-character-reads
 use Rattle.status.proofs.run.run.Kinds as run-kinds
 use Rattle.status.proofs.run.run.Reads as run-reads
+use Rattle.status.proofs.step.U8FromFit.from.Kinds as from-kinds
+use Rattle.status.proofs.step.U8FromFit.from.Reads as from-reads
 use Rattle.status.proofs.step.step.Kinds as step-kinds
 use Rattle.status.proofs.step.step.Reads as step-reads
 
@@ -61,6 +64,15 @@ module _ (κs : Lfts 0) where
       (set zeros 0 1, tt) (λ x v. x ≡ 0x4C)
   unfolding unfolded
   character_not_highest_first x v wrong p = omega arith
+
+  -- a check character that isn't there told as one that fits, and one that doesn't fit as none
+  pub none_carried_no_fit : Never from-kinds.ps from-kinds.r from-reads.Post κs (NoneCarried, tt) (λ x v. x ≡ 2)
+  unfolding number_of_fit
+  none_carried_no_fit x v wrong p = omega (arith, p)
+
+  pub misfit_not_none : Never from-kinds.ps from-kinds.r from-reads.Post κs (Differs, tt) (λ x v. x ≡ 3)
+  unfolding number_of_fit
+  misfit_not_none x v wrong p = omega (arith, p)
 
   abbrev Step : Block → ℕ → ℕ → (Stepped → Type 0) → Type 0
   Step block ancillary mark Wrong =

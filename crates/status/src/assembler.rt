@@ -9,6 +9,7 @@ use refusals::Refusal;
 
 // Brings the lent block forward by an ancillary number and its mark, and gives what goes out. Refused (14) as by `step`: the
 // block is then as it was lent, and none goes out.
+#[inline(always)]
 pub fn bring_forward(
     block: &mut Block,
     ancillary: u8,
@@ -23,6 +24,7 @@ pub fn bring_forward(
 }
 
 // Brings a block forward that is passed and returned by value. It is for callers that can't lend a struct.
+#[inline(always)]
 pub fn brought_forward(block: Block, ancillary: u8, mark: u8) -> Result<Stepped, Refusal>
     ensures { answered_step block result ≡ step_of block ancillary mark }
 {

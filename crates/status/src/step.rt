@@ -131,6 +131,7 @@ fn with_bit(mut octets: [u8; 24], k: u8, c: u8) -> [u8; 24]
 // Refused (14) where the mark is above 2, the ancillary number above 15 or the block has more than 191 bits: the block is then
 // as it was, and none goes out.
 #[tactic(auto, unfolding(crate::specs::Step::step_of, crate::specs::Step::added_to, crate::specs::Step::is_refused, refusals::specs::Refusals::number_of))]
+#[inline(always)]
 pub fn step(block: Block, ancillary: u8, mark: u8) -> Result<Stepped, Refusal>
     ensures { answered_step block result ≡ step_of block ancillary mark }
 {

@@ -105,3 +105,6 @@ module _ {s₀ s : Stood} {piece : List ℕ} {place : ℕ} (g : Going s₀ piece
   pub going_end : length piece ≤ place → s ≡ taken_of s₀ piece
   unfolding taken_from
   going_end end = rw (drop_of_length-le piece {i = place} end) at g.stands
+
+pub going_start : (s : Stood) (piece : List ℕ) → Going s piece s 0
+going_start s piece = record { within = omega arith; stands = refl; same = refl; same_kept = refl }

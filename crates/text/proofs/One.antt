@@ -21,10 +21,10 @@ module _ {before : List ℕ} {at : Put} {octets one two : List ℕ} {x y : Put} 
     alike : ◌≡◌ {A = Filling} (record { run = one; past = x }) (record { run = two; past = y })
     alike = p.is ∙ sym q.is
 
-    same_run : one ≡ two
+    pub same_run : one ≡ two
     same_run = ap (λ (f : Filling). f.run) alike
 
-    same_past : x ≡ y
+    pub same_past : x ≡ y
     same_past = ap (λ (f : Filling). f.past) alike
 
 pub put_all_one : One put-all-kinds.ps put-all-kinds.r put-all-reads.Pre put-all-reads.Post

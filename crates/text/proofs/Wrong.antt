@@ -16,6 +16,8 @@ use Rattle.text.proofs.put_all.Kinds as put-all-kinds
 use Rattle.text.proofs.put_all.Reads as put-all-reads
 use Rattle.text.proofs.put_item.Kinds as put-item-kinds
 use Rattle.text.proofs.put_item.Reads as put-item-reads
+use Rattle.text.proofs.put_line.Kinds as put-line-kinds
+use Rattle.text.proofs.put_line.Reads as put-line-reads
 use Rattle.text.proofs.put_number.Kinds as put-number-kinds
 use Rattle.text.proofs.put_number.Reads as put-number-reads
 
@@ -53,6 +55,21 @@ module _ (κs : Lfts 2) (p q : Place) where
   Item Wrong =
       Never put-item-kinds.ps put-item-kinds.r put-item-reads.Post κs
       (lent_mut p (zeros 4), (from 0, (lent q (words "k"), (12, tt)))) (λ x v. Wrong x v.0)
+
+  -- a line of a letter and a number
+  abbrev Line : (Put → List ℕ → Type 0) → Type 0
+  Line Wrong =
+      Never put-line-kinds.ps put-line-kinds.r put-line-reads.Post κs
+      (lent_mut p (zeros 4), (from 0, (lent q (words "k"), (12, tt)))) (λ x v. Wrong x v.0)
+
+  -- its end left out, and not counted
+  pub line_not_without_end : Line (λ x run. get_or run 3 0 ≡ 0)
+  unfolding unfolded
+  line_not_without_end x v wrong s = let letter : ◌≡◌ {A = ℕ} 0 10 = sym wrong ∙ ap (λ (f : Filling). get_or f.run 3 0) s.is in omega arith
+
+  pub line_end_counted : Line (λ x run. x.octets ≡ 3)
+  unfolding unfolded
+  line_end_counted x v wrong s = let right : x.octets ≡ 4 = ap (λ (f : Filling). f.past.octets) s.is in omega arith
 
   -- the number before the letter, and one octet too few told
   pub words_first : Item (λ x run. get_or run 0 0 ≡ 49)

@@ -1,7 +1,8 @@
 #![tactic(auto)]
 // Text for programs: words and decimal numbers put one after the other into a lent run, as far as it goes. What no longer fits is left
 // out, and the answer says so.
-ghost use Rattle.std.specs.Prelude.{[], ◌∷◌, ◌++◌, ◌≡◌, ◌+◌, ◌%◌};
+ghost use Rattle.std.specs.Prelude.{[], ◌∷◌, ◌++◌, ◌≡◌, ◌+◌, ◌%◌, ◌≤◌, length, take};
+ghost use Rattle.runs.specs.Runs.{written};
 ghost use Rattle.text.specs.Put.{Puts};
 ghost use Rattle.text.specs.Text.{decimal, item};
 
@@ -26,6 +27,17 @@ fn put_one(run: &mut [u8], at: Put, octet: u8) -> Put
     Put { whole: false, ..at }
 }
 
+// Copies the first `count` octets into a run from a place on, by a loop: for the slice's `copy_from_slice` the archive for C would need
+// `memmove` from outside.
+fn copied(run: &mut [u8], place: usize, octets: &[u8], count: usize)
+    requires { (place + count ≤ length run.old) × (count ≤ length octets.now) }
+    ensures { run.new ≡ written run.old place (take count octets.now) }
+{
+    for i in 0..count {
+        run[place + i] = octets[i];
+    }
+}
+
 // Puts octets behind those that are put already. The room is asked once for all of them.
 pub fn put_all(run: &mut [u8], at: Put, octets: &[u8]) -> Put
     ensures { Puts run.old at run.new result octets.now }
@@ -41,11 +53,13 @@ pub fn put_all(run: &mut [u8], at: Put, octets: &[u8]) -> Put
     }
     let room = end - place;
     if count <= room {
-        let next = place + count;
-        run[place..next].copy_from_slice(octets);
-        return Put { octets: next, ..at };
+        copied(run, place, octets, count);
+        return Put {
+            octets: place + count,
+            ..at
+        };
     }
-    run[place..].copy_from_slice(&octets[..room]);
+    copied(run, place, octets, room);
     Put {
         octets: end,
         whole: false,

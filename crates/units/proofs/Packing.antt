@@ -3,8 +3,8 @@
 -- Assumes nothing.
 use mathlib.Core.List.{List, ◌++◌}
 use mathlib.Core.Path.{◌≡◌, refl, sym, ◌∙◌, ap, ap₂}
-use Prim.Native.Nat.{ℕ, ◌+◌, ◌*◌, ◌/◌, ◌%◌, ◌^◌, ◌≤◌, ◌<◌}
-use native.Mathlib.Nat.{add-zero, div-one, mul-one, zero-mul, pow-suc, pow-le-pow_right}
+use Prim.Native.Nat.{ℕ, ◌+◌, ◌*◌, ◌/◌, ◌%◌, ◌^◌, ◌≤◌, ◌<◌, suc}
+use native.Mathlib.Nat.{add-zero, div-one, mul-one, zero-mul, pow-suc, pow-le-pow_right, suc-mul, mul-le-mul_right, mul-le-mul_left}
 use native.Mathlib.Numerals.{add-one}
 use native.Mathlib.Omega.{arith}
 use lib.Arith.{digits_lt}
@@ -119,3 +119,16 @@ module _ (f : Format) (bare : f.overhead_bits ≡ 0) where
       → number_at f.width unit entry % 2 ^ f.ancillary_bits ≡ ancillary_in f (subframe_at f unit entry)
   unfolding number_at ancillary_in subframe_at
   ancillary_is unit entry = rw (bare, div-one)
+
+pub entry_within : {entries i : ℕ} (width : ℕ) (unit : List ℕ) → entries * width ≤ length unit → i < entries → i * width + width ≤ length unit
+entry_within {entries} {i} width unit whole less =
+    omega (arith, suc-mul i width, mul-le-mul_right {m = suc i} {n = entries} width less, whole)
+
+module _ (base width : ℕ) (samples ancillary out₀ : List ℕ) (ok : Packable base width samples ancillary out₀) where
+  pub entry_room : {i : ℕ} → i < length samples → i * width + width ≤ length out₀
+  entry_room {i} less =
+      omega (arith, suc-mul i width, mul-le-mul_right {m = suc i} {n = length samples} width less, ok.room)
+
+  pub entry_fits : (i : ℕ) → get_or samples i 0 * base < 2 ^ 45
+  entry_fits i =
+      omega (arith, ok.small i, mul-le-mul_left {m = base} {n = 16} (get_or samples i 0) ok.base_to)

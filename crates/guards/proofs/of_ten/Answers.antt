@@ -3,6 +3,8 @@
 use mathlib.Core.List.{List}
 use mathlib.Core.Path.{◌≡◌, refl, ◌∙◌, ap}
 use Prim.Native.Nat.{ℕ, ◌/◌, ◌%◌}
+use native.Mathlib.Nat.{mod-lt}
+use native.Mathlib.Omega.{arith}
 use lib.Bits.{bit_xor}
 use lib.ListN.{get_or}
 use Rattle.runs.specs.Runs.{tab}
@@ -20,5 +22,5 @@ table_is = refl
 pub returns : goal.returns
 returns c =
     c.from.ensures
-    ∙ ap (λ (l : List ℕ). get_or l (bit_xor c.args.ten (c.args.ten / 128) % 128) 0) table_is
-    ∙ seven_guard c.requires
+    ∙ ap (λ (l : List ℕ). get_or l (bit_xor (c.args.number % 1024) (c.args.number % 1024 / 128) % 128) 0) table_is
+    ∙ seven_guard (mod-lt c.args.number (omega arith))

@@ -1,6 +1,6 @@
 -- The measure is what the loop's turn leaves.
 -- Assumes nothing.
-use Rattle.source.specs.Turns.{turned}
+use Rattle.source.specs.Numbered.{turned}
 use Rattle.source.proofs.Answers.{falling_of}
 use Rattle.linelist.proofs.list.Given as goal
 

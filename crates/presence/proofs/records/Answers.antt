@@ -3,7 +3,7 @@
 use Rattle.std.proofs.Common.{◌≡◌, refl, sym, ap, ◌∙◌, arith}
 use borrow.Author.Rules.{rules}
 use Rattle.std.specs.Prelude.{None, Ok}
-use Rattle.cell_log.specs.Records.{header_answered, record_answered}
+use Rattle.cell_log.specs.Answered.{header_answered, record_answered}
 use Rattle.cell_log.proofs.Answered.{answered_some, answered_none}
 use Rattle.receiver.specs.declared.Ready.{Ready}
 use Rattle.presence.proofs.Walks.{begun, along_start, seen, next_is, inside, along_yes, along_next, along_end}

@@ -4,7 +4,7 @@ use mathlib.Core.Path.{◌≡◌, refl, sym, ◌∙◌, ap}
 use native.Mathlib.Omega.{arith}
 use borrow.Author.Rules.{rules}
 use Rattle.std.specs.Prelude.{None}
-use Rattle.cell_log.specs.Records.{record_answered}
+use Rattle.cell_log.specs.Answered.{record_answered}
 use Rattle.cell_log.proofs.Answered.{answered_some, answered_none}
 use Rattle.saving.proofs.Walks.{
   start_again,

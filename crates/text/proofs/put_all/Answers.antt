@@ -1,10 +1,13 @@
 -- `text::put_all` meets its contract.
 -- Assumes nothing.
-use mathlib.Core.Path.{refl}
+use mathlib.Core.List.{List}
+use mathlib.Core.Path.{refl, ◌∙◌, ap}
+use Prim.Native.Nat.{ℕ}
 use native.Mathlib.Omega.{arith}
-use borrow.Rule.Slice.PartMut.{same_len_mid}
-use lib.Seq.{length-take-le}
-use Rattle.text.proofs.Laws.{copied, puts_nothing, puts_beyond, puts_room, puts_some}
+use lib.ListN.{length}
+use lib.Seq.{take_all}
+use Rattle.runs.specs.Runs.{written}
+use Rattle.text.proofs.Laws.{puts_nothing, puts_beyond, puts_room, puts_some}
 use Rattle.text.proofs.put_all.Goals as goal
 
 pub returns-then-count-eq0 : goal.returns-then-count-eq0
@@ -16,10 +19,9 @@ returns-then-end-place c = puts_beyond _ _ _ (omega (arith, c.if-end-place.true)
 pub returns-then-count-room : goal.returns-then-count-room
 returns-then-count-room c =
     puts_room _ _ _ (omega (arith, c.if-count-room.true, c.if-end-place.false))
-    (copied _ _ _ _ c.copy_from_slice.ensures.after (omega arith))
+    (c.copied.ensures ∙ ap (λ (l : List ℕ). written c.args.run.now c.args.at.octets l) (take_all (length c.args.octets.now) c.args.octets.now (omega arith)))
 
 pub returns : goal.returns
 returns c =
-    puts_some _ _ _ (omega (arith, c.if-end-place.false)) refl (omega (arith, c.if-count-room.false))
-    (copied _ _ _ _ c.copy_from_slice-2.ensures.after (length-take-le _ _ (omega (arith, c.if-count-room.false))))
-    (same_len_mid _ _ _ _ c.copy_from_slice-2.auto.self)
+    puts_some _ _ _ (omega (arith, c.if-end-place.false)) refl (omega (arith, c.if-count-room.false)) c.copied-2.ensures
+    c.copied-2.auto.run

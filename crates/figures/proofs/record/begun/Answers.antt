@@ -1,7 +1,7 @@
 -- `figures::record::begun` meets its contract.
 -- Assumes nothing.
 use Rattle.std.specs.Prelude.{Ok}
-use Rattle.cell_log.specs.Records.{header_answered}
+use Rattle.cell_log.specs.Answered.{header_answered}
 use Rattle.figures.proofs.Walks.{past_header}
 use Rattle.figures.proofs.record.begun.Goals as goal
 

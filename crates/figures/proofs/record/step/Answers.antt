@@ -14,6 +14,6 @@ pub returns-in-Header : goal.returns-in-Header
 returns-in-Header c =
     found_one c.args.noted (numbered c.args.found) c.args.held.now [] 0 _ (parts_header c.args.found c.args.held.now [] 0 c.in-Header.is) c.begun.ensures
 
-pub returns-in_default : goal.returns-in_default
-returns-in_default c =
-    notes_nothing c.args.noted c.args.found c.args.held.now [] 0 c.in_default.not-Header c.requires c.in_default.not-Held
+pub returns : goal.returns
+returns c =
+    notes_nothing c.args.noted c.args.found c.args.held.now [] 0 c.in_default-what.not-Header c.requires c.in_default.not-Held

@@ -28,4 +28,4 @@ returns-in-Fault c = tells _ (parts_fault _ _ _ _ c.in-Fault.is) refl c.fault_li
 
 pub returns-in_default-what : goal.returns-in_default-what
 returns-in_default-what c =
-    tells_none _ _ _ (parts_none _ _ _ _ (sym c.in_default.is ∙ c.record_octets.ensures) c.in_default-what.not-Header c.in_default-what.not-Fault)
+    tells_none _ _ _ (parts_none _ _ _ _ (sym c.in_default.is ∙ c.octets_found.ensures) c.in_default-what.not-Header c.in_default-what.not-Fault)

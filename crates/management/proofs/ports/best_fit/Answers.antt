@@ -1,39 +1,40 @@
 -- `management::ports::best_fit` meets its contract. The loop: of so many ports the one that fits best.
 -- Assumes nothing.
-use mathlib.Core.List.{List}
-use mathlib.Core.Path.{refl, sym, ◌∙◌}
-use Prim.Native.Nat.{ℕ, ◌≤◌}
+use mathlib.Core.Path.{◌≡◌, refl, ◌∙◌, ap, ap₂, sym}
+use Prim.Native.Nat.{◌<◌}
 use native.Mathlib.Omega.{arith}
-use borrow.Author.Tests.{ltb-true, ltb-false}
-use Rattle.std.specs.Prelude.{Option, Some, None, IfSome}
 use Rattle.management.specs.declared.ports.Fit.{Fit}
-use Rattle.management.specs.Code.{found_fit, Inside}
 use Rattle.management.specs.Ports.{fewest}
-use Rattle.management.proofs.Fits.{fit_better, fit_kept}
+use Rattle.management.proofs.Fits.{fit, fit_better, fit_kept, fit_inside}
 use Rattle.management.proofs.ports.best_fit.Goals as goal
-use Rattle.management.proofs.ports.best_fit.Goals.{in-Some+then-fits_better, in-Some+else-fits_better, in_default}
-
--- a port that was found has fewer than four misfits
-few : (ports : List ℕ) (best : Option Fit) → IfSome best (Inside ports) → (found_fit best).misfits ≤ 4
-few ports None _ = omega arith
-few ports (Some fit) inside = omega (arith, inside.few)
+use Rattle.management.proofs.ports.best_fit.Goals.{then-here-fewest, else-here-fewest}
 
 pub loop-port-init : goal.loop-port-init
 unfolding fewest
-loop-port-init c = (refl, tt)
+loop-port-init c = (refl, omega arith, λ e. refl)
 
 pub loop-port-preserved : goal.loop-port-preserved
 loop-port-preserved c = let l = c.loop-port in
     let a = c.args in
-    let so_far = l.invariant.0 in
-    elim c.match-misfits.branch [
-      | in-Some+then-fits_better w ↦
-          let less = ltb-true _ _ (sym w.fits_better.ensures ∙ w.if-fits_better.true) in
-          rw w.best-is
-          (fit_better a.ports.now a.asked l.port so_far w.in-Some.ensures.number less, record { few = w.in-Some.ensures.few; there = omega arith })
-      | in-Some+else-fits_better w ↦
-          let more = ltb-false _ _ (sym w.fits_better.ensures ∙ w.if-fits_better.false) in
-          rw w.best-is (fit_kept a.ports.now a.asked l.port so_far w.in-Some.ensures.number more, l.invariant.1)
-      | in_default w ↦
-          rw w.best-is (fit_kept a.ports.now a.asked l.port so_far w.in_default.ensures.number (few a.ports.now l.best l.invariant.1), l.invariant.1)
+    let is = c.unwrap_or-here.ensures ∙ c.misfits.ensures.number in
+    elim c.if-here-fewest.branch [
+      | then-here-fewest w ↦ (
+        ap₂ fit w.fewest-is w.best-is ∙ fit_better a.ports.now a.asked l.port l.invariant.0 is w.if-here-fewest.true,
+        omega (arith, w.fewest-is, w.if-here-fewest.true, l.invariant.1),
+        λ e. absurd (omega (arith, e, w.fewest-is, w.if-here-fewest.true, l.invariant.1)),
+      )
+      | else-here-fewest w ↦ (
+        ap₂ fit w.fewest-is w.best-is ∙ fit_kept a.ports.now a.asked l.port l.invariant.0 is w.if-here-fewest.false,
+        omega (arith, w.fewest-is, l.invariant.1),
+        λ e. w.best-is ∙ l.invariant.2 (sym w.fewest-is ∙ e),
+      )
     ]
+
+pub returns-else-fewest-eq4-clause-inside : goal.returns-else-fewest-eq4-clause-inside
+returns-else-fewest-eq4-clause-inside c = let l = c.loop-port in
+    let a = c.args in
+    let is = l.invariant.0 in
+    let place : l.best ≡ (fewest a.ports.now a.asked l.port).port = ap (λ (f : Fit). f.port) is in
+    let inside : (fewest a.ports.now a.asked l.port).port < l.port
+    = fit_inside a.ports.now a.asked l.port (λ four. c.if-fewest-eq4.false (ap (λ (f : Fit). f.misfits) is ∙ four)) in
+    record { few = omega (arith, l.invariant.1, c.if-fewest-eq4.false); there = omega (arith, place, inside, l.auto.port-end) }

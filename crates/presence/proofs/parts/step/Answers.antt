@@ -19,4 +19,4 @@ returns-in-Fault c = past_one _ (parts_fault _ _ _ _ c.in-Fault.is) c.past_fault
 
 pub returns-in_default-what : goal.returns-in_default-what
 returns-in_default-what c =
-    past_none _ (parts_none _ _ _ _ (sym c.in_default.is ∙ c.record_octets.ensures) c.in_default-what.not-Header c.in_default-what.not-Fault)
+    past_none _ (parts_none _ _ _ _ (sym c.in_default.is ∙ c.octets_found.ensures) c.in_default-what.not-Header c.in_default-what.not-Fault)

@@ -17,4 +17,4 @@ returns-in-Fault c = tells _ (parts_fault _ _ _ _ c.in-Fault.is) (one_fault _ _ 
 
 pub returns-in_default-what : goal.returns-in_default-what
 returns-in_default-what c =
-    tells_none _ (parts_none _ _ _ _ (sym c.in_default.is ∙ c.record_octets.ensures) c.in_default-what.not-Header c.in_default-what.not-Fault)
+    tells_none _ (parts_none _ _ _ _ (sym c.in_default.is ∙ c.octets_found.ensures) c.in_default-what.not-Header c.in_default-what.not-Fault)
